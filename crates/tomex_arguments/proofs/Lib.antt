@@ -1,2 +1,2 @@
--- What the proofs of the crate share.
+-- Lemmas that the proofs of the crate share.
 pub mod WhyRefused

@@ -1,4 +1,4 @@
--- A refused line, and why it is.
+-- A refused line, and the reason.
 use Rattle.tomex_arguments.specs.declared.fault.LineFault.{LineFault}
 use Rattle.tomex_arguments.specs.declared.fault.LineFault.TheVariants.{Help, Usage, Memory}
 use Rattle.tomex_arguments.specs.Faults.{IsRefusal, IsRefusedIf}

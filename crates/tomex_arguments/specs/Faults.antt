@@ -1,4 +1,4 @@
--- What a command line that asks for no command comes to.
+-- Command lines that ask for no command.
 use Rattle.std.specs.Prelude.{String, ℕ, ◌≢◌, ◌≡◌, ◌⊎◌, ◌++◌, ◌∷◌, List, [], codes}
 use Rattle.std.specs.Global.{Global}
 use Rattle.clap.specs.Values.{kind_of}
@@ -14,31 +14,31 @@ status_of (Help text) = 0
 status_of (Usage text) = 2
 status_of Memory = 3
 
--- what an error of a kind comes to, by its text
+-- the fault that reports an error of a kind, with its text
 abbrev pub explained_by : ErrorKind → String Global → LineFault
 explained_by OutOfMemory said = Memory
 explained_by DisplayHelp said = Help said
 explained_by DisplayVersion said = Help said
 explained_by _ said = Usage said
 
--- the fault says what the parser's error does: help and the version as help, out of memory as no refused line;
--- there may be no memory for the text itself
+-- the fault reports the parser's error: help and the version as help; out of memory isn't a refused line; there may
+-- be no memory for the text itself
 abbrev pub StandsFor : Error → LineFault → Type 0
 StandsFor error (Help text) = (kind_of error ≡ DisplayHelp) ⊎ (kind_of error ≡ DisplayVersion)
 StandsFor error (Usage text) =
     (kind_of error ≢ DisplayHelp) × (kind_of error ≢ DisplayVersion) × (kind_of error ≢ OutOfMemory)
 StandsFor error Memory = Unit {0}
 
--- a line is refused only if this is so; or memory was: it did not ask for help
+-- a line is refused only if this is so, or out of memory: it did not ask for help
 abbrev pub IsRefusedIf : Type 0 → LineFault → Type 0
 IsRefusedIf why (Help text) = ⊥
 IsRefusedIf why (Usage text) = why
 IsRefusedIf why Memory = Unit {0}
 
--- a line is refused, or memory
+-- a line is refused, or out of memory
 abbrev pub IsRefusal : LineFault → Type 0
 IsRefusal fault = IsRefusedIf (Unit {0}) fault
 
--- what is said of a line whose words are not all text
+-- the message for a line whose words are not all text
 abbrev pub not_text : List ℕ
 not_text = codes "error: the command line is not UTF-8" ++ (10 ∷ [])

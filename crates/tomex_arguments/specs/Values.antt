@@ -23,7 +23,7 @@ IsNumber rows name least greatest number =
     (text : Text) × (one_of name rows ≡ Some text) × ParsesUnsigned {E = ParseIntError} 32 10 text (Ok number)
     × (least ≤ number) × (number ≤ greatest)
 
--- whether a flag was found: `clap` keeps its value as a text, which is `false` if it wasn't given
+-- a flag was found or not: `clap` keeps its value as a text, which is `false` if it wasn't given
 pub record IsFlag (rows : List Row) (name : Text) (given : Bool) : Type 0 where
   pub yes : one_of name rows ≡ Some (codes "true") → given ≡ true
   pub no : one_of name rows ≡ Some (codes "false") → given ≡ false

@@ -1,4 +1,4 @@
-//! A command line that asks for no command, and why.
+//! A command line that asks for no command, and the reason.
 ghost use Rattle.std.specs.Prelude.{◌≡◌, IfOk, OnErr};
 ghost use Rattle.tomex_arguments.specs.Faults.{IsRefusal, StandsFor, explained_by, status_of};
 ghost use Rattle.tomex_arguments.specs.declared.fault.LineFault.TheVariants.{Memory, Usage};
@@ -11,9 +11,9 @@ use std::alloc::{AllocError, Global};
 pub enum LineFault {
     /// It asks for help or the version: the text, for the standard output.
     Help(String),
-    /// It is refused: what is wrong, for the standard error.
+    /// It is refused: the message, for the standard error.
     Usage(String),
-    /// There was no memory to read it.
+    /// Out of memory while reading it.
     Memory,
 }
 
@@ -38,7 +38,7 @@ impl From<AllocError> for LineFault {
     }
 }
 
-/// A refused line, by what is said of it. Out of memory only if there was none for that text.
+/// A refused line, with its message. Out of memory only if there was none for the message.
 pub(crate) fn mistake(text: Result<String, AllocError>) -> LineFault
     ensures said { IfOk text (λ said. result ≡ Usage said) }
     ensures unsaid { OnErr text (result ≡ Memory) }
@@ -49,15 +49,15 @@ pub(crate) fn mistake(text: Result<String, AllocError>) -> LineFault
     }
 }
 
-/// A line is refused for this part of it.
+/// The refusal of a line because of this part of it.
 pub fn refused(alloc: Global, name: &str) -> LineFault
     ensures { IsRefusal result }
 {
     mistake(format!(in alloc; "error: {name} missing or out of range\n"))
 }
 
-/// What an error of this kind comes to, by its text. Out of memory only if that is its kind, or if there was no
-/// memory for the text.
+/// The fault that reports an error of this kind, with its text. Out of memory only if that is its
+/// kind, or if there was no memory for the text.
 fn explained(kind: ErrorKind, text: Result<String, AllocError>) -> LineFault
     ensures said { IfOk text (λ said. result ≡ explained_by kind said) }
     ensures unsaid { OnErr text (result ≡ Memory) }
@@ -72,7 +72,8 @@ fn explained(kind: ErrorKind, text: Result<String, AllocError>) -> LineFault
     }
 }
 
-/// What an error of the parser comes to: help or the version, a refused line, or out of memory.
+/// The fault that reports an error of the parser: help or the version, a refused line, or out of
+/// memory.
 pub fn fault_of(alloc: Global, error: &clap::Error) -> LineFault
     ensures { StandsFor error.now result }
 {

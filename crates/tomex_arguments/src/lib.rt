@@ -1,4 +1,4 @@
-//! The arguments of a command line: what `clap` read of them, and what a line comes to that asks for no command.
+//! The arguments of a command line as `clap` read them, and lines that ask for no command.
 #![tactic(auto)]
 
 mod fault;

@@ -1,4 +1,4 @@
-//! A command line that the system doesn't give as words of text.
+//! A command line that can't be read as words of text.
 ghost use Rattle.std.specs.Prelude.{◌≡◌, true, false, string_bytes, IfOk, IfErr};
 ghost use Rattle.tomex_arguments.specs.Faults.{not_text};
 ghost use Rattle.tomex_arguments.specs.declared.fault.LineFault.TheVariants as fault;
@@ -6,15 +6,15 @@ ghost use Rattle.tomex_arguments.specs.declared.fault.LineFault.TheVariants as f
 use crate::fault::{LineFault, mistake};
 use std::alloc::{AllocError, Global};
 
-/// What is said of a line with a word that is no UTF-8 text.
+/// The message for a line with a word that is not UTF-8.
 pub fn not_text(alloc: Global) -> Result<String, AllocError>
     ensures { IfOk result (λ text. string_bytes text ≡ not_text) }
 {
     String::from_str(alloc, "error: the command line is not UTF-8\n")
 }
 
-/// Why the words weren't got: out of memory, or else since one of them is no text, which is a mistake in
-/// the line; there may have been no memory for what is said of that.
+/// Why the command line could not be read: out of memory, or a word is not UTF-8, which is a
+/// mistake in the line. There may have been no memory for the message of the latter.
 pub fn unread(wants_memory: bool, said: Result<String, AllocError>) -> LineFault
     ensures memory { wants_memory ≡ true → result ≡ fault.Memory }
     ensures said { wants_memory ≡ false → IfOk said (λ text. result ≡ fault.Usage text) }

@@ -16,8 +16,8 @@ pub struct Bounds {
     pub greatest: u32,
 }
 
-/// The number that an option was given, or its default. The parser refuses what is out of bounds, but
-/// promises so of the numbers of no subcommand: so it is tested again.
+/// The number that an option was given, or its default. `clap` checks the bounds, but its contract
+/// doesn't say so for subcommands, so they are checked again.
 pub fn number_of(
     alloc: Global,
     matches: &ArgMatches<'_>,
@@ -35,7 +35,7 @@ pub fn number_of(
     }
 }
 
-/// A word as it was written.
+/// A word, as it was written.
 pub fn word_of<'a>(
     alloc: Global,
     matches: &ArgMatches<'a>,
@@ -66,7 +66,7 @@ pub fn words_of(
     }
 }
 
-/// Whether a flag was given.
+/// True if a flag was given.
 pub fn flag_of(matches: &ArgMatches<'_>, name: &str) -> bool
     ensures { IsFlag (rows_of (found_of matches.now)) name.now result }
 {

@@ -34,7 +34,7 @@ least_small k (x ∷ xs) = let rest = least_small k xs in dite (ℕ_discrete x.0
     (λ e. let h = ap (λ b. cond b (min x.1 (least_in k xs)) (least_in k xs)) (eq-eqb x.0 k e) in omega arith)
     (λ ne. let h = ap (λ b. cond b (min x.1 (least_in k xs)) (least_in k xs)) (ne_eqb x.0 k ne) in omega arith)
 
--- the least of two lists' words is the lesser of their leasts
+-- the least of two lists' words is the smaller of their least words
 pub least_of_both : (k : ℕ) (xs ys : List (ℕ × ℕ)) → least_in k (xs ++ ys) ≡ min (least_in k xs) (least_in k ys)
 least_of_both k [] ys = let small = least_small k ys in omega arith
 least_of_both k (x ∷ xs) ys = let rest = least_of_both k xs ys in dite (ℕ_discrete x.0 k)

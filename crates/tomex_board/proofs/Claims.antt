@@ -80,7 +80,7 @@ module _ (costs cycles : List ℕ) where
     bests = t.bests;
   }
 
-  -- an open row was noted by nobody
+  -- an open row was noted by no seat
   pub unnoted : (ws : List ℕ) (i : ℕ) (v : View) → IsTrueOf costs ws v → get_or ws i 0 ≡ 0 → ¬ KnowsNotOpen v i
   unnoted ws i v t open-row h = ⊎_elim (λ (a : Has v.hand i). let p : get_or ws i 0 ≡ 1 = (t.hand i a).1 in
       absurd (omega arith))

@@ -22,7 +22,7 @@ use Rattle.tomex_board.proofs.Onward.{moved}
 use Rattle.tomex_board.proofs.RowWords.{onward, stood, banded}
 use Rattle.tomex_board.proofs.Claims.{Goes, mark_seen}
 
--- closing a row leaves all notes
+-- closing a row keeps all notes
 pub closing_grows : (i : ℕ) (m : Mark) (v : View) → Grows v (after_closing i m v)
 closing_grows i m v = record {
   noted = λ j h. ⊎_elim (λ (a : Has v.hand j). dite (ℕ_discrete j i) (λ e. inr (inl (inl (sym e))))

@@ -1,4 +1,4 @@
--- The floors of the bands: how many there are, and that they rise.
+-- The floors of the bands: their number and their order.
 use Rattle.std.proofs.Common.{◌≡◌, ℕ, zero, suc, ◌+◌, ◌*◌, ◌/◌, ◌<◌, ◌≤◌, true, false, nat_le, if◌then◌else◌, List, []}
 use Rattle.std.proofs.Common.{◌∷◌, map, length, get_or, sym, refl, ap, ◌∙◌, arith, slice_index, slice_get, drop, Some}
 use Rattle.std.proofs.Common.{None, ◌⊎◌, ⊎_elim, subst}

@@ -1,4 +1,4 @@
--- What the words of a closed board say.
+-- The words of a closed board.
 use Rattle.std.proofs.Common.{◌≡◌, ◌≢◌, ℕ, ◌<◌, ◌≤◌, List, [], map, take, length, get_or, sym, ap, ◌∙◌, subst, ⊎_elim}
 use Rattle.std.proofs.Common.{arith, Some, slice_get}
 use Rattle.std.proofs.lemmas.Grind.{common_steps}

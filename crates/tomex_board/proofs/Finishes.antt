@@ -1,4 +1,4 @@
--- A row was marked finished, and published where it has a band.
+-- A row was marked finished, and published if it has a band.
 use Rattle.std.proofs.Common.{◌≡◌, ℕ, ◌+◌, min, ◌<◌, List, length, get_or, ap, ◌∙◌, subst, arith}
 use mathlib.Core.Logic.{dite}
 use native.Mathlib.Decide.{dec_le}
@@ -22,7 +22,7 @@ none_read read floors x cost at is dear =
     subst (λ (l : List ℕ). (k : ℕ) → k < length l → get_or l k 0 < cost) at
     (subst (λ (z : ℕ). (k : ℕ) → k < length read → get_or read k 0 < z) is dear)
 
--- a cost has one band at most
+-- a cost has at most one band
 pub one_band : (floors : List ℕ) (cost j k : ℕ) → IsBandOf floors cost j → IsBandOf floors cost k → j ≡ k
 one_band floors cost j k a b = dite (dec_le (j + 1) k)
     (λ less. let p = b.2 j (omega arith) in let q = a.1 in absurd (omega arith))

@@ -1,4 +1,4 @@
--- What a seat knows that two were joined to.
+-- The knowledge of a seat that was joined from two.
 use Rattle.std.proofs.Common.{◌≡◌, ℕ, min, [], List, subst, inl, inr, ⊎_elim, arith}
 use Rattle.tomex_board.specs.declared.mark.Mark.{Mark}
 use Rattle.tomex_board.specs.declared.view.View.{View}

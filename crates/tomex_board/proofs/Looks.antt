@@ -1,4 +1,4 @@
--- What a look or a publishing does to what a seat knows, and the least of the words that are looked at.
+-- How reading a band or publishing in it changes what a seat knows, and the least of the words that are read.
 use Rattle.std.proofs.Common.{◌≡◌, ◌≢◌, ℕ, ◌+◌, ◌/◌, ◌%◌, min, ◌<◌, ◌≤◌, suc, true, false, nat_le, if◌then◌else◌, List}
 use Rattle.std.proofs.Common.{[], ◌∷◌, length, get_or, sym, refl, ap, ◌∙◌, subst, inl, inr, ⊎_elim, arith}
 use Rattle.std.proofs.lemmas.Bool.Decides.{nat_tests}
@@ -17,7 +17,7 @@ use Rattle.tomex_board.specs.Steps.{Seated, IsPublish, IsLook}
 use Rattle.tomex_board.specs.Looking.{IsBound, IsLeastBest, IsLeastSoFar, AreEmpty, Sees, SeesEach, IsLeastBound}
 use Rattle.tomex_board.proofs.Bests.{least_here, least_else, least_falls, least_small}
 
--- what was noted stays noted where more is
+-- what was noted stays noted when more is
 spotted : (k row cycles : ℕ) (v : View) (i : ℕ) → KnowsNotOpen v i → KnowsNotOpen (after_seeing_row k row cycles v) i
 spotted k row cycles v i h = ⊎_elim (λ a. inl a)
     (λ r. ⊎_elim (λ a. inr (inl (inr a))) (λ (d : (m : Mark) × Has v.marks (i, m)). inr (inr (d.0, inr d.1))) r) h
@@ -67,7 +67,7 @@ looks_at costs cycles slots k word found m m' few at t = let w = t.word in let s
     subst (λ (b : ℕ). Sees costs cycles (floors_of costs) b found m.0 m'.0) same
     (looked_at costs cycles slots word found m m' few t)
 
--- what a publishing leaves
+-- what publishing changes
 pub record Published (k x : ℕ) (v w : View) : Type 0 where
   pub view : (found : ℕ) × (w ≡ after_seeing k (min found x) v)
   pub hand : w.hand ≡ v.hand
@@ -143,7 +143,7 @@ module _ (costs cycles floors : List ℕ) (cost k : ℕ) where
         bests = g.seen ∙ ap (λ (l : List (ℕ × ℕ)). (k, found) ∷ l) t.bests;
       }
 
-  -- the word found is the lesser
+  -- the word found is the smaller one
   pub finds : (v w : View) (least found : ℕ) → get_or floors k 0 ≤ cost → found < least
       → Sees costs cycles floors k found v w → IsLeastSoFar costs cycles floors cost k v least
       → IsLeastSoFar costs cycles floors cost (k + 1) w found
@@ -191,7 +191,7 @@ is_least costs cycles floors cost v w b t ne e =
     subst (λ (z : ℕ). IsLeastBest floors cost v z × (z ≢ nothing_yet)) (sym e)
     (record { below = t.below; one = ⊎_elim (λ z. absurd (ne z)) (λ d. d) t.one }, ne)
 
--- no band has a lesser word than none
+-- no band has a smaller word than an empty one
 pub are_empty : (costs cycles floors : List ℕ) (cost : ℕ) (v : View)
     → IsLeastSoFar costs cycles floors cost (length floors) v nothing_yet → AreEmpty floors cost v
 are_empty costs cycles floors cost v t k h fit = let a = t.below k h fit in let b = least_small k v.bests in omega arith

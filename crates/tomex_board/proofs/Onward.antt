@@ -1,4 +1,4 @@
--- What a step of one seat may do to the words and to what it knows, and that the rule then holds.
+-- The changes that a step of one seat may make to the words and to what it knows, after which the rule still holds.
 use Rattle.std.proofs.Common.{◌≡◌, ◌≢◌, ℕ, ◌+◌, ◌<◌, ◌≤◌, ◌⊎◌, List, length, get_or, set, sym, refl, ap, ◌∙◌, subst}
 use Rattle.std.proofs.Common.{inl, inr, ⊎_elim, arith}
 use Rattle.std.proofs.lemmas.List.{set-get_or}

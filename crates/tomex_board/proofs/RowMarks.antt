@@ -1,4 +1,4 @@
--- The marks that the rows' words say, and that they are lawful at every moment.
+-- The marks of the rows' words are lawful at every moment.
 use Rattle.std.proofs.Common.{◌≡◌, ◌≢◌, ℕ, zero, suc, ◌+◌, ◌*◌, ◌/◌, ◌%◌, ◌<◌, ◌≤◌, ◌⊎◌, eqb, cond, List, [], ◌∷◌, ◌++◌}
 use Rattle.std.proofs.Common.{map, take, length, get_or, sym, refl, ap, ◌∙◌, subst, inl, inr, ⊎_elim, arith, eq-eqb}
 use Rattle.std.proofs.Common.{ne_eqb, Some, None, slice_get}
@@ -60,7 +60,7 @@ dropped_mark w j e = subst (λ b. cond b (Finished (w / 4))
     (subst (λ b. cond b (Dropped (w / 4)) (cond (eqb w 0) Open Taken) ≡ Dropped j)
     (sym (eq-eqb (w % 4) 3 (omega arith))) (let q : w / 4 ≡ j = omega arith in ap Dropped q))
 
--- the word of a mark says that mark
+-- the word of a mark has that mark
 pub word_says : (m : Mark) → mark_of (mark_word m) ≡ m
 word_says Open = refl
 word_says Taken = refl

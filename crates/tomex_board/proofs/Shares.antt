@@ -1,4 +1,4 @@
--- Splitting and joining seats keep the rule, and a new board begins by it.
+-- Splitting and joining seats keep the rule, and a new board satisfies it.
 use Rattle.std.proofs.Common.{◌≡◌, ◌≢◌, ℕ, zero, suc, ◌+◌, ◌<◌, ◌⊎◌, List, [], ◌∷◌, ◌++◌, length, get_or, set, sym}
 use Rattle.std.proofs.Common.{refl, ap, ◌∙◌, subst, inl, inr, ⊎_elim, arith}
 use mathlib.Core.Logic.{dite}
@@ -41,7 +41,7 @@ module _ (costs cycles : List ℕ) where
       dite (ℕ_discrete x low) (λ e. (y, without_keeps low v.share y hy (λ q. ne (e ∙ sym q))))
       (λ q. (x, without_keeps low v.share x hx q)) in
       let vs : List View = set s.views id left ++ given_view v ∷ [] in
-      -- a seat's share was in its share before, and is the new one's alone otherwise
+      -- the numbers of a seat were its own before, or are only the new one's
       let at : (a : ℕ) (u : View) → get_elem? vs a ≡ some u
       → ((b : View) × (get_elem? s.views a ≡ some b) × (b.hand ≡ u.hand) × IsTrueOf costs s.words u
       × ((k : ℕ) → Has u.share k → Has b.share k × ((a ≡ id) → k ≢ low)))
@@ -116,7 +116,7 @@ module _ (costs cycles : List ℕ) where
             ));
       }
 
-  -- a seat takes in the notes and the numbers of another, whose hand is empty
+  -- a seat takes over the notes and the numbers of another, whose hand is empty
   pub joins : (id other : ℕ) (v w : View) → w.hand ≡ [] → (x : ℕ) × Has v.share x
       → Joins (IsLawful costs cycles) id v other w (joined_view v w) spent_view
   joins id other v w empty number s o me apart-seats theirs = let both : View = joined_view v w in

@@ -14,7 +14,7 @@ with_costs rising (c ∷ costs) = with_costs (insert_key nat_cmp rising c) costs
 abbrev pub distinct_costs : List ℕ → List ℕ
 distinct_costs costs = with_costs [] costs
 
--- all of rising costs where there are at most 64, else 64 of them, evenly spread
+-- all of rising costs if there are at most 64, else 64 of them, evenly spread
 abbrev pub floors_among : List ℕ → List ℕ
 floors_among rising =
     if nat_le (length rising) 64 then rising
@@ -24,7 +24,7 @@ floors_among rising =
 unfoldable pub floors_of : List ℕ → List ℕ
 floors_of costs = floors_among (distinct_costs costs)
 
--- the band of a cost: the first, and so the least, floor that is no less
+-- the band of a cost: the first, and so the least, floor that is at least the cost
 abbrev pub IsBandOf : List ℕ → ℕ → ℕ → Type 0
 IsBandOf floors cost k =
     (k < length floors) × (cost ≤ slice_index floors k) × ((j : ℕ) → j < k → slice_index floors j < cost)

@@ -2,7 +2,7 @@
 use Rattle.atomic_table.specs.Seated.{TableId}
 use Rattle.tomex_board.specs.declared.view.View.{View}
 
--- which board it is of, and what it knows
+-- its board, and what it knows
 pub record Known : Type 0 where
   pub board : TableId
   pub view : View

@@ -12,13 +12,13 @@ use Rattle.tomex_board.specs.Bands.{distinct_costs, floors_of, IsBandOf}
 use Rattle.tomex_board.specs.Views.{Has, KnowsNotOpen, best, joined_view}
 use Rattle.tomex_board.specs.Rule.{IsLawful}
 
--- at every moment the words of the rows say lawful marks
+-- at every moment the words of the rows are those of lawful marks
 abbrev pub MarksAreLawful : Type 0
 MarksAreLawful =
     (costs cycles : List ℕ) (s : State ℕ View) → IsLawful costs cycles s
     → AreLawful costs cycles (map mark_of (take (length costs) s.words))
 
--- what any seat noted isn't open, so no later claim of it is true
+-- a row that any seat noted isn't open, so no later claim of it is true
 abbrev pub NotedIsNotOpen : Type 0
 NotedIsNotOpen =
     (costs cycles : List ℕ) (s : State ℕ View) (a : ℕ) (v : View) (i : ℕ) → IsLawful costs cycles s
@@ -34,7 +34,7 @@ HandsAreApart =
 abbrev pub WordsSayMarks : Type 0
 WordsSayMarks = (m : Mark) → mark_of (mark_word m) ≡ m
 
--- the best word of a joined seat is the lesser of the two
+-- the best word of a joined seat is the smaller of the two
 abbrev pub JoinTakesLesserBest : Type 0
 JoinTakesLesserBest = (v w : View) (k : ℕ) → best k (joined_view v w) ≡ min (best k v) (best k w)
 
@@ -44,7 +44,7 @@ CostsAreKept =
     (costs : List ℕ) (c : ℕ)
     → (Has costs c → Has (distinct_costs costs) c) × (Has (distinct_costs costs) c → Has costs c)
 
--- and rise, so that each stands there once
+-- and rise, so that each occurs once
 abbrev pub DistinctCostsRise : Type 0
 DistinctCostsRise =
     (costs : List ℕ) (j k : ℕ) → j < k → k < length (distinct_costs costs)
@@ -56,7 +56,7 @@ FloorsRise =
     (costs : List ℕ) (j k : ℕ) → j < k → k < length (floors_of costs)
     → slice_index (floors_of costs) j < slice_index (floors_of costs) k
 
--- so the band of a cost has the least floor that is no less
+-- so the band of a cost has the least floor that is at least the cost
 abbrev pub BandIsLeast : Type 0
 BandIsLeast =
     (costs : List ℕ) (cost j k : ℕ) → IsBandOf (floors_of costs) cost k → j < length (floors_of costs)

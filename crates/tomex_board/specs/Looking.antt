@@ -1,4 +1,4 @@
--- What a look answers.
+-- The result of a look.
 use Rattle.std.specs.Prelude.{◌≡◌, ◌≢◌, ℕ, ◌<◌, ◌≤◌, List, ◌∷◌, ◌++◌, ◌⊎◌, map, length, slice_index}
 use Rattle.tomex_board.specs.declared.bound.Bound.{Bound}
 use Rattle.tomex_board.specs.declared.mark.Mark.TheVariants.{Finished}
@@ -29,15 +29,14 @@ IsLeastBound floors cost v b =
 abbrev pub AreEmpty : List ℕ → ℕ → View → Type 0
 AreEmpty floors cost v = (k : ℕ) → k < length floors → slice_index floors k ≤ cost → best k v ≡ nothing_yet
 
--- of the bands below m, one word more was seen in each that may judge a row of this cost, in their
--- order, and in no other
+-- one more word was seen in each of the bands below m that may judge a row of this cost, in their order, and in no
+-- other
 pub record SeesEach (floors : List ℕ) (cost m : ℕ) (v w : View) : Type 0 where
   pub found : List (ℕ × ℕ)
   pub bands : map (λ x. x.0) found ≡ judges_below m floors cost
   pub bests : w.bests ≡ found ++ v.bests
 
--- this word was seen in the band k; where it is a row's, that row is noted as finished and no dearer
--- than the floor
+-- this word was seen in the band k; if it is a row's, that row is noted as finished, and costs at most the floor
 pub record Sees (costs cycles floors : List ℕ) (k found : ℕ) (v w : View) : Type 0 where
   pub hand : w.hand ≡ v.hand
   pub share : w.share ≡ v.share

@@ -1,4 +1,4 @@
--- What a board can be made for.
+-- The costs and cycles that a board can be made for.
 use Rattle.std.specs.Prelude.{◌≡◌, ℕ, ◌<◌, ◌≤◌, ◌^◌, List, All, length}
 
 -- 1 to 16,384 rows, and for each its cycles to its end, below 2^38

@@ -1,5 +1,5 @@
--- The rule of a board: what holds of its words and of what its seats know, before and after every
--- step. The word i is that of row i, and the word of band k comes k places after the last row's.
+-- The rule of a board: what holds for its words and for what its seats know, before and after every step. The word i
+-- is that of row i, and the word of band k comes k places after the last row's.
 use Rattle.std.specs.Prelude.{◌≡◌, ◌≢◌, ℕ, ◌+◌, ◌<◌, ◌≤◌, List, ◌⊎◌, length, slice_index}
 use mathlib.Core.Option.{some}
 use lib.ListN.{get_elem?}
@@ -21,22 +21,22 @@ Drops costs cycles words i w =
     (j : ℕ) × (w ≡ mark_word (Dropped j)) × (j < length costs) × IsFinished cycles words j
     × (slice_index costs j ≤ slice_index costs i) × (slice_index cycles j < slice_index cycles i)
 
--- the word may stand at the row i
+-- the word may be that of the row i
 abbrev pub FitsRow : List ℕ → List ℕ → List ℕ → ℕ → ℕ → Type 0
 FitsRow costs cycles words i w =
     (w ≡ mark_word Open)
     ⊎ ((w ≡ mark_word Taken) ⊎ ((w ≡ mark_word (Finished (slice_index cycles i))) ⊎ Drops costs cycles words i w))
 
--- the word may stand in the band k: it is empty, or names a finished row with its cycles, whose cost
--- is at most the floor
+-- the word may be that of the band k: it is empty, or names a finished row with its cycles, whose cost is at most the
+-- floor
 abbrev pub FitsBand : List ℕ → List ℕ → List ℕ → ℕ → ℕ → Type 0
 FitsBand costs cycles words k w =
     (w ≡ nothing_yet)
     ⊎ ((j : ℕ) × (j < length costs) × (w ≡ band_word (slice_index cycles j) j) × IsFinished cycles words j
     × (slice_index costs j ≤ slice_index (floors_of costs) k))
 
--- What one seat knows is true of the words: a row in its hand is taken, a row seen not open isn't
--- open, a noted mark is closed and still stands, and no band's word is above one that was seen.
+-- What one seat knows is true of the words: a row in its hand is taken, a row seen not open isn't open, a noted mark
+-- is closed and still there, and no band's word is above one that was seen.
 pub record IsTrueOf (costs words : List ℕ) (v : View) : Type 0 where
   pub hand : (i : ℕ) → Has v.hand i → (i < length costs) × (slice_index words i ≡ mark_word Taken)
   pub seen : (i : ℕ) → Has v.seen i → (i < length costs) × (slice_index words i ≢ mark_word Open)
@@ -58,7 +58,7 @@ pub record IsLawful (costs cycles : List ℕ) (s : State ℕ View) : Type 0 wher
   -- a row is in one hand only
   pub alone : (a b : ℕ) (v w : View) (i : ℕ) → get_elem? s.views a ≡ some v → get_elem? s.views b ≡ some w
       → Has v.hand i → Has w.hand i → a ≡ b
-  -- numbers are below 32, and no two seats have one, those that were dropped neither
+  -- numbers are below 32, and no two seats have the same one, not even dropped seats
   pub few : (a : ℕ) (v : View) (x : ℕ) → get_elem? s.views a ≡ some v → Has v.share x → x < 32
   pub apart : (a b : ℕ) (v w : View) (x : ℕ) → get_elem? s.views a ≡ some v → get_elem? s.views b ≡ some w
       → Has v.share x → Has w.share x → a ≡ b

@@ -1,8 +1,7 @@
--- The kinds of step on a board's words. Each is one load, one compare_exchange or one fetch_min on
--- one word, and changes what its own seat knows and nothing that another knows. `found` is the word
--- before the step; of a compare_exchange `first` and `second` are the words from which and to which,
--- of a fetch_min `first` is the word that is published. (Splitting and joining are a load of word 0;
--- `Views` has what the seats know then.)
+-- The kinds of step on a board's words. Each is one load, one compare_exchange or one fetch_min on one word, and
+-- changes only what its own seat knows. `found` is the word before the step; of a compare_exchange `first` and
+-- `second` are the words from which and to which, of a fetch_min `first` is the word that is published. (Splitting
+-- and joining are a load of word 0; `Views` has what the seats know then.)
 use Rattle.std.specs.Prelude.{◌≡◌, ◌≢◌, ℕ, ◌+◌, ◌<◌, ◌≤◌, List, length, slice_index, min}
 use Rattle.atomic_table.specs.Table.{Me, Step}
 use Rattle.tomex_board.specs.declared.mark.Mark.{Mark}
@@ -13,12 +12,12 @@ use Rattle.tomex_board.specs.Bands.{floors_of, IsBandOf}
 use Rattle.tomex_board.specs.Views.{Has, KnowsNotOpen, after_claim, after_failed_claim, after_closing}
 use Rattle.tomex_board.specs.Views.{after_seeing, after_seeing_row, best}
 
--- a seat of the table: what it knows, and slots, of which a board has none
+-- a seat of the table: what it knows, and its slots, of which a board has none
 abbrev pub Seated : Type 0
 Seated = Me ℕ View
 
--- compare_exchange of the row's word from open to taken: an open row goes into the hand, and was not
--- noted as not open; of another its mark is noted
+-- compare_exchange of the row's word from open to taken: an open row goes into the hand, and was not noted as not
+-- open; the mark of any other is noted
 pub record IsClaim (costs : List ℕ) (st : Step ℕ) (before : Seated) (found : ℕ) (after : Seated) : Type 0 where
   pub row : st.word < length costs
   pub from : st.first ≡ mark_word Open
@@ -38,8 +37,8 @@ pub record IsFinish (costs cycles : List ℕ) (st : Step ℕ) (before : Seated) 
   pub slots : after.1 ≡ before.1
   pub view : after.0 ≡ after_closing st.word (Finished (slice_index cycles st.word)) before.0
 
--- fetch_min of the word of a band with that of a row whose band it is and that is noted as finished:
--- the best word is then the lesser of the word found and the one published
+-- fetch_min of the word of a band with that of a row whose band it is and that is noted as finished: the best word is
+-- then the smaller of the word found and the one published
 pub record IsPublish (costs cycles : List ℕ) (st : Step ℕ) (before : Seated) (found : ℕ) (after : Seated) : Type 0 where
   pub row : ℕ
   pub band : ℕ

@@ -22,7 +22,7 @@ least_of [] = 0
 least_of (x ∷ []) = x
 least_of (x ∷ y ∷ ys) = min x (least_of (y ∷ ys))
 
--- the seat knows that the row isn't open: it holds it, has seen it so, or has seen its closed mark
+-- the seat knows that the row isn't open: it has it in hand, has seen that it isn't open, or has seen its closed mark
 abbrev pub KnowsNotOpen : View → ℕ → Type 0
 KnowsNotOpen v i = Has v.hand i ⊎ (Has v.seen i ⊎ ((m : Mark) × Has v.marks (i, m)))
 
@@ -49,7 +49,7 @@ IsWhole share = (x : ℕ) → x < 32 → Has share x
 abbrev pub HasTwo : List ℕ → Type 0
 HasTwo share = (x : ℕ) × (y : ℕ) × Has share x × Has share y × (x ≢ y)
 
--- what the first seat of a board knows: nothing, and it has all numbers
+-- the first seat of a board: it knows nothing, and has all numbers
 abbrev pub first_view : View
 first_view = record { hand = []; seen = []; marks = []; bests = []; share = range_with_len 0 32 }
 
@@ -57,14 +57,14 @@ first_view = record { hand = []; seen = []; marks = []; bests = []; share = rang
 abbrev pub after_claim : ℕ → View → View
 after_claim i v = record v { hand = i ∷ v.hand }
 
--- the note of a row's mark, where it is closed
+-- the note of a row's mark, if it is closed
 abbrev pub closed_note : ℕ → Mark → List (ℕ × Mark)
 closed_note i Open = []
 closed_note i Taken = []
 closed_note i (Finished y) = (i, Finished y) ∷ []
 closed_note i (Dropped j) = (i, Dropped j) ∷ []
 
--- a claim was false: the row was seen not open, with its mark where that is closed
+-- a claim was false: the row was seen not open, with its mark if that is closed
 abbrev pub after_failed_claim : ℕ → Mark → View → View
 after_failed_claim i m v = record v { seen = i ∷ v.seen; marks = closed_note i m ++ v.marks }
 
@@ -89,7 +89,7 @@ after_seeing_row k row cycles v =
 abbrev pub given_view : View → View
 given_view v = record v { hand = []; share = least_of v.share ∷ [] }
 
--- the seat that was split: all that it had but the least of its numbers
+-- the seat that was split: all that it had except the least of its numbers
 abbrev pub kept_view : View → View
 kept_view v = record v { share = without (least_of v.share) v.share }
 
@@ -103,6 +103,6 @@ joined_view v w = record {
   share = v.share ++ w.share;
 }
 
--- what is left of a seat that was joined to another
+-- the rest of a seat that was joined to another: nothing
 abbrev pub spent_view : View
 spent_view = record { hand = []; seen = []; marks = []; bests = []; share = [] }

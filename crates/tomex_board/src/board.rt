@@ -1,4 +1,4 @@
-//! A board and its seats: how they begin and end.
+//! A board and its seats: made, split, joined and closed.
 
 ghost use Rattle.std.specs.Prelude.{◌≡◌, ◌≢◌, ℕ, ◌+◌, [], Some, length, slice_get, IfOk};
 ghost use Rattle.tomex_board.specs.Plans.{IsPlan};
@@ -32,12 +32,12 @@ type TableSeat = atomic_table::Seat<u64, View>;
 pub struct Board<J: Plan, A: Allocator = Global> {
     /// A word for each row, then 64 for the bands.
     table: Table<u64, View, (), Lawful<J>, A>,
-    /// How many rows there are.
+    /// The number of rows.
     rows: usize,
     costs: Vec<u64, A>,
     /// The floors of the bands that are used, rising.
     floors: Vec<u64, A>,
-    /// Empty, with room for a mark a row: what `close` hands out.
+    /// Empty, with room for a mark for each row; `close` returns it.
     marks: Vec<Mark, A>,
 }
 
@@ -66,9 +66,9 @@ impl<J: Plan, A: Allocator> Model for Board<J, A> {
         × (length (floors_of J.costs) ≤ 64) };
 }
 
-/// What a thread works on a board with. It knows the rows that it has in hand, what it noted of
-/// others, and the best word that it saw in each band; and it has a share of 32 numbers, so that
-/// whoever has all of them and nothing in hand knows that no row is taken.
+/// A thread's access to a board. It knows the rows that it has in hand, what it noted about others,
+/// and the best word that it saw in each band; and it has a share of 32 numbers, so a seat with all
+/// 32 and nothing in hand knows that no row is taken.
 #[derive(Drop)]
 pub struct Seat<J: Plan> {
     inner: atomic_table::Seat<u64, View>,
@@ -89,7 +89,7 @@ impl<J: Plan> Model for Seat<J> {
 
 impl<J: Plan, A: Allocator> Board<J, A> {
     /// A board whose rows are all open, and its first seat, which has nothing in hand, has noted
-    /// nothing and has all 32 numbers. All memory that the board ever uses is taken here.
+    /// nothing and has all 32 numbers. All memory that the board ever uses is allocated here.
     pub fn new(alloc: A, costs: &[u64]) -> Result<(Board<J, A>, Seat<J>), AllocError>
     where
         A: Clone,
@@ -168,7 +168,7 @@ impl<J: Plan, A: Allocator> Board<J, A> {
         first
     }
 
-    /// The marks of all rows. What this seat noted stands there as noted; with all 32 numbers and
+    /// The marks of all rows. They agree with what this seat noted; if it has all 32 numbers and
     /// nothing in hand, no row is taken.
     pub fn close(self, seat: Seat<J>) -> Vec<Mark, A>
         requires board { seat.board ≡ self }

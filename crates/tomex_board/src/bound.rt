@@ -1,4 +1,4 @@
-//! Bounds: what a running row is judged by.
+//! Bounds: finished rows by which running ones are judged.
 
 /// A finished row and its cycles.
 #[derive(Clone, Copy, Debug, PartialEq, Eq)]

@@ -6,7 +6,7 @@ ghost use Rattle.tomex_board.specs.Bands.{distinct_costs, floors_among, floors_o
 use std::alloc::{AllocError, Allocator};
 use std::collections::BTreeSet;
 
-/// How many bands a board has. Where its rows have fewer distinct costs, the others aren't used.
+/// The number of bands of a board. If its rows have fewer distinct costs, the others aren't used.
 pub(crate) const BANDS: usize = 64;
 
 /// The keys of a set as a list.
@@ -27,7 +27,7 @@ fn distinct_costs<A: Allocator + Clone>(alloc: A, costs: &[u64]) -> Result<Vec<u
     listed(alloc, &rising)
 }
 
-/// The `k`th of the costs that are evenly spread among rising ones.
+/// The `k`th of 64 costs that are evenly spread among rising ones.
 fn spread(rising: &[u64], k: usize) -> u64
     requires many { (64 < length rising.now) × (length rising.now ≤ 16384) }
     requires band { k < 64 }
@@ -36,8 +36,8 @@ fn spread(rising: &[u64], k: usize) -> u64
     rising[k * rising.len() / BANDS]
 }
 
-/// The floor of the band `k`, where the distinct costs are handed in, rising: all of them are floors
-/// where there are at most 64, else 64 that are evenly spread. `None` from the number of bands on.
+/// The floor of band `k`, given the distinct costs in rising order: every cost if there are at most
+/// 64, else 64 evenly spread ones. `None` if there is no such band.
 pub fn floor(costs: &[u64], k: usize) -> Option<u64>
     requires few { length costs.now ≤ 16384 }
     ensures { result ≡ slice_get (floors_among costs.now) k }
@@ -70,7 +70,7 @@ pub(crate) fn floors_of<A: Allocator + Clone>(
     Ok(floors)
 }
 
-/// The first band whose floor is no less than the cost.
+/// The first band whose floor is at least the cost.
 pub(crate) fn band_of(floors: &[u64], cost: u64) -> Option<usize>
     ensures some { IfSome result (IsBandOf floors.now cost) }
     ensures none { IfNone result ((k : ℕ) → k < length floors.now

@@ -1,9 +1,9 @@
 //! The board that workers share while they explore: a mark for each row, and price bands in which
-//! finished rows are published, so that costlier ones that are slower can be given up.
+//! finished rows are published, so that costlier and slower ones can be given up.
 //!
-//! A thread works on a board by a seat of its own. Every call is a few single atomic steps on words
-//! of 64 bits; none waits, and none but `Board::new` takes memory. `specs/Rule.antt` is the rule that
-//! holds before and after each step, `specs/Steps.antt` the kinds of step.
+//! A thread works on a board through a seat of its own. Every call is a few single atomic steps on
+//! words of 64 bits; none waits, and only `Board::new` allocates. `specs/Rule.antt` is the rule
+//! that holds before and after each step, `specs/Steps.antt` the kinds of step.
 #![tactic(auto)]
 
 mod board;

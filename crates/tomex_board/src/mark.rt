@@ -1,14 +1,14 @@
 //! Marks of rows.
 
-/// What a board says of a row.
+/// The state of a row on a board.
 #[derive(Clone, Copy, Debug, PartialEq, Eq)]
 pub enum Mark {
-    /// Nobody has claimed it.
+    /// No seat has claimed it.
     Open,
     /// A seat has it in hand, or had it when the seat was discarded.
     Taken,
-    /// It was run to its end, in so many cycles.
+    /// It was run to its end, in this number of cycles.
     Finished(u64),
-    /// The row of that number is finished, costs no more and is strictly faster.
+    /// It was given up: the row of this number is finished, costs no more and is strictly faster.
     Dropped(usize),
 }

@@ -2,8 +2,8 @@
 
 use std::marker::Brand;
 
-/// What each row costs and how many cycles it takes to its end, as contracts speak of them. A board carries
-/// its plan by its type, so that whoever works on it speaks of the same cycles; no code has to know them.
+/// The cost of each row and its cycles to its end, for contracts. A board has its plan in its type,
+/// so that all contracts about it mean the same cycles; no code needs to know them.
 pub trait Plan {
     ghost use Rattle.std.specs.Prelude.{List, ℕ};
 
@@ -12,7 +12,7 @@ pub trait Plan {
     ghost cycles: { List ℕ };
 }
 
-/// The type for a caller that picks costs and cycles in its proof.
+/// The type for a caller that chooses costs and cycles in its proof.
 impl Plan for Brand {
     ghost use Rattle.std.specs.Prelude.{[]};
 

@@ -5,7 +5,8 @@ use crate::view::View;
 use atomic_table::{Join, Play, Split, TableRule};
 use std::marker::PhantomData;
 
-/// What holds of a board's words and of what its seats know, before and after every step.
+/// The rule: what holds for a board's words and for what its seats know, before and after every
+/// step.
 pub struct Lawful<J: Plan> {
     of: PhantomData<J>,
 }
@@ -52,7 +53,7 @@ impl<J: Plan> Play<u64, View> for Publish<J> {
     ghost then = { IsPublish J.costs J.cycles };
 }
 
-/// A band is looked at.
+/// A band is read.
 pub struct Look<J: Plan> {
     of: PhantomData<J>,
 }

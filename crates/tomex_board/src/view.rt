@@ -1,9 +1,9 @@
-//! What a seat knows of its board.
+//! What a seat knows about its board.
 
 use crate::mark::Mark;
 use std::collections::LinkedList;
 
-/// What a seat knows. Contracts alone see it: no value of it is ever made.
+/// What a seat knows. Only contracts see it: no value of it is ever made.
 pub struct View {
     /// The rows that the seat has claimed and not closed.
     pub hand: LinkedList<u64>,

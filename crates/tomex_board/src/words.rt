@@ -1,5 +1,5 @@
-//! The words of a board: marks, and what is published in bands, as numbers of 64 bits. No other
-//! module speaks of their bits.
+//! The words of a board: marks, and entries of bands, as numbers of 64 bits. No other module
+//! depends on their bits.
 
 ghost use Rattle.std.specs.Prelude.{◌≡◌, ◌≤◌, ◌<◌, ◌^◌, [], map, take};
 ghost use Rattle.std.specs.Mem.Slots.{slots_items, slots_len, IsFull};
@@ -17,10 +17,10 @@ pub(crate) const OPEN: u64 = 0;
 /// The word of a taken row.
 pub(crate) const TAKEN: u64 = 1;
 
-/// The word of a band in which nothing was published: no row's is greater.
+/// The word of a band in which nothing was published; no row has a greater one.
 pub(crate) const NOTHING_YET: u64 = u64::MAX;
 
-/// The word that says a mark.
+/// The word of a mark.
 pub fn mark_word(mark: Mark) -> u64
     requires fits { mark_word mark < 2 ^ 64 }
     ensures { result ≡ mark_word mark }
@@ -33,7 +33,7 @@ pub fn mark_word(mark: Mark) -> u64
     }
 }
 
-/// The mark that a word says.
+/// The mark of a word.
 pub(crate) fn mark_of(word: u64) -> Mark
     ensures { result ≡ mark_of word }
 {
@@ -48,8 +48,8 @@ pub(crate) fn mark_of(word: u64) -> Mark
     }
 }
 
-/// The word by which a finished row is published in its band. Of two such words the one of fewer
-/// cycles is less, and of equal cycles the one of the lower row.
+/// The word that publishes a finished row in its band. A word of fewer cycles is less, and with
+/// equal cycles that of the lower row.
 pub fn band_word(cycles: u64, row: usize) -> u64
     requires fits { band_word cycles row < 2 ^ 64 }
     ensures { result ≡ band_word cycles row }
@@ -67,7 +67,7 @@ pub(crate) fn bound_of(word: u64) -> Bound
     }
 }
 
-/// Reads the marks of a closed board into the room that there is for them.
+/// Reads the marks of a closed board into the room that is reserved for them.
 pub(crate) fn read_marks<A: Allocator>(
     closed: &Closed<u64, A>,
     rows: usize,

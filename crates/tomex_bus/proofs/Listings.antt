@@ -1,4 +1,4 @@
--- How many of a listing in issue order pass a test.
+-- The number of entries of a listing in issue order that pass a test.
 use Rattle.std.proofs.Common.{ℕ, ◌+◌, Bool, true, false, ◌≡◌, ◌<◌, ◌∙◌, arith, inl, inr, ap, refl, sym, List, [], ◌∷◌}
 use Rattle.std.proofs.Common.{slice_index, length}
 use Rattle.std.specs.Prelude.{◌==◌, ◌≢◌, ◌&&◌, not, count_by}
@@ -45,7 +45,7 @@ count_all f (x ∷ xs) each =
     let rest : count_by f xs ≡ length xs = count_all f xs (λ y h. each y (in_tail x y xs h)) in
     count_on f x xs (each x (in_head x xs)) ∙ omega arith
 
--- all but one number
+-- all except one number
 abbrev but : (ℕ → Bool) → ℕ → ℕ → Bool
 but f y x = f x && not (x == y)
 
@@ -66,7 +66,7 @@ but_same f y = rw (eq-eqb y y refl) (and_false (f y))
     and_false true = refl
     and_false false = refl
 
--- what passes a test is counted in a listing that has it
+-- a listing's members that pass a test are counted
 pub count_listed : (f : ℕ → Bool) (issue_numbers xs : List ℕ) → Rises issue_numbers xs
     → ((x : ℕ) → is_listed xs x ≡ true → x < 128)
     → ((x : ℕ) → x < 128 → f x ≡ true → is_listed xs x ≡ true) → count_below f 128 ≡ count_by f xs
@@ -114,7 +114,7 @@ some_counted f (x ∷ xs) l = elim (cases_Bool (f x)) [
       (rest.0, in_tail x rest.0 xs rest.1, rest.2)
 ]
 
--- where none is counted none passes
+-- if none is counted, none passes
 pub none_counted : (f : ℕ → Bool) (xs : List ℕ) (x : ℕ) → count_by f xs ≡ 0 → is_listed xs x ≡ true → f x ≡ false
 none_counted f [] x e h = absurd (cc)
 none_counted f (y ∷ ys) x e h = elim (cases_Bool (f y)) [

@@ -10,7 +10,7 @@ use Rattle.tomex_sets.proofs.Counting.{count_single, size_none, size_with, size_
 use Rattle.tomex_bus.specs.Picks.{IsInIssueOrder, IsPicked, Rises, is_listed}
 use Rattle.tomex_bus.proofs.Listings.{count_all, count_listed, in_head, in_tail, none_counted, some_counted}
 
--- of the members that were looked at none is less by a measure than the best, one more of which is looked at
+-- no visited member is less by a measure than the best one; one more is visited
 pub best_left : (set rest left x best now : ℕ) (issue_numbers : List ℕ)
     → ((i : ℕ) → i < 128 → has set i ≡ true → (has rest i ≡ true)
     ⊎ (slice_index issue_numbers best ≤ slice_index issue_numbers i)) → IsWithout rest x left
@@ -26,7 +26,7 @@ best_left set rest left x best now issue_numbers looked without less here i l me
   ]
 ]
 
--- so many turns are made: what is left of the ready ones is younger than what is picked
+-- after a number of turns: the ready ones that are left are younger than those that are picked
 pub record AreMade (ready : ℕ) (issue_numbers : List ℕ) (turn rest picked : ℕ) : Type 0 where
   pub rest_in : (x : ℕ) → x < 128 → has rest x ≡ true → has ready x ≡ true
   pub picked_in : (x : ℕ) → x < 128 → has picked x ≡ true → has ready x ≡ true
@@ -118,7 +118,7 @@ n_taken ready issue_numbers n rest picked made =
     let all : size_of picked + size_of rest ≡ size_of ready = made.all in
     picked_by ready issue_numbers n n rest picked made (omega arith)
 
--- of none there are none
+-- nothing is picked of an empty set
 pub none_picked : (set n : ℕ) (issue_numbers : List ℕ) → set ≡ 0 → IsPicked set issue_numbers n 0
 none_picked set n issue_numbers e =
     let none : size_of 0 ≡ 0 = size_none 0 refl in
@@ -128,7 +128,7 @@ none_picked set n issue_numbers e =
       count = omega arith;
     }
 
--- of one member the oldest is that one
+-- the oldest of a single member is that member
 pub single_picked : (set n : ℕ) (issue_numbers : List ℕ) → 0 < n
     → ((a b : ℕ) → a < 128 → b < 128 → has set a ≡ true → has set b ≡ true → a ≡ b) → IsPicked set issue_numbers n set
 single_picked set n issue_numbers some single =
@@ -138,13 +138,13 @@ single_picked set n issue_numbers some single =
       count = omega arith;
     }
 
--- of a set that isn't empty some are taken by the time that none is left
+-- some of a set that isn't empty are picked by the time that none is left
 pub taken_some : (ready turn rest picked : ℕ) → (turn ≡ 0 → rest ≡ ready) → (0 < turn → picked ≢ 0) → rest ≡ 0
     → ready ≢ 0 → picked ≢ 0
 taken_some ready zero rest picked first some none apart = absurd (apart (sym (first refl) ∙ none))
 taken_some ready (suc turn) rest picked first some none apart = some (omega arith)
 
--- Of a listing in issue order the first n are picked.
+-- The first n of a listing in issue order are picked.
 
 take_inside : (n x : ℕ) (xs : List ℕ) → is_listed (take n xs) x ≡ true → is_listed xs x ≡ true
 take_inside zero x xs e = absurd (cc)

@@ -20,7 +20,7 @@ fresh_ring sets e = record {
   none = λ i l h x. rw (e, get_or-replicate {A = ℕ} 64 i 0 0 l) (none_in x);
 }
 
--- what is so far ahead stands so many places after the head, and round
+-- the set of a cycle ahead is that many places after the head, around the ring
 turned_at : (sets : List ℕ) (head ahead i : ℕ) → length sets ≡ 64 → head < 64 → ahead < 64 → i ≡ (head + ahead) % 64
     → slice_index (turned sets head) ahead ≡ slice_index sets i
 unfolding turned
@@ -39,7 +39,7 @@ turned_at sets head ahead i count inside l e =
           ∙ (get_or-take head sets (ahead - (64 - head)) 0 (omega arith) ∙ ap (slice_index sets) same)
     ]
 
--- a place of the ring is so far ahead
+-- the cycle ahead of a place of the ring
 due_at : (sets : List ℕ) (filled head ahead i x : ℕ) → IsRing sets filled head → ahead < 64 → i ≡ (head + ahead) % 64
     → is_due (turned sets head) ahead x ≡ has (slice_index sets i) x
 due_at sets filled head ahead i x ring l e =
@@ -119,11 +119,11 @@ put_ring sets filled head place set more number ring small with marked =
       ];
     }
 
--- the same place is as far ahead
+-- the same place is the same cycle ahead
 same_place : (head a ahead : ℕ) → head < 64 → a < 64 → ahead < 64 → (head + a) % 64 ≡ (head + ahead) % 64 → a ≡ ahead
 same_place head a ahead inside l m e = omega arith
 
--- a set that is written in the place of a cycle ahead
+-- a set that is written at the place of a cycle ahead
 set_at : (sets : List ℕ) (filled more head ahead set a x : ℕ) → IsRing sets filled head
     → IsRing (slice_set sets ((head + ahead) % 64) set) more head → ahead < 64 → a < 64
     → is_due (turned (slice_set sets ((head + ahead) % 64) set) head) a x
@@ -213,7 +213,7 @@ emptied_ring sets filled head more ring without =
       ];
     }
 
--- nothing stands between the head and the next place with members
+-- nothing is due between the head and the next place with members
 before_next : (sets : List ℕ) (filled head n : ℕ) → IsRing sets filled head
     → ((a : ℕ) → a < n → a < 64 → has filled ((head + a) % 64) ≡ false) → IsClearTo (turned sets head) n
 before_next sets filled head n ring none a x l = elim (cases_Bool (nat_lt a 64)) [
@@ -275,7 +275,7 @@ next_round sets filled head n ring none low some least =
       | inr e ↦ let far : 64 ≤ head + a = ltb-false _ _ e in least ((head + a) % 64) (omega arith)
     ])
 
--- The same of a wheel as it is seen.
+-- The same for a wheel as contracts see it.
 
 pub passed_on : (w : List ℕ) (sets : List ℕ) (filled head from cycles : ℕ) → turned sets head ≡ w
     → IsRing sets filled head → from ≡ head → IsClearTo w cycles
@@ -297,7 +297,7 @@ pub round_is : (w : List ℕ) (sets : List ℕ) (filled head n : ℕ) → turned
 round_is w sets filled head n e ring none low some least =
     subst (λ (v : List ℕ). IsNext v (Some (64 - head + n))) e (next_round sets filled head n ring none low some least)
 
--- none where no place has members
+-- none if no place has members
 pub none_due : (w : List ℕ) (sets : List ℕ) (filled head : ℕ) → turned sets head ≡ w → IsRing sets filled head
     → filled ≡ 0 → IsEmpty w
 none_due w sets filled head e ring empty = subst (λ (v : List ℕ). IsEmpty v) e (λ a x. elim (cases_Bool (nat_lt a 64)) [
@@ -309,14 +309,14 @@ none_due w sets filled head e ring empty = subst (λ (v : List ℕ). IsEmpty v) 
       ∙ none_in ((head + a) % 64)) x
 ])
 
--- what is due stands at the head
+-- the numbers that are due are at the head
 pub due_first : (w : List ℕ) (sets : List ℕ) (filled head due : ℕ) → turned sets head ≡ w → IsRing sets filled head
     → due ≡ slice_index sets head → AreDue w due
 due_first w sets filled head due e ring is = subst (λ (v : List ℕ). AreDue v due) e (λ x.
     let inside : head < 64 = ring.inside in
     ap (λ (s : ℕ). has s x) is ∙ sym (due_at sets filled head 0 head x ring (omega arith) (omega arith)))
 
--- and is taken out
+-- and are taken out
 pub given : (w : List ℕ) (sets : List ℕ) (filled more head : ℕ) → turned sets head ≡ w → IsRing sets filled head
     → IsRing (slice_set sets head 0) more head → HasGiven w (turned (slice_set sets head 0) head)
 given w sets filled more head e ring after =
@@ -341,7 +341,7 @@ given w sets filled more head e ring after =
           ])
     ])
 
--- nothing is taken out where nothing is due
+-- nothing is taken out if nothing is due
 pub none_given : (w : List ℕ) (sets : List ℕ) (filled head : ℕ) → turned sets head ≡ w → IsRing sets filled head
     → slice_index sets head ≡ 0 → HasGiven w (turned sets head)
 none_given w sets filled head e ring none =

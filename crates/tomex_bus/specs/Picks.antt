@@ -2,7 +2,7 @@
 use Rattle.std.specs.Prelude.{ℕ, Bool, true, false, ◌≡◌, ◌<◌, ◌≤◌, ◌==◌, ◌||◌, min, List, [], ◌∷◌, ⊤, slice_index}
 use Rattle.tomex_sets.specs.Sets.{has, size_of}
 
--- a number stands in a list
+-- a number is in a list
 abbrev pub is_listed : List ℕ → ℕ → Bool
 is_listed [] x = false
 is_listed (y ∷ ys) x = (y == x) || is_listed ys x
@@ -22,7 +22,7 @@ pub record IsInIssueOrder (set : ℕ) (issue_numbers xs : List ℕ) : Type 0 whe
   pub low : (x : ℕ) → is_listed xs x ≡ true → x < 128
   pub rises : Rises issue_numbers xs
 
--- The n oldest of a set, all of it where there are no more: no member that is left issued before one that is picked.
+-- The n oldest of a set, all of it if there are no more: no member that is left issued before one that is picked.
 pub record IsPicked (set : ℕ) (issue_numbers : List ℕ) (n picked : ℕ) : Type 0 where
   pub inside : (x : ℕ) → x < 128 → has picked x ≡ true → has set x ≡ true
   pub oldest : (x y : ℕ) → x < 128 → y < 128 → has picked x ≡ true → has set y ≡ true → has picked y ≡ false

@@ -1,4 +1,4 @@
-//! The oldest of those that are ready.
+//! The oldest of the ready operations.
 
 ghost use Rattle.std.specs.Prelude.{ℕ, ◌≡◌, ◌≢◌, ◌<◌, ◌≤◌, true, slice_index};
 ghost use Rattle.tomex_sets.specs.Sets.{has};
@@ -27,9 +27,10 @@ pub fn oldest(set: u128, issue_numbers: &[u32; 128]) -> usize
     best
 }
 
-/// The n oldest of the ready ones, one search after the other.
+/// The n oldest of the ready ones, by one search after another.
 ///
-/// Mostly at most one is ready, and `pick` answers: so this takes no registers of its caller.
+/// Usually at most one is ready and `pick` returns at once; this is kept out of line so that it
+/// costs its caller no registers.
 #[inline(never)]
 fn pick_in_order(ready: u128, issue_numbers: &[u32; 128], n: u8) -> u128
     ensures picked { IsPicked ready issue_numbers.now n result }
@@ -50,8 +51,9 @@ fn pick_in_order(ready: u128, issue_numbers: &[u32; 128], n: u8) -> u128
 
 /// The n oldest of the ready ones, or all of them if there are no more than n.
 ///
-/// The issue order is given by number: how many instructions had issued before. No two instructions of a machine have
-/// one place in it; if two had, either may be served. It serves units, memory ports and common data buses.
+/// The issue order is given by numbers: how many instructions had issued before. No two
+/// instructions of a machine have the same number; if two had, either could be served. It serves
+/// units, memory ports and common data buses.
 #[inline(always)]
 pub fn pick(ready: u128, issue_numbers: &[u32; 128], n: u8) -> u128
     ensures picked { IsPicked ready issue_numbers.now n result }

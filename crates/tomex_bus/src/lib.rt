@@ -1,5 +1,5 @@
-//! The arbiter of a Tomasulo machine: where more operations are ready than units, ports or common
-//! data buses are left, the oldest of them are served. And its wheel: what falls due in the cycles ahead.
+//! The arbiter of a Tomasulo machine: if more operations are ready than units, ports or common data
+//! buses are left, it serves the oldest of them. And its wheel: what is due in the cycles ahead.
 #![tactic(auto)]
 
 mod arbiter;

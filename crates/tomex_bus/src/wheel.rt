@@ -1,4 +1,4 @@
-//! What falls due in the cycles ahead.
+//! The wheel: what is due in the cycles ahead.
 
 ghost use Rattle.std.specs.Prelude.{◌<◌, ◌≤◌};
 ghost use Rattle.tomex_bus.specs.Wheel.{AreDue, HasGiven, HasPassed, HasPut, IsClearTo, IsEmpty, IsNext, Lacks};
@@ -6,9 +6,10 @@ ghost use Rattle.tomex_bus.specs.Wheel.{AreDue, HasGiven, HasPassed, HasPut, IsC
 use std::marker::Model;
 use tomex_sets::{small, with};
 
-/// Numbers that fall due in one of the 64 cycles ahead, the first of which is 0 ahead.
+/// Numbers that are due in one of the 64 cycles ahead, the first of which is 0 ahead.
 ///
-/// A ring of 64 sets, one a cycle: as cycles pass it turns, and nothing in it moves. It takes no memory.
+/// A ring of 64 sets, one for each cycle: as cycles pass it turns, and nothing in it moves. It
+/// allocates nothing.
 #[derive(Drop)]
 pub struct Wheel {
     /// The numbers that are due in each cycle.
@@ -31,7 +32,7 @@ impl Model for Wheel {
 }
 
 impl Wheel {
-    /// Nothing is due.
+    /// A wheel on which nothing is due.
     pub fn new() -> Wheel
         ensures { IsEmpty result }
     {
@@ -42,7 +43,7 @@ impl Wheel {
         }
     }
 
-    /// A number falls due so many cycles ahead.
+    /// Enters a number as due `ahead` cycles ahead.
     #[inline(always)]
     pub fn put(&mut self, ahead: u32, number: usize)
         requires near { ahead ≤ 63 }
@@ -55,7 +56,7 @@ impl Wheel {
         self.filled = small::with(self.filled, place);
     }
 
-    /// How far ahead the next cycle is in which anything is due.
+    /// How many cycles ahead the next number is due.
     #[inline(always)]
     pub fn next(&self) -> Option<u32>
         ensures { IsNext self.now result }
@@ -70,7 +71,7 @@ impl Wheel {
         None
     }
 
-    /// So many cycles pass, in which nothing is due.
+    /// Passes `cycles` cycles, in none of which anything is due.
     #[inline(always)]
     pub fn pass(&mut self, cycles: u64)
         requires { IsClearTo self.old cycles }
@@ -79,7 +80,7 @@ impl Wheel {
         self.head = ((u64::from(self.head) + cycles % 64) % 64) as u32;
     }
 
-    /// What is due 0 cycles ahead, a bit a number.
+    /// The set of the numbers that are due 0 cycles ahead.
     #[inline(always)]
     pub fn first(&self) -> u128
         ensures { AreDue self.now result }
@@ -87,7 +88,7 @@ impl Wheel {
         self.sets[self.head as usize]
     }
 
-    /// Takes out what is due 0 cycles ahead, a bit a number.
+    /// Takes out the set of the numbers that are due 0 cycles ahead.
     #[inline(always)]
     pub fn due(&mut self) -> u128
         ensures due { AreDue self.old result }

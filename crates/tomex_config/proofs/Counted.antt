@@ -1,4 +1,4 @@
--- How many configurations a grid has: as many as the product of the lengths of its axes.
+-- The number of configurations in a grid: the product of the lengths of its axes.
 use Rattle.std.proofs.Common.{◌≡◌, ◌*◌, ◌≤◌, ℕ, false, List, [], ◌∷◌, length, map, refl, arith, length-append}
 use Rattle.std.specs.List.{flat_map}
 use Rattle.tomex_config.specs.Configuration.{Configuration, plain}
@@ -32,7 +32,7 @@ length-rows_of : (axes : Lists) → length (rows_of axes) ≡ product (lengths a
 unfolding rows_of axis_length
 length-rows_of axes = length-chosen (all_axes axes) plain
 
--- where no axis is empty and the grid isn't too large
+-- if no axis is empty and the grid isn't too large
 pub row_count : (axes : Lists) → has_empty axes ≡ false → is_too_large axes ≡ false
     → (1 ≤ length (rows_of axes)) × (length (rows_of axes) ≤ 16384)
 unfolding has_empty is_above_limit

@@ -1,4 +1,4 @@
--- Configurations that are made one after another: one value more, and one configuration more.
+-- Configurations that are made one after another: one more value, and one more configuration.
 use Rattle.std.proofs.Common.{◌≡◌, ◌<◌, ◌≤◌, ◌+◌, ◌∙◌, ℕ, List, [], ◌∷◌, ◌++◌, map, take, slice_index_or, length, sym}
 use Rattle.std.proofs.Common.{ap}
 use Rattle.std.proofs.lemmas.List.{append_assoc, append-nil, map-append, take_all, take_more}
@@ -6,7 +6,7 @@ use Rattle.std.proofs.lemmas.Grind.{flat_map-append}
 use Rattle.tomex_config.specs.Configuration.{Configuration}
 use Rattle.tomex_config.specs.Vary.{vary}
 
--- of the configuration at hand one more value
+-- one more value of the current configuration
 pub one_value : {V : Type 0} (part : Configuration → V → Configuration) (config : Configuration) (values : List V)
     (k : ℕ) (other : V) (before made now : List Configuration) (next : Configuration) → k < length values
     → made ≡ before ++ map (part config) (take k values) → next ≡ part config (slice_index_or values k other)

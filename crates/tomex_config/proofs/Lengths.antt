@@ -28,7 +28,7 @@ product_positive (n ∷ ns) h =
     let one : 1 ≤ n = omega (arith, some) in
     omega (arith, mul-le-mul one (product_positive ns rest))
 
--- what is known of the i-th length and of those after it, where so many configurations stand before them
+-- what is known about the i-th length and those after it, with `rows` configurations from the lengths before
 pub record Splits (rows i : ℕ) (ns : List ℕ) : Type 0 where
   pub positive : 1 ≤ get_or ns i 0
   pub rest : has_zero (drop (i + 1) ns) ≡ false
@@ -46,7 +46,7 @@ splits rows i ns lt none whole =
     let product_is : product (drop i ns) ≡ get_or ns i 0 * product (drop (i + 1) ns) = ap product cons in
     record { positive = omega (arith, some); rest = rest; whole = omega (arith, whole, ap (λ p. rows * p) product_is) }
 
--- configurations that are too many stay too many with the lengths to come
+-- too many configurations stay too many with the remaining lengths
 pub too_many : (rows n rest whole : ℕ) → 1 ≤ rest → 16384 < rows * n → rows * n * rest ≡ whole
     → true ≡ nat_lt 16384 whole
 too_many rows n rest whole positive above product_is =

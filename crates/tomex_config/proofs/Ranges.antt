@@ -26,7 +26,7 @@ fits_any Mul o h = h
 fits_any Div o h = h
 fits_any Mem o h = h
 
--- an option for one kind leaves a single branch unit
+-- an option for one kind keeps the number of branch units at one
 pub one_branch_unit : (unit : UnitId) (o : UnitOption) (units : List UnitOption) → is_option (most_units unit) o ≡ true
     → length units ≡ 5 → (slice_index_or units 4 plain_option).units ≡ 1
     → (slice_index_or (slice_set units (place_of_unit unit) o) 4 plain_option).units ≡ 1

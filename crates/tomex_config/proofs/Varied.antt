@@ -32,7 +32,7 @@ flat_map-self : (rows : List Configuration) → flat_map (λ config. config ∷ 
 flat_map-self [] = refl
 flat_map-self (config ∷ rows) = ap (λ rest. config ∷ rest) (flat_map-self rows)
 
--- one more axis, before those to come
+-- one more axis, before the remaining ones
 flat_map-vary : {V : Type 0} (follows : Configuration → List Configuration) (part : Configuration → V → Configuration)
     (values : List V) (rows : List Configuration)
     → flat_map follows (vary part values rows)

@@ -41,7 +41,7 @@ last_axis_fastest : map {B = ℕ × ℕ} (λ config. (stations_of config Alu, co
 unfolding rows_of
 last_axis_fastest = refl
 
--- a value that stands twice
+-- a value that occurs twice
 value_twice : rows_of (record single { mul = 1 ∷ 1 ∷ [] }) ≡ plain ∷ plain ∷ []
 unfolding rows_of
 value_twice = refl
@@ -79,7 +79,7 @@ dearest =
 greatest_cost : cost_of dearest (record { stations = replicate 6 1000000; bus = 1000000; width = 1000000 }) ≡ 113000000
 greatest_cost = refl
 
--- an empty axis is told before a value that is out of range
+-- an empty axis is reported before a value that is out of range
 empty_first : grid_of (record single { alu = 17 ∷ []; buses = [] }) ≡ Err EmptyAxis
 unfolding grid_of has_empty
 empty_first = refl

@@ -1,4 +1,4 @@
--- a configuration of the machine: which ones there are, and their parts.
+-- A configuration of the machine: its parts, and their limits.
 use Rattle.std.specs.Prelude.{◌≡◌, ℕ, ◌&&◌, Bool, true, nat_le, List, [], ◌∷◌, length}
 use Rattle.std.specs.Prelude.{slice_index, slice_index_or, slice_set, All}
 use Rattle.tomex_rvdec.specs.Parts.{place_of_pool, place_of_unit}
@@ -7,9 +7,8 @@ use Rattle.tomex_rvdec.specs.declared.pool.UnitId.{UnitId}
 use Rattle.tomex_rvdec.specs.declared.pool.UnitId.TheVariants.{Bru}
 use Rattle.tomex_config.specs.declared.config.UnitOption.{UnitOption}
 
--- the reservation stations of each pool and the chosen option for each kind of unit, both in
--- their order, the common data buses, and the issue width: how many instructions issue in a cycle
--- at most
+-- the reservation stations of each pool and the chosen option for each kind of unit, both in their order, the common
+-- data buses, and the issue width: the most instructions that issue in a cycle
 pub record Configuration : Type 0 where
   pub stations : List ℕ
   pub units : List UnitOption
@@ -23,16 +22,16 @@ config_of stations units buses width =
 abbrev pub is_between : ℕ → ℕ → ℕ → Bool
 is_between low high n = nat_le low n && nat_le n high
 
--- an option of at most so many units
+-- an option within the limits, with at most `most` units
 abbrev pub is_option : ℕ → UnitOption → Bool
 is_option most o = is_between 1 most o.units && is_between 1 64 o.latency && nat_le o.price 1000000
 
--- of branch units there is one
+-- there is only one branch unit
 abbrev pub most_units : UnitId → ℕ
 most_units Bru = 1
 most_units unit = 8
 
--- one unit of latency 1, for nothing
+-- one unit of latency 1 and price 0
 abbrev pub plain_option : UnitOption
 plain_option = record { units = 1; latency = 1; price = 0 }
 

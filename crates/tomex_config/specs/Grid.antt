@@ -41,7 +41,7 @@ lists_of axes = record {
   width = axes.width.items;
 }
 
--- what follows for each value, one value after another
+-- the concatenation of the lists that follow for each value
 infixl 20 ◌>>=◌
 abbrev ◌>>=◌ : {X Y : Type 0} → List X → (X → List Y) → List Y
 values >>= follows = flat_map follows values
@@ -88,7 +88,7 @@ stations_in_range axes =
     && list_all (is_between 1 16) axes.load && list_all (is_between 1 16) axes.store
     && list_all (is_between 1 16) axes.bru
 
--- of branch units there is one
+-- there is only one branch unit
 abbrev pub options_in_range : Lists → Bool
 options_in_range axes =
     list_all (is_option 8) axes.alu_units && list_all (is_option 8) axes.mul_units

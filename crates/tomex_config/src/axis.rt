@@ -9,9 +9,9 @@ ghost use Rattle.tomex_config.specs.Grid.{options_in_range, rest_in_range, in_ra
 use crate::config::{UnitOption, is_option};
 use std::alloc::{Allocator, Global};
 
-/// A list of values for each part of a configuration: the stations of the six pools, the options for the
-/// five kinds of unit, the buses, and the issue width. The values may be out of the limits, and a
-/// value may stand twice.
+/// A list of values for each part of a configuration: the stations of the six pools, the options
+/// for the five kinds of unit, the buses, and the issue width. The values may be out of the limits,
+/// and a value may occur twice.
 #[derive(Debug, Drop)]
 pub struct Axes<A: Allocator = Global> {
     pub alu: Vec<u8, A>,
@@ -32,14 +32,15 @@ pub struct Axes<A: Allocator = Global> {
 /// The most configurations that a grid has.
 const MOST_ROWS: usize = 16_384;
 
-/// Whether one of the lengths is 0.
+/// True if one of the lengths is 0.
 fn has_zero(lengths: &[usize]) -> bool
     ensures { result ≡ has_zero lengths.now }
 {
     lengths.iter().any(|length| *length == 0)
 }
 
-/// Whether the product of lengths above 0 is above the limit, told without an overflow.
+/// True if the product of these lengths, all above 0, is above the limit; computed without
+/// overflow.
 fn is_above(lengths: &[usize]) -> bool
     requires { has_zero lengths.now ≡ false }
     ensures { result ≡ nat_lt 16384 (product lengths.now) }
@@ -57,7 +58,7 @@ fn is_above(lengths: &[usize]) -> bool
     false
 }
 
-/// Whether the product of the lengths is above the limit.
+/// True if the product of the lengths is above the limit.
 #[tactic(auto, using(crate::proofs::Lengths::zero_is_small), unfolding(crate::specs::Grid::is_above_limit))]
 fn is_above_limit(lengths: &[usize]) -> bool
     ensures { result ≡ is_above_limit lengths.now }
@@ -68,14 +69,14 @@ fn is_above_limit(lengths: &[usize]) -> bool
     is_above(lengths)
 }
 
-/// Whether each count is from 1 to `most`.
+/// True if each count is from 1 to `most`.
 fn are_counts(counts: &[u8], most: u8) -> bool
     ensures { result ≡ list_all (is_between 1 most) counts.now }
 {
     counts.iter().all(|count| 1 <= *count && *count <= most)
 }
 
-/// Whether each option is within the limits, of which `most` is that of its units.
+/// True if every option is within the limits and has at most `most` units.
 fn are_options(options: &[UnitOption], most: u8) -> bool
     ensures { result ≡ list_all (is_option most) options.now }
 {
@@ -130,7 +131,7 @@ impl<A: Allocator> Axes<A> {
         are_counts(&self.buses, 8) && are_counts(&self.width, 4)
     }
 
-    /// Whether an axis has no value.
+    /// True if an axis has no value.
     #[tactic(auto, unfolding(crate::specs::Grid::has_empty))]
     pub fn has_empty(&self) -> bool
         ensures { result ≡ has_empty (lists_of self.now) }
@@ -138,7 +139,7 @@ impl<A: Allocator> Axes<A> {
         has_zero(self.lengths().as_slice())
     }
 
-    /// Whether each value is within the limits of a configuration.
+    /// True if each value is within the limits of a configuration.
     #[tactic(auto, unfolding(crate::specs::Grid::in_range))]
     pub fn is_in_range(&self) -> bool
         ensures { result ≡ in_range (lists_of self.now) }
@@ -146,7 +147,8 @@ impl<A: Allocator> Axes<A> {
         self.are_stations_in_range() && self.are_options_in_range() && self.are_rest_in_range()
     }
 
-    /// Whether there are more than 16,384 configurations. It takes no memory, and may be asked of any axes.
+    /// True if there are more than 16,384 configurations. Allocates nothing, and may be called for
+    /// any axes.
     pub fn is_too_large(&self) -> bool
         ensures { result ≡ is_too_large (lists_of self.now) }
     {

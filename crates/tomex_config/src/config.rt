@@ -10,7 +10,7 @@ use std::marker::Model;
 use tomex_rvdec::{PoolId, UnitId};
 
 /// A choice for one kind of functional unit: how many there are, the cycles that each takes for an
-/// operation, and what the choice costs as a whole. It may be out of a configuration's limits.
+/// operation, and the cost of the whole choice. It may be out of a configuration's limits.
 #[derive(Clone, Copy, Debug, PartialEq, Eq)]
 pub struct UnitOption {
     pub units: u8,
@@ -19,8 +19,8 @@ pub struct UnitOption {
 }
 
 /// A configuration within the limits: 1 to 16 reservation stations in each pool, 1 to 8 units of
-/// each kind but a single branch unit, latencies of 1 to 64 cycles, 1 to 8 common data buses, and an
-/// issue width of 1 to 4.
+/// each kind but only one branch unit, latencies of 1 to 64 cycles, 1 to 8 common data buses, and
+/// an issue width of 1 to 4.
 #[derive(Clone, Copy, Debug, PartialEq, Eq)]
 pub struct Config {
     stations: [u8; 6],
@@ -41,7 +41,7 @@ impl Model for Config {
     ghost invariant = { λ c. IsWithinLimits (config_of c.stations c.units c.buses c.width) };
 }
 
-/// Whether an option is within the limits, of which `most` is that of its units.
+/// True if the option is within the limits and has at most `most` units.
 pub(crate) fn is_option(option: UnitOption, most: u8) -> bool
     ensures { result ≡ is_option most option }
 {
@@ -53,8 +53,8 @@ pub(crate) fn is_option(option: UnitOption, most: u8) -> bool
 }
 
 impl Config {
-    /// The configuration of these parts, in the order of `PoolId::ALL` and `UnitId::ALL`. `None` where one
-    /// of them is out of the limits.
+    /// The configuration of these parts, in the order of `PoolId::ALL` and `UnitId::ALL`. `None` if
+    /// one of them is out of the limits.
     pub fn new(stations: [u8; 6], units: [UnitOption; 5], buses: u8, width: u8) -> Option<Config>
         ensures lawful { IsSome result ↔ IsWithinLimits (config_of stations units buses width) }
         ensures parts { IfSome result (λ c. c ≡ config_of stations units buses width) }
@@ -74,7 +74,8 @@ impl Config {
         }
     }
 
-    /// One station a pool, one unit of latency 1 and price 0 a kind, one bus, and a width of 1.
+    /// The plain configuration: a station in each pool, a unit of latency 1 and price 0 of each
+    /// kind, one bus, and a width of 1.
     pub(crate) fn plain() -> Config
         ensures { result ≡ plain }
     {
@@ -91,7 +92,7 @@ impl Config {
         }
     }
 
-    /// The configuration with another number of stations in a pool.
+    /// The configuration with `count` stations in a pool.
     pub(crate) fn with_stations(&self, pool: PoolId, count: u8) -> Config
         requires { is_between 1 16 count ≡ true }
         ensures { result ≡ with_stations pool self.now count }
@@ -101,7 +102,7 @@ impl Config {
         Config { stations, ..*self }
     }
 
-    /// The configuration with another option for a kind of unit.
+    /// The configuration with this option for a kind of unit.
     pub(crate) fn with_option(&self, unit: UnitId, option: UnitOption) -> Config
         requires { is_option (most_units unit) option ≡ true }
         ensures { result ≡ with_option unit self.now option }
@@ -111,7 +112,7 @@ impl Config {
         Config { units, ..*self }
     }
 
-    /// The configuration with another number of buses.
+    /// The configuration with `count` buses.
     pub(crate) fn with_buses(&self, count: u8) -> Config
         requires { is_between 1 8 count ≡ true }
         ensures { result ≡ with_buses self.now count }
@@ -122,7 +123,7 @@ impl Config {
         }
     }
 
-    /// The configuration with another width.
+    /// The configuration with this width.
     pub(crate) fn with_width(&self, width: u8) -> Config
         requires { is_between 1 4 width ≡ true }
         ensures { result ≡ with_width self.now width }
@@ -137,7 +138,7 @@ impl Config {
         let _buses = self.buses;
     }
 
-    /// The reservation stations of a pool.
+    /// The number of reservation stations in a pool.
     pub fn stations(&self, pool: PoolId) -> u8
         ensures count { result ≡ stations_of self.now pool }
         ensures range { (1 ≤ result) × (result ≤ 16) }
@@ -161,7 +162,7 @@ impl Config {
         self.option(unit).units
     }
 
-    /// The cycles that a unit of a kind takes for an operation.
+    /// The latency of a kind of unit, in cycles.
     pub fn latency(&self, unit: UnitId) -> u8
         ensures cycles { result ≡ (option_of self.now unit).latency }
         ensures range { (1 ≤ result) × (result ≤ 64) }
@@ -169,7 +170,7 @@ impl Config {
         self.option(unit).latency
     }
 
-    /// The common data buses.
+    /// The number of common data buses.
     pub fn buses(&self) -> u8
         ensures count { result ≡ self.now.buses }
         ensures range { (1 ≤ result) × (result ≤ 8) }
@@ -177,7 +178,7 @@ impl Config {
         self.buses
     }
 
-    /// How many instructions issue in a cycle at most.
+    /// The most instructions that issue in a cycle.
     pub fn width(&self) -> u8
         ensures count { result ≡ self.now.width }
         ensures range { (1 ≤ result) × (result ≤ 4) }

@@ -1,5 +1,5 @@
-//! Configurations of a Tomasulo machine: their parts, what they cost, and the grid of
-//! all configurations that the axes of a study span.
+//! Configurations of a Tomasulo machine: their parts, their costs, and the grid of all
+//! configurations that the axes of a study span.
 //!
 //! Source of the parts: R. M. Tomasulo, "An Efficient Algorithm for Exploiting Multiple Arithmetic
 //! Units", 1967, and the chapter on Tomasulo's algorithm in Hennessy and Patterson's "Computer

@@ -1,4 +1,4 @@
-//! What a configuration costs.
+//! The cost of a configuration.
 
 ghost use Rattle.std.specs.Prelude.{◌≡◌, ◌≤◌, ◌*◌, true};
 ghost use Rattle.std.specs.List.{list_all};
@@ -78,7 +78,7 @@ impl Prices {
     }
 }
 
-/// What the stations of one pool cost.
+/// The cost of one pool's stations.
 fn pool_cost(config: &Config, prices: &Prices, pool: PoolId) -> u64
     ensures cost { result ≡ stations_of config.now pool * price_of prices.now pool }
     ensures bound { result ≤ 16000000 }
@@ -86,7 +86,7 @@ fn pool_cost(config: &Config, prices: &Prices, pool: PoolId) -> u64
     u64::from(config.stations(pool)) * u64::from(prices.station(pool))
 }
 
-/// What the stations of all pools cost.
+/// The cost of all stations.
 fn stations_cost(config: &Config, prices: &Prices) -> u64
     ensures cost { result ≡ stations_cost config.now prices.now }
     ensures bound { result ≤ 96000000 }
@@ -98,7 +98,7 @@ fn stations_cost(config: &Config, prices: &Prices) -> u64
     total
 }
 
-/// What the chosen option for one kind of unit costs.
+/// The cost of the chosen option for one kind of unit.
 fn option_cost(config: &Config, unit: UnitId) -> u64
     ensures cost { result ≡ (option_of config.now unit).price }
     ensures bound { result ≤ 1000000 }
@@ -106,7 +106,7 @@ fn option_cost(config: &Config, unit: UnitId) -> u64
     u64::from(config.option(unit).price)
 }
 
-/// What the chosen options cost.
+/// The cost of the chosen options.
 fn options_cost(config: &Config) -> u64
     ensures cost { result ≡ options_cost config.now }
     ensures bound { result ≤ 5000000 }
@@ -118,8 +118,8 @@ fn options_cost(config: &Config) -> u64
     total
 }
 
-/// What a configuration costs: its stations, its buses and its width at these prices, and its options at their
-/// own.
+/// The cost of a configuration: its stations, buses and width at these prices, and its options at
+/// their own.
 pub fn cost(config: &Config, prices: &Prices) -> u64
     ensures cost { result ≡ cost_of config.now prices.now }
     ensures bound { result ≤ 113000000 }

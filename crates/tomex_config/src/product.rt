@@ -14,7 +14,7 @@ use std::alloc::{AllocError, Allocator};
 use thiserror::Error;
 use tomex_rvdec::{PoolId, UnitId};
 
-/// Why there is no grid of some axes. The first of these that holds is told.
+/// Why axes have no grid: the first of these that holds.
 #[derive(Clone, Copy, Debug, PartialEq, Eq, Error)]
 pub enum GridError {
     #[error("an axis is empty")]
@@ -102,7 +102,7 @@ fn vary_width<A: Allocator + Clone>(
     Ok(varied)
 }
 
-/// A configuration for each choice of stations.
+/// The configurations for each choice of stations.
 fn station_rows<A: Allocator + Clone>(
     alloc: &A,
     axes: &Axes<A>,
@@ -119,7 +119,7 @@ fn station_rows<A: Allocator + Clone>(
     vary_stations(alloc, &rows, PoolId::Bru, &axes.bru)
 }
 
-/// A configuration for each choice of stations and options.
+/// The configurations for each choice of stations and options.
 fn option_rows<A: Allocator + Clone>(
     alloc: &A,
     axes: &Axes<A>,
@@ -136,7 +136,7 @@ fn option_rows<A: Allocator + Clone>(
     vary_option(alloc, &rows, UnitId::Bru, &axes.bru_units)
 }
 
-/// A configuration for each choice of stations, options and buses.
+/// The configurations for each choice of stations, options and buses.
 fn bus_rows<A: Allocator + Clone>(alloc: &A, axes: &Axes<A>) -> Result<Vec<Config, A>, AllocError>
     requires stations { stations_in_range (lists_of axes.now) ≡ true }
     requires options { options_in_range (lists_of axes.now) ≡ true }
@@ -147,7 +147,7 @@ fn bus_rows<A: Allocator + Clone>(alloc: &A, axes: &Axes<A>) -> Result<Vec<Confi
     vary_buses(alloc, &rows, &axes.buses)
 }
 
-/// A configuration for each choice of all parts.
+/// The configurations for each choice of all parts.
 #[tactic(auto, unfolding(crate::specs::Grid::in_range))]
 fn rows_of<A: Allocator + Clone>(alloc: &A, axes: &Axes<A>) -> Result<Vec<Config, A>, AllocError>
     requires { in_range (lists_of axes.now) ≡ true }
@@ -157,8 +157,9 @@ fn rows_of<A: Allocator + Clone>(alloc: &A, axes: &Axes<A>) -> Result<Vec<Config
     vary_width(alloc, &rows, &axes.width)
 }
 
-/// The configurations of the axes: each choice of a value from each list is a configuration, and the last axis varies
-/// fastest. There are at most 16,384. A value that stands twice gives two configurations.
+/// The configurations of the axes: each choice of a value from each list is a configuration, and
+/// the last axis varies fastest. There are at most 16,384. A value that occurs twice gives two
+/// configurations.
 #[tactic(auto, using(crate::proofs::Counted::row_count), unfolding(crate::specs::Grid::grid_of))]
 pub fn grid<A: Allocator + Clone>(alloc: A, axes: &Axes<A>) -> Result<Vec<Config, A>, GridError>
     ensures exact { Gives (λ v. v.items) result (grid_of (lists_of axes.now)) }

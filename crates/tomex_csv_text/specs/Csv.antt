@@ -8,7 +8,7 @@ use Rattle.csv.specs.Writing.{writer_pending, fields_written, has_written}
 abbrev pub record_text : List (List ℕ) → List ℕ
 record_text fields = row_text default_writer fields
 
--- all that a writer into a list of bytes wrote, also what it still holds
+-- all that a writer into a list of bytes wrote, including what it still buffers
 abbrev pub written : {W : Type 0} → (W → List ℕ) → Writer W → List ℕ
 written items writer = items (writer_under writer) ++ writer_pending writer
 

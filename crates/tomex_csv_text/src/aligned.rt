@@ -1,4 +1,4 @@
-//! Texts that are aligned, at their right or at their left.
+//! Texts that are aligned, to the right or to the left.
 
 ghost use Rattle.std.specs.Prelude.{◌≡◌, ◌++◌, codes, OnOk, string_bytes};
 ghost use Rattle.std.specs.Fmt.{decimal};
@@ -8,7 +8,6 @@ ghost use Rattle.tomex_csv_text.specs.Aligned.{left_aligned, right_aligned};
 use std::alloc::{AllocError, Allocator};
 use std::fmt::Write;
 
-/// Adds spaces.
 fn push_spaces<A: Allocator>(text: &mut String<A>, count: usize) -> Result<(), AllocError>
     ensures { OnOk result (string_bytes text.new
         ≡ string_bytes text.old ++ repeat count (codes " ")) }

@@ -1,4 +1,4 @@
-//! The fields of records, added one after the other by way of a text that is used again.
+//! The fields of records, added one after another through a reused text.
 
 ghost use Rattle.std.specs.Prelude.{◌≡◌, ◌++◌, ◌∷◌, [], OnOk, map};
 ghost use Rattle.std.specs.Fmt.{decimal};
@@ -27,7 +27,7 @@ pub fn push_decimal(
     fields.push_field(scratch.as_bytes())
 }
 
-/// Adds what a step is: its address in eight hexadecimal digits, and its instruction.
+/// Adds a step: its address in eight hexadecimal digits, and its instruction.
 pub fn push_instruction(
     fields: &mut ByteRecord,
     scratch: &mut String,

@@ -1,4 +1,4 @@
-//! What reports are written of: records of CSV, by the crate `csv` with its defaults, texts that are aligned, and
+//! The elements of reports: CSV records, by the crate `csv` with its defaults, aligned texts, and
 //! numbers of hundredths.
 #![tactic(auto)]
 

@@ -1,4 +1,4 @@
-//! Records written one after the other into a text.
+//! Records, written one after another into a text.
 
 ghost use Rattle.std.specs.Prelude.{◌≡◌, ◌++◌, IfOk, OnOk};
 ghost use Rattle.csv.specs.Records.{fields_of};
@@ -7,7 +7,7 @@ ghost use Rattle.tomex_csv_text.specs.Csv.{IsReady, record_text, written};
 use csv::{ByteRecord, Writer};
 use std::alloc::{AllocError, Allocator};
 
-/// Writes a record. Over a list of bytes only memory can fail.
+/// Writes a record. Writing to a list of bytes can fail only by running out of memory.
 pub fn put_record<A: Allocator>(
     writer: &mut Writer<Vec<u8, A>>,
     fields: &ByteRecord,

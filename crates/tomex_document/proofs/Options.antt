@@ -79,7 +79,7 @@ some_options unit number (item value values) options some given =
     subst (λ (os : List UnitOption). (length os == 0) ≡ false)
     (same_value (option ∷ rest) options (Ok (option ∷ rest)) refl given_2) (not_zero (length rest))
 
--- where the tables of a kind are there, there are some
+-- if the tables of a kind are present, there is at least one
 abbrev pub HasTables : Option Items → Type 0
 HasTables None = Unit {0}
 HasTables (Some values) = (items_count values == 0) ≡ false

@@ -1,4 +1,4 @@
--- What a document's parts were read from.
+-- The tables from which a document's parts were read.
 use Rattle.std.proofs.Common.{◌≡◌, false, [], ◌∷◌, Ok, subst}
 use Rattle.toml.specs.Data.{Items, Members}
 use Rattle.tomex_config.specs.Grid.{is_too_large}

@@ -1,4 +1,4 @@
--- An array of fewer or more than two values is no range of memory.
+-- An array of fewer or more than two values isn't a range of memory.
 use Rattle.std.proofs.Common.{◌≡◌, ◌<◌, ◌≤◌, List, [], ◌∷◌, length, Some, Err, refl, arith}
 use Rattle.toml.specs.View.{items_view}
 use Rattle.toml.specs.declared.value.Value.{Value}

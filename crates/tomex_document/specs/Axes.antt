@@ -49,7 +49,7 @@ axis_counts members = do
   width ← counts_at place.Axes key.Width 4 members
   Ok (record { alu = alu; mul = mul; div = div; load = load; store = store; bru = bru; buses = buses; width = width })
 
--- the places of the unit, and then the options of each kind, of which a whole is put together
+-- the places of the unit, and then the options of each kind, from which the axes are made
 abbrev pub unit_options : Members → (List UnitOption → List UnitOption → List UnitOption → List UnitOption
     → List UnitOption → Lists) → Reading Lists
 unit_options unit whole = do

@@ -1,4 +1,4 @@
--- The document of a study: what its bytes stand for, or the first test that they fail.
+-- The document of a study, read from its bytes, or the first test that they fail.
 use Rattle.std.specs.Prelude.{ℕ, Bool, ◌||◌, List, [], ◌∷◌, map, Option, Some, None, Ok, Err, if◌then◌else◌}
 use Rattle.std.specs.List.{list_any}
 use Rattle.std.specs.Str.{is_utf8}
@@ -32,12 +32,12 @@ members_or (Some members) = Ok members
 unfoldable pub members_of : List ℕ → Reading Members
 members_of bytes = if is_utf8 bytes then members_or (parse_document bytes) else Err Syntax
 
--- the weight of a program, the price of the width or an axis of widths is said
+-- the document gives the weight of a program, the price of the width or an axis of widths
 abbrev pub is_wide : List ProgramEntry → Members → Members → Bool
 is_wide programs prices axes =
     list_any (λ entry. entry.weighed) programs || (has_key key.Width prices || has_key key.Width axes)
 
--- place by place: the programs, the prices, the axes, and whether these span too many configurations
+-- place by place: the programs, the prices, the axes, and the test that these don't span too many configurations
 abbrev pub outline_from : Items → Members → Members → Members → Reading Document
 outline_from tables price_table axis_table unit = do
   programs ← programs_of 1 [] tables
@@ -62,7 +62,7 @@ outline_of top = do
   unit ← table_at place.Top key.Unit top
   outline_from tables price_table axis_table unit
 
--- what the bytes stand for
+-- the document of these bytes
 unfoldable pub document_of : List ℕ → Reading Document
 document_of bytes = members_of bytes >>= outline_of
 

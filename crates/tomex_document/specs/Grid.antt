@@ -1,4 +1,4 @@
--- What the tests of a document leave to say of the grid of its axes: nothing.
+-- A document that passes its tests has a grid.
 use Rattle.std.specs.Prelude.{◌≡◌, true, false}
 use Rattle.tomex_config.specs.Grid.{Lists, has_empty, in_range, is_too_large}
 

@@ -26,7 +26,7 @@ pub record ProgramEntry : Type 0 where
   pub limit : ℕ
   pub watch : List WatchRange
   pub weight : ℕ
-  -- the study says the weight
+  -- the study gives the weight
   pub weighed : Bool
 
 abbrev pub entry_of : (name file : List ℕ) → Span → (limit : ℕ) → List WatchRange → (weight : ℕ) → Bool → ProgramEntry
@@ -48,7 +48,7 @@ is_name_byte b = (nat_le 97 b && nat_le b 122) || (nat_le 48 b && nat_le b 57) |
 abbrev pub is_name : List ℕ → Bool
 is_name text = nat_le 1 (length text) && nat_le (length text) 32 && list_all is_name_byte text
 
--- what the tests of its place have shown of a program
+-- what the tests of its place guarantee of a program
 pub record IsProgramEntry (entry : ProgramEntry) : Type 0 where
   pub name : is_name entry.name ≡ true
   pub file : entry.file ≢ []
@@ -68,7 +68,7 @@ abbrev pub text_from : Place → Key → Option (List ℕ) → Reading (List ℕ
 text_from place key None = Err (Kind place key)
 text_from place key (Some text) = Ok text
 
--- a value that has to be there, as a text
+-- a value that must be present, as a text
 abbrev pub text_or : Place → Key → Option Data → Reading (List ℕ)
 text_or place key None = Err (MissingKey place key)
 text_or place key (Some value) = text_from place key (as_str value)
@@ -93,7 +93,7 @@ file_at place members = do
 abbrev pub size_most : ℕ → ℕ
 size_most base = min 1048576 (4294967296 - base)
 
--- the window that the image is to stand in
+-- the window of the image
 unfoldable pub window_at : Place → Members → Reading Span
 window_at place members = do
   base ← number_at place key.Base (words_between 0 4294967292) 0 members
@@ -136,7 +136,7 @@ programs_of number earlier (item value values) =
 abbrev pub few_programs : Items → Reading Items
 few_programs tables = if nat_le (items_count tables) 8 then Ok tables else Err (Range place.Top key.Program)
 
--- an array that has to be there
+-- an array that must be present
 abbrev pub program_tables_or : Option Data → Reading Items
 program_tables_or None = Err (MissingKey place.Top key.Program)
 program_tables_or (Some value) = tables_from place.Top key.Program (as_array value) >>= few_programs

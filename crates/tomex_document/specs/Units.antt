@@ -14,7 +14,7 @@ use Rattle.tomex_values.specs.Table.{known_keys}
 use Rattle.tomex_values.specs.Numbers.{between, number_at}
 use Rattle.tomex_values.specs.Lists.{tables_at}
 
--- the tables of each kind, where they are there
+-- the tables of each kind, if the document has them
 pub record UnitTables : Type 0 where
   pub alu : Option Items
   pub mul : Option Items
@@ -43,7 +43,7 @@ unit_tables members = do
   bru ← tables_at place.Unit key.Bru members
   Ok (record { alu = alu; mul = mul; div = div; mem = mem; bru = bru })
 
--- an option of at most so many units
+-- an option with at most `most` units
 unfoldable pub option_of : Place → ℕ → Members → Reading UnitOption
 option_of place most members = do
   _ ← known_keys place (key.Units ∷ key.Latency ∷ key.Price ∷ []) members
@@ -64,7 +64,7 @@ options_from unit number (item value values) =
     option_from unit number (as_table value)
     >>= (λ option. options_from unit (number + 1) values >>= (λ options. Ok (option ∷ options)))
 
--- the options of a kind; where it isn't there one plain option
+-- the options of a kind; one plain option if it is absent
 abbrev pub options_of : UnitId → Option Items → Reading (List UnitOption)
 options_of unit None = Ok (plain_option ∷ [])
 options_of unit (Some tables) = options_from unit 1 tables

@@ -1,4 +1,4 @@
--- The ranges of memory that a program's entry asks to be shown.
+-- The ranges of memory that a program's entry asks reports to show.
 use Rattle.std.specs.Prelude.{◌+◌, ◌-◌, Bool, false, nat_le, List, [], length}
 use Rattle.std.specs.Prelude.{Option, Some, None, Ok, Err, if◌then◌else◌}
 use Rattle.toml.specs.Data.{Data, Items, no_items, item, Members, as_array}
@@ -17,7 +17,7 @@ abbrev pub is_integers_from : Option Items → Bool
 is_integers_from None = false
 is_integers_from (Some values) = all_items is_integer values
 
--- an array of integers alone
+-- an array of only integers
 abbrev pub is_integers : Data → Bool
 is_integers value = is_integers_from (as_array value)
 

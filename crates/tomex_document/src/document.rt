@@ -1,4 +1,4 @@
-//! The document of a study: what its bytes stand for.
+//! The document of a study, read from its bytes.
 
 ghost use Rattle.std.specs.Prelude.{◌≡◌, ◌≤◌, length};
 ghost use Rattle.std.specs.List.{list_any};
@@ -65,21 +65,21 @@ fn members_of(heap: Global, study: &[u8]) -> Result<Table, DocumentError>
     }
 }
 
-/// Whether the weight of a program is said.
+/// True if the document gives a program's weight.
 fn is_weighed<A: Allocator>(programs: &[Entry<A>]) -> bool
     ensures { result ≡ list_any (λ entry. entry.weighed) programs.now }
 {
     programs.iter().any(|entry| entry.weighed())
 }
 
-/// Whether the document says the weight of a program, the price of the width, or widths.
+/// True if the document gives a program's weight, the price of the width, or widths.
 fn is_wide<A: Allocator>(programs: &[Entry<A>], prices: &Table, axes: &Table) -> bool
     ensures { result ≡ is_wide programs.now (table_view prices.now) (table_view axes.now) }
 {
     is_weighed(programs) || has_key(prices, Key::Width) || has_key(axes, Key::Width)
 }
 
-/// What these tables stand for, place by place.
+/// The outline that these tables give, place by place.
 fn outline_from<A: Allocator + Clone>(
     alloc: A,
     tables: &[Value],
@@ -125,7 +125,7 @@ fn outline_of<A: Allocator + Clone>(
     outline_from(alloc, tables, price_table, axis_table, unit)
 }
 
-/// What the bytes of a study stand for, or the first test of the document that they fail.
+/// The outline that the bytes of a study give, or the first test of the document that they fail.
 #[tactic(auto, unfolding(crate::specs::Document::document_of))]
 pub fn document_of<A: Allocator + Clone>(
     alloc: A,

@@ -1,5 +1,5 @@
-//! What the bytes of a study stand for, before its programs' files are read: a TOML document whose places
-//! and keys are tested one after the other.
+//! The document of a study, before its programs' files are read: TOML, whose places and keys are
+//! tested one after another.
 #![tactic(auto)]
 
 mod document;

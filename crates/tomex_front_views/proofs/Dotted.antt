@@ -1,4 +1,4 @@
--- The table of the points at which rows stand, one row later, and its columns.
+-- The table of the rows' points, one row later, and its columns.
 use Rattle.std.proofs.Common.{◌≡◌, ◌∙◌, ap, refl, sym, arith, ℕ, zero, suc, ◌+◌}
 use Rattle.std.proofs.Common.{◌-◌, ◌*◌, ◌/◌, ◌<◌, ◌≤◌, Bool, true, false, inl, inr}
 use Rattle.std.proofs.Common.{List, [], ◌∷◌, drop, get_or, get_or-drop, get_or-take, length, map, take, min}
@@ -18,7 +18,7 @@ use Rattle.tomex_front_views.specs.Dots.{IsTable, all_y, has_dot, stands_at}
 use Rattle.tomex_front_views.specs.declared.plot.axes.Axes.{Axes}
 use Rattle.tomex_front_views.specs.declared.plot.axes.Span.{Span}
 
--- rows stand in the picture
+-- rows lie in the picture
 along_most : (span : Span) (far value : ℕ) → along span far value ≤ far
 unfolding along
 along_most span far value = most (nat_le span.greatest span.least)
@@ -55,7 +55,7 @@ none_marked axes marks is = record {
       ∙ get_or-replicate (513 * 281) (column * 281 + line) false false (omega arith);
 }
 
--- the place at which a row stands, by column and line
+-- the place of a row's point, by column and line
 module _ (axes : Axes) (r : FrontRow) (place column line : ℕ)
     (at : place ≡ (x_of axes r.cost - 136) * 281 + (y_of axes r.cycles - 80)) (low : column < 513) (high : line < 281)
   where
@@ -85,7 +85,7 @@ or_false : (b : Bool) → (b || false) ≡ b
 or_false true = refl
 or_false false = refl
 
--- one row more
+-- one more row
 pub one_marked : (axes : Axes) (rows : List FrontRow) (k : ℕ) (d : FrontRow) (marks : List Bool) (place : ℕ)
     → k < length rows
     → place ≡ (x_of axes (get_or rows k d).cost - 136) * 281 + (y_of axes (get_or rows k d).cycles - 80)
@@ -140,7 +140,7 @@ column_is axes rows marks column first is low at =
     ∙ (ap (λ (n : ℕ). get_or marks (n + line) false) at ∙ is.each column line low high)))
     ∙ shifted (has_dot axes rows (136 + column)) 80 0 281
 
--- no row stands above it
+-- no row lies above it
 pub none_above : (axes : Axes) (rows : List FrontRow) (x : ℕ) → has_dot axes rows x 79 ≡ false
 unfolding has_dot
 none_above axes rows x = list_any_none (stands_at axes x 79) rows (λ k d low. not_there (get_or rows k d))

@@ -1,4 +1,4 @@
--- Pieces of text that are added one after the other.
+-- Pieces of text that are added one after another.
 use Rattle.std.proofs.Common.{◌≡◌, ◌∙◌, ℕ, List, ap, append_assoc, ◌++◌}
 
 pub two_pieces : (s0 s1 s2 a b : List ℕ) → s1 ≡ s0 ++ a → s2 ≡ s1 ++ b → s2 ≡ s0 ++ (a ++ b)

@@ -42,7 +42,7 @@ greatest_step = refl
 abbrev row : ℕ → ℕ → ℕ → FrontRow
 row n cost cycles = record { row = n; cost = cost; cycles = cycles }
 
--- the first row has no rate, nor has one that is the equal of the row before
+-- the first row has no rate, nor has one that equals the row before
 some_rates : rates_after None (row 4 101 54153 ∷ row 132 107 44727 ∷ row 7 107 44727 ∷ row 196 115 37515 ∷ [])
     ≡ codes "-" ∷ hundredths 157100 ∷ codes "-" ∷ hundredths 90150 ∷ []
 some_rates = refl

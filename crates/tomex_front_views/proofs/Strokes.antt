@@ -48,7 +48,7 @@ no_x : (column : ℕ) → 513 ≤ column → x_from column ≡ []
 unfolding x_from
 no_x column past = ap (range_with_len (136 + column)) (let e : 513 - column ≡ 0 = omega arith in e)
 
--- the text of one more
+-- the text of one more point
 one_more : (f : ℕ → List ℕ) (n : ℕ) (from next : List ℕ) (before after whole : List ℕ) → from ≡ n ∷ next
     → after ≡ before ++ f n → before ++ flat_map f from ≡ whole → after ++ flat_map f next ≡ whole
 one_more f n from next before after whole step grown so_far =
@@ -66,7 +66,7 @@ pub column_more : (f : ℕ → List ℕ) (column : ℕ) (before after whole : Li
     → after ++ flat_map f (x_from (column + 1)) ≡ whole
 column_more f column before after whole low = one_more f (136 + column) _ _ before after whole (next_x column low)
 
--- and no more are to come
+-- after the last one
 pub lines_over : (f : ℕ → List ℕ) (line : ℕ) (text whole : List ℕ) → 281 ≤ line
     → text ++ flat_map f (y_from line) ≡ whole → text ≡ whole
 lines_over f line text whole past so_far =
@@ -85,7 +85,7 @@ read_at dot column line y is low at =
     ap (λ (bs : List Bool). get_or bs line false) is
     ∙ get_or-map-range_with_len dot 80 281 line y false low at
 
--- whether there is a dot above
+-- there is a dot above
 abbrev pub above : List Bool → ℕ → Bool
 above column line = if nat_eq line 0 then false else get_or column (line - 1) false
 
@@ -129,7 +129,7 @@ prefix_map : (dot : ℕ → Bool) (ns : List ℕ) → prefix_len (λ (b : Bool).
 prefix_map dot [] = refl
 prefix_map dot (n ∷ ns) = ap (λ (k : ℕ). cond (dot n) (1 + k) 0) (prefix_map dot ns)
 
--- how far it goes
+-- how far a stroke goes
 pub reach_is : (dot : ℕ → Bool) (column : List Bool) (line : ℕ) → column ≡ map dot all_y → line < 281
     → prefix_len (λ b. b) (drop (line + 1) column) ≡ reach dot (80 + line)
 unfolding all_y reach
@@ -143,7 +143,7 @@ reach_is dot column line is low =
     ∙ (ap (λ (n : ℕ). prefix_len dot (range_with_len n (281 - (line + 1)))) e
     ∙ ap (λ (n : ℕ). prefix_len dot (range_with_len (80 + line + 1) n)) f))))
 
--- what is written there
+-- the text that is written there
 pub written : (dot : ℕ → Bool) (column : List Bool) (x line far : ℕ) (b : Bool) (before after : List ℕ)
     → dot 79 ≡ false → column ≡ map dot all_y → line < 281
     → b ≡ (get_or column line false && not (above column line)) → b ≡ true

@@ -1,4 +1,4 @@
--- How long columns are.
+-- The lengths of columns.
 use Rattle.std.proofs.Common.{◌≡◌, ◌∙◌, ◌<◌, ◌≤◌, ap, arith, cond, refl, sym, ℕ, suc, max, List, [], ◌∷◌, ◌++◌}
 use Rattle.std.proofs.Common.{length, map, Option, Some, None}
 use Rattle.std.specs.Prelude.{All, Bool, true, false, if◌then◌else◌, nat_lt}
@@ -74,19 +74,19 @@ columns_long s front =
     (all_map P (program_column s front) s.programs (program_long s front)) in
     All-append P (own_columns s front) (program_columns s front) own programs
 
--- they are pushed one after the other
+-- columns are pushed one after another
 pub all_columns : (s : DesignSpace) (front : List FrontRow) (none own all : List TableColumn) → none ≡ []
     → own ≡ none ++ own_columns s front → all ≡ own ++ program_columns s front → all ≡ own_columns s front
     ++ program_columns s front
 all_columns s front none own all empty first last = rw (last, first, empty) refl
 
--- of several programs each has a column
+-- if there are several programs, each has a column
 pub several_columns : (s : DesignSpace) (front : List FrontRow) → 1 < length s.programs
     → map (program_column s front) s.programs ≡ program_columns s front
 several_columns s front several =
     ap (λ (t : Bool). cond t (map (program_column s front) s.programs) []) (sym (lt-ltb 1 (length s.programs) several))
 
--- and a single one has none
+-- if there is only one, it has none
 pub no_column : (s : DesignSpace) (front : List FrontRow) → length s.programs ≤ 1 → [] ≡ program_columns s front
 no_column s front one =
     ap (λ (t : Bool). cond t (map (program_column s front) s.programs) []) (sym (le-ltb 1 (length s.programs) one))

@@ -1,4 +1,4 @@
--- What holds place by place.
+-- Facts that hold place by place.
 use Rattle.std.proofs.Common.{◌≡◌, sym, subst, arith, ℕ, zero, suc, ◌<◌, List, [], ◌∷◌, length, get_or}
 use Rattle.std.specs.List.{AllZip}
 

@@ -1,6 +1,5 @@
--- The axes of a picture of the front: where costs stand from left to right, and cycles from bottom to top, and the
--- round numbers beside them.
--- All numbers are whole, quotients are rounded down; a picture's y grows downwards.
+-- The axes of a picture of the front: costs from left to right, cycles from bottom to top, and the round numbers
+-- beside them. All numbers are whole, quotients are rounded down; a picture's y grows downwards.
 use Rattle.std.specs.Prelude.{ℕ, ◌+◌, ◌-◌, ◌*◌, ◌/◌, ◌^◌, min, max, nat_le, if◌then◌else◌, List, [], ◌∷◌, map}
 use Rattle.std.specs.Int.{div_ceil}
 use Rattle.std.specs.List.{flat_map, fold, range_with_len}
@@ -9,11 +8,11 @@ use Rattle.tomex_front_views.specs.declared.plot.axes.Axes.{Axes}
 use Rattle.tomex_front_views.specs.declared.plot.axes.Point.{Point}
 use Rattle.tomex_front_views.specs.declared.plot.axes.Span.{Span}
 
--- from a value to the same value
+-- the span of only this value
 abbrev pub only : ℕ → Span
 only value = record { least = value; greatest = value }
 
--- as far as this value too
+-- extended to include this value
 abbrev pub widened : Span → ℕ → Span
 widened span value = record { least = min span.least value; greatest = max span.greatest value }
 
@@ -25,17 +24,17 @@ abbrev pub axes_of : List FrontRow → Axes
 axes_of [] = record { costs = only 0; cycles = only 0 }
 axes_of (r ∷ rows) = fold with_row (record { costs = only r.cost; cycles = only r.cycles }) rows
 
--- how far a value of a span is from the least, if the greatest is so far from it; halfway where it is the only one
+-- a value's position on an axis of length `far`; the middle if all values are equal
 unfoldable pub along : Span → ℕ → ℕ → ℕ
 along span far value =
     if nat_le span.greatest span.least then far / 2
     else (min value span.greatest - span.least) * far / (span.greatest - span.least)
 
--- where a cost stands: from 136 to 648
+-- the position of a cost: from 136 to 648
 unfoldable pub x_of : Axes → ℕ → ℕ
 x_of axes cost = 136 + along axes.costs 512 cost
 
--- where cycles stand: from 360 up to 80
+-- the position of cycles: from 360 up to 80
 unfoldable pub y_of : Axes → ℕ → ℕ
 y_of axes cycles = 360 - along axes.cycles 280 cycles
 
@@ -50,7 +49,7 @@ round_in k = 10 ^ k ∷ 2 * 10 ^ k ∷ 5 * 10 ^ k ∷ []
 abbrev pub round_numbers : List ℕ
 round_numbers = flat_map round_in (range_with_len 0 19)
 
--- the first of these steps of which six are at least as long as a distance
+-- the first of these steps for which six are at least as long as the distance `far`
 abbrev pub first_enough : ℕ → List ℕ → ℕ
 first_enough far [] = 10 ^ 19
 first_enough far (step ∷ steps) = if nat_le far (6 * step) then step else first_enough far steps

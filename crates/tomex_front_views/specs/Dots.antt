@@ -9,11 +9,11 @@ use Rattle.tomex_pareto.specs.declared.front_row.FrontRow.{FrontRow}
 use Rattle.tomex_front_views.specs.Axes.{x_of, y_of}
 use Rattle.tomex_front_views.specs.declared.plot.axes.Axes.{Axes}
 
--- a row stands at a point
+-- a row has this point
 abbrev pub stands_at : Axes → ℕ → ℕ → FrontRow → Bool
 stands_at axes x y r = x_of axes r.cost == x && y_of axes r.cycles == y
 
--- some row does
+-- some row has this point
 unfoldable pub has_dot : Axes → List FrontRow → ℕ → ℕ → Bool
 has_dot axes rows x y = list_any (stands_at axes x y) rows
 
@@ -46,7 +46,7 @@ column_text dot x = flat_map (stroke_at dot x) all_y
 unfoldable pub dots : Axes → List FrontRow → List ℕ
 dots axes rows = flat_map (λ x. column_text (has_dot axes rows x) x) all_x
 
--- how wide strokes are: narrower if rows are many
+-- the width of strokes: narrower if there are many rows
 abbrev pub width_of : ℕ → ℕ
 width_of rows = if nat_le rows 1024 then 3 else 2
 
@@ -59,7 +59,8 @@ dots_line axes rows =
     codes "<path d=\"" ++ (dots axes rows ++ (codes "\" fill=\"none\" stroke=\"#a9b8c9\" stroke-width=\""
     ++ (decimal (width_of (length rows)) ++ round_ends)))
 
--- a mark for each point of the picture, column by column from the left, in a column from the top: whether it has a dot
+-- a mark for each point of the picture, column by column from the left, in a column from the top: true if it has a
+-- dot
 pub record IsTable (axes : Axes) (rows : List FrontRow) (marks : List Bool) : Type 0 where
   pub count : length marks ≡ 513 * 281
   pub each : (column line : ℕ) → column < 513 → line < 281

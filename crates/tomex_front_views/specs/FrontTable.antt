@@ -22,7 +22,7 @@ use Rattle.tomex_front_views.specs.declared.table.heading.Heading.TheVariants.{S
 use Rattle.tomex_front_views.specs.declared.table.heading.Setting.{Setting}
 use Rattle.tomex_front_views.specs.declared.table.heading.Setting.TheVariants.{Count, Latency}
 
--- what a row says of itself, in the order of the front report's columns
+-- the settings of a row, in the order of the front report's columns
 abbrev pub all_settings : List Setting
 all_settings =
     Count (Stations pools.Alu) ∷ Count (Stations pools.Mul) ∷ Count (Stations pools.Div)
@@ -42,7 +42,7 @@ abbrev pub setting_of : Configuration → Setting → ℕ
 setting_of config (Count part) = count_of config part
 setting_of config (Latency unit) = (option_of config unit).latency
 
--- two of the rows differ in it: one does from the first
+-- two of the rows differ in it: some row and the first one
 unfoldable pub differs : List Configuration → Setting → Bool
 differs [] setting = false
 differs (first ∷ rows) setting = list_any (λ config. not (setting_of config setting == setting_of first setting)) rows
@@ -56,7 +56,7 @@ name_of_heading (OfSetting setting) = name_of_setting setting
 abbrev pub config_of : DesignSpace → FrontRow → Configuration
 config_of s r = slice_index_or s.rows r.row plain
 
--- what a front row has under a heading
+-- the number under a heading for a front row
 unfoldable pub number_under : DesignSpace → Heading → FrontRow → ℕ
 number_under s OfRow r = r.row
 number_under s Cost r = r.cost
@@ -67,7 +67,7 @@ unfoldable pub heading_column : DesignSpace → List FrontRow → Heading → Ta
 heading_column s front heading =
     record { name = name_of_heading heading; entries = map (λ r. decimal (number_under s heading r)) front }
 
--- how many cycles a row takes fewer than the row before, for 1 of what it costs more
+-- the cycles that a row saves over the row before, for 1 of extra cost
 abbrev pub rate_after : Option FrontRow → FrontRow → List ℕ
 rate_after None r = codes "-"
 rate_after (Some before) r =
@@ -100,7 +100,7 @@ cycles_on s front p = map (λ r. total (config_of s r) p.image) front
 abbrev pub program_column : DesignSpace → List FrontRow → Workload → TableColumn
 program_column s front p = record { name = p.name; entries = map decimal (cycles_on s front p) }
 
--- a column for each program where there are several
+-- a column for each program if there are several
 abbrev pub program_columns : DesignSpace → List FrontRow → List TableColumn
 program_columns s front = if nat_lt 1 (length s.programs) then map (program_column s front) s.programs else []
 

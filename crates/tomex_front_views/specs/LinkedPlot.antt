@@ -1,4 +1,4 @@
--- The picture of a study's front over all of its rows, in a page whose views are rows: the circles of these rows are links
+-- The picture of a study's front over all of its rows, in a page whose views are rows: the circles of these rows link
 -- to them.
 -- Source: the HTML Living Standard, 4.8.16 (SVG in HTML); Scalable Vector Graphics 1.1, section 17.1 (links).
 use Rattle.std.specs.Prelude.{ℕ, ◌==◌, Bool, if◌then◌else◌, List, ◌++◌, codes, length, None}
@@ -29,7 +29,7 @@ unfoldable pub linked_circle : Axes → ℕ → List FrontRow → FrontRow → L
 linked_circle axes radius shown r =
     if is_shown shown r.row then link_to r.row (circle axes radius r) else circle axes radius r
 
--- and as a line
+-- the same on a line
 unfoldable pub linked_line : Axes → ℕ → List FrontRow → FrontRow → List ℕ
 linked_line axes radius shown r = linked_circle axes radius shown r ++ codes "\n"
 
@@ -40,7 +40,7 @@ linked_rows axes stairs shown front =
     ++ (codes "<g fill=\"#1f5fa8\">\n" ++ (flat_map (linked_line axes (radius_of (length front)) shown) front
     ++ (codes "</g>\n<g font-size=\"11\">\n" ++ (numbers_of axes None front ++ codes "</g>\n</svg>\n"))))))
 
--- the picture of a front, drawn over dots for all rows, of which there are that many
+-- the picture of a front, drawn over dots for all rows, `all` in number
 unfoldable pub linked_over : ℕ → List FrontRow → List FrontRow → List FrontRow → List ℕ
 linked_over all rows front shown =
     let axes = axes_of rows in

@@ -1,5 +1,5 @@
--- The front as a picture: cost from left to right, cycles from bottom to top, a point a row, and the staircase over
--- which all rows lie.
+-- The front as a picture: cost from left to right, cycles from bottom to top, a point for each row, and the staircase
+-- above which all rows lie.
 -- Source: Scalable Vector Graphics 1.1, sections 9.3 (paths), 9.2 and 9.4 (basic shapes), 10.5 (text).
 use Rattle.std.specs.Prelude.{ℕ, ◌+◌, ◌-◌, ◌*◌, ◌==◌, nat_le, Bool, true, ◌||◌, if◌then◌else◌}
 use Rattle.std.specs.Prelude.{List, [], ◌∷◌, ◌++◌, codes, length, Option, Some, None}
@@ -17,11 +17,11 @@ use Rattle.tomex_front_views.specs.declared.plot.marks.Mark.TheVariants.{CostLin
 use Rattle.tomex_front_views.specs.declared.plot.marks.Mark.TheVariants.{CyclesNumber}
 use Rattle.tomex_front_views.specs.declared.plot.points.Named.{Named}
 
--- what stands above the picture: `front: 14 of 384 rows`
+-- the title above the picture: `front: 14 of 384 rows`
 abbrev pub title_of : ℕ → ℕ → List ℕ
 title_of rows all = codes "front: " ++ (decimal rows ++ (codes " of " ++ (decimal all ++ codes " rows")))
 
--- a move of a path, of which one without a length isn't written
+-- a move of a path; it isn't written if it has no length
 unfoldable pub move_to : List ℕ → ℕ → ℕ → List ℕ
 move_to letter from to = if from == to then [] else letter ++ decimal to
 
@@ -39,7 +39,7 @@ staircase axes (r ∷ rows) =
     let top : Point = record { x = x_of axes r.cost; y = 56 } in
     codes "M" ++ (decimal top.x ++ (codes " 56" ++ (steps_down axes top (r ∷ rows) ++ codes "H696")))
 
--- the span that a mark is of
+-- the span of a mark
 abbrev pub span_of : Axes → Mark → Span
 span_of axes CostLine = axes.costs
 span_of axes CostNumber = axes.costs
@@ -60,7 +60,7 @@ mark_at axes CyclesNumber value =
 unfoldable pub marks_of : Axes → Mark → List ℕ
 marks_of axes mark = flat_map (mark_at axes mark) (ticks_of (span_of axes mark))
 
--- how large points are: smaller ones where there are many
+-- the radius of points: smaller if there are many
 abbrev pub radius_of : ℕ → ℕ
 radius_of rows = if nat_le rows 64 then 4 else 2
 
@@ -69,7 +69,7 @@ circle_at at radius =
     codes "<circle cx=\"" ++ (decimal at.x ++ (codes "\" cy=\"" ++ (decimal at.y
     ++ (codes "\" r=\"" ++ (decimal radius ++ codes "\">")))))
 
--- what a circle says where it is pointed at: `row 132: cost 107, cycles 44727`
+-- a circle's tooltip: `row 132: cost 107, cycles 44727`
 unfoldable pub row_title : FrontRow → List ℕ
 row_title r =
     codes "<title>row " ++ (decimal r.row ++ (codes ": cost " ++ (decimal r.cost
@@ -79,11 +79,11 @@ row_title r =
 unfoldable pub circle : Axes → ℕ → FrontRow → List ℕ
 circle axes radius r = circle_at (point_of axes r) radius ++ row_title r
 
--- and as a line
+-- the same on a line
 unfoldable pub circle_line : Axes → ℕ → FrontRow → List ℕ
 circle_line axes radius r = circle axes radius r ++ codes "\n"
 
--- a row's number stands beside its point unless it would stand on the last one
+-- a row's number is shown beside its point unless it would overlap the last one
 abbrev pub has_room : Option Named → Point → Bool
 has_room None at = true
 has_room (Some last) at = nat_le (last.at.x + 4 + 7 * last.digits) at.x || nat_le (last.at.y + 12) at.y
@@ -104,7 +104,7 @@ numbers_of axes last (r ∷ rows) =
     if has_room last at then number_at at r.row ++ numbers_of axes (Some (named_at at r.row)) rows
     else numbers_of axes last rows
 
--- the picture's size, and how its texts look
+-- the picture's size, and the style of its texts
 abbrev pub svg_tag : List ℕ
 svg_tag = codes "<svg xmlns=\"http://www.w3.org/2000/svg\" width=\"720\" height=\"440\""
 
@@ -128,7 +128,7 @@ unfoldable pub sheet : List ℕ → List ℕ
 sheet title =
     codes "<title>" ++ (title ++ (codes "</title>\n" ++ (white_sheet ++ (title_place ++ (title ++ codes "</text>\n")))))
 
--- the part in which rows are dominated
+-- the shaded area in which rows are dominated
 unfoldable pub shade : List ℕ → List ℕ
 shade stairs = codes "<path d=\"" ++ (stairs ++ codes "V56Z\" fill=\"#edf3fa\"/>\n")
 
@@ -143,7 +143,7 @@ unfoldable pub lines_text : Axes → List ℕ
 lines_text axes =
     light_lines ++ (marks_of axes CostLine ++ (marks_of axes CyclesLine ++ (codes "</g>\n" ++ frame)))
 
--- the numbers at the ticks, and what they are of
+-- the numbers at the ticks, and the names of the axes
 abbrev pub centred : List ℕ
 centred = codes "<g text-anchor=\"middle\">\n"
 
@@ -168,7 +168,7 @@ rows_text axes stairs rows =
     ++ (codes "<g fill=\"#1f5fa8\">\n" ++ (flat_map (circle_line axes (radius_of (length rows))) rows
     ++ (codes "</g>\n<g font-size=\"11\">\n" ++ (numbers_of axes None rows ++ codes "</g>\n</svg>\n"))))))
 
--- the picture of these rows of that many
+-- the picture of these rows, out of `all`
 unfoldable pub picture_of_rows : ℕ → List FrontRow → List ℕ
 picture_of_rows all rows =
     let axes = axes_of rows in

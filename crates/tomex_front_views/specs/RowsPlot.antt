@@ -9,7 +9,7 @@ use Rattle.tomex_front_views.specs.Dots.{dots_line}
 use Rattle.tomex_front_views.specs.Plot.{lines_text, rows_text, scales_text, shade, sheet, size_text, staircase}
 use Rattle.tomex_front_views.specs.Plot.{title_of}
 
--- the picture of a front, drawn over dots for all of that many rows, which decide how far the axes reach
+-- the picture of a front, drawn over dots for all rows, `all` in number, which determine the axes
 unfoldable pub picture_over : ℕ → List FrontRow → List FrontRow → List ℕ
 picture_over all rows front =
     let axes = axes_of rows in

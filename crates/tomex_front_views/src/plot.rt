@@ -23,14 +23,13 @@ use std::fmt::Write;
 use tomex_pareto::FrontRow;
 use tomex_study::Study;
 
-/// Adds a piece of text.
 fn push<A: Allocator>(text: &mut String<A>, piece: &str) -> Result<(), AllocError>
     ensures { OnOk result (string_bytes text.new ≡ string_bytes text.old ++ piece.now) }
 {
     text.push_str(piece)
 }
 
-/// Adds the picture's size, and how its texts look.
+/// Adds the picture's size, and the style of its texts.
 fn push_size<A: Allocator>(text: &mut String<A>) -> Result<(), AllocError>
     ensures { OnOk result (string_bytes text.new ≡ string_bytes text.old ++ size_text) }
 {
@@ -63,7 +62,7 @@ fn push_sheet<A: Allocator>(text: &mut String<A>, title: &str) -> Result<(), All
     Ok(())
 }
 
-/// Adds the part in which rows are dominated.
+/// Adds the shaded area in which rows are dominated.
 #[tactic(auto, unfolding(crate::specs::Plot::shade))]
 fn push_shade<A: Allocator>(text: &mut String<A>, stairs: &str) -> Result<(), AllocError>
     ensures { OnOk result (string_bytes text.new ≡ string_bytes text.old ++ shade stairs.now) }
@@ -86,7 +85,7 @@ fn push_lines<A: Allocator>(text: &mut String<A>, axes: &Axes) -> Result<(), All
     Ok(())
 }
 
-/// Adds the numbers at the ticks, and what they are of.
+/// Adds the numbers at the ticks, and the names of the axes.
 fn push_scales<A: Allocator>(text: &mut String<A>, axes: &Axes) -> Result<(), AllocError>
     ensures { OnOk result (string_bytes text.new ≡ string_bytes text.old ++ scales_text axes.now) }
 {
@@ -129,14 +128,14 @@ fn push_rows<A: Allocator>(
     Ok(())
 }
 
-/// What stands above the picture.
+/// The title above the picture.
 fn title_of(heap: Global, rows: usize, all: usize) -> Result<String, AllocError>
     ensures { IfOk result (λ title. string_bytes title ≡ title_of rows all) }
 {
     format!(in heap; "front: {rows} of {all} rows")
 }
 
-/// The picture of these rows of `all`.
+/// The picture of these rows, out of `all`.
 #[tactic(auto, unfolding(crate::specs::Plot::picture_of_rows))]
 fn picture_of_rows<A: Allocator>(
     alloc: A,
@@ -160,10 +159,11 @@ fn picture_of_rows<A: Allocator>(
     Ok(text.into_bytes())
 }
 
-/// The front of a study as a picture in SVG, 720 by 440 points: cost from left to right, cycles from bottom to top, a
-/// circle a row, and a staircase through them. It has no script, style sheet or font from elsewhere.
+/// The front of a study as a picture in SVG, 720 by 440 points: cost from left to right, cycles
+/// from bottom to top, a circle for each row, and a staircase through them. It uses no external
+/// script, style sheet or font.
 ///
-/// What is small is taken of `heap`.
+/// Small values are allocated in `heap`.
 pub fn front_picture<A: Allocator>(
     alloc: A,
     heap: Global,

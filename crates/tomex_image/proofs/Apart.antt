@@ -1,4 +1,4 @@
--- Segments that share no byte: that the tests leave only these, and what each of them places.
+-- Segments that share no byte: the tests accept no others, and each places its own bytes.
 use Rattle.std.proofs.Common.{◌≡◌, ℕ, get_or, ◌+◌, ◌<◌, ◌≤◌, List, [], ◌∷◌, ◌++◌, length, Bool, true, false, cond, suc}
 use Rattle.std.proofs.Common.{zero, refl, arith, None}
 use Rattle.std.specs.List.{list_any, All}
@@ -12,7 +12,7 @@ use Rattle.tomex_image.specs.ProgramHeader.{shares_byte, segments_from, with_seg
 use Rattle.tomex_image.specs.Tests.{first_failing}
 use Rattle.tomex_image.proofs.Refusals.{none_parts}
 
--- the first of the list shares_byte nothing with the others, and so on
+-- the first of the list shares no byte with the others, and so on
 abbrev ApartFrom : ProgramHeader → List ProgramHeader → Type 0
 ApartFrom h [] = Unit {0}
 ApartFrom h (x ∷ xs) = (shares_byte h x ≡ false) × ApartFrom h xs
@@ -69,7 +69,7 @@ sized_of window len [] fit = tt
 sized_of window len (x ∷ xs) fit =
     ((All-head (Fits window len) x xs fit).not_longer, sized_of window len xs (All-tail (Fits window len) x xs fit))
 
--- an address of the one is in no part of the other
+-- an address of one is in no part of the other
 unfilled : (h x : ProgramHeader) (a : ℕ) → shares_byte h x ≡ false → x.file_size ≤ x.memory_size → h.address ≤ a
     → a < h.address + h.memory_size → is_filled x a ≡ false
 unfilled h x a apart sized low high = grind arith
@@ -92,12 +92,12 @@ from_at x [] k d apart in' = absurd (omega arith)
 from_at x (y ∷ ys) zero d apart in' = apart.0
 from_at x (y ∷ ys) (suc k) d apart in' = from_at x ys k d apart.1 (omega arith)
 
--- the first segment stands where no other places anything
+-- the first segment is in place at addresses at which no other places anything
 first_stands : (bytes : List ℕ) (x : ProgramHeader) (xs : List ProgramHeader) (a : ℕ) → byte_of bytes xs a ≡ 0
     → x.address ≤ a → byte_of bytes (x ∷ xs) a ≡ segment_byte bytes x a
 first_stands bytes x xs a none low = grind arith
 
--- any segment stands
+-- any segment is in place
 pub stands : (bytes : List ℕ) (xs : List ProgramHeader) (k : ℕ) (d : ProgramHeader) (a : ℕ) → Apart xs → Sized xs
     → k < length xs → (get_or xs k d).address ≤ a → a < (get_or xs k d).address + (get_or xs k d).memory_size
     → byte_of bytes xs a ≡ segment_byte bytes (get_or xs k d) a
@@ -109,7 +109,7 @@ stands bytes (x ∷ xs) (suc k) d a apart sized in' low high =
     rw (unfilled_too (get_or xs k d) x a (from_at x xs k d apart.0 within) sized.0 low high)
     (stands bytes xs k d a apart.1 sized.1 within low high)
 
--- outside all segments there is zero
+-- outside all segments each byte is zero
 pub zero_from : (bytes : List ℕ) (xs : List ProgramHeader) (a : ℕ) → Sized xs → All (IsOutside a) xs
     → byte_of bytes xs a ≡ 0
 zero_from bytes [] a sized out = refl

@@ -10,7 +10,7 @@ use Rattle.std.proofs.lemmas.List.Elements.{All-push}
 use Rattle.tomex_image.specs.Window.{Span}
 use Rattle.tomex_image.specs.Tests.{Test, first_failing}
 
--- where the first list passes, the second decides
+-- if the first list passes, the second decides
 pub passes_at : (a b : List Test) → first_failing a ≡ None → first_failing (a ++ b) ≡ first_failing b
 passes_at [] b h = refl
 passes_at (t ∷ ts) b h = at_test t.fails refl h (passes_at ts b)
@@ -21,7 +21,7 @@ passes_at (t ∷ ts) b h = at_test t.fails refl h (passes_at ts b)
     at_test true e h later = cc
     at_test false e h later = rw e (later h)
 
--- where the first list fails, it decides
+-- if the first list fails, it decides
 pub fails_at : (a b : List Test) (e : ImageError) → first_failing a ≡ Some e → first_failing (a ++ b) ≡ Some e
 fails_at [] b e h = cc
 fails_at (t ∷ ts) b e h = at_test t.fails refl h (fails_at ts b e)
@@ -39,7 +39,7 @@ headers_next bytes i count k h = let e : count - k ≡ suc (count - (k + 1)) = o
 pub headers_end : (bytes : List ℕ) (i count k : ℕ) → count ≤ k → headers_from bytes i (count - k) ≡ []
 headers_end bytes i count k h = let e : count - k ≡ 0 = omega arith in rw e refl
 
--- where both lists pass together, each passes
+-- if both lists pass together, each passes
 pub none_parts : (a b : List Test) → first_failing (a ++ b) ≡ None → (first_failing a ≡ None) × (first_failing b ≡ None)
 none_parts [] b h = (refl, h)
 none_parts (t ∷ ts) b h = at_test t.fails refl h (none_parts ts b)
@@ -50,7 +50,7 @@ none_parts (t ∷ ts) b h = at_test t.fails refl h (none_parts ts b)
     at_test true e h later = cc
     at_test false e h later = let both = later h in (rw e both.0, both.1)
 
--- what the tests promise of a segment
+-- what the tests guarantee of a segment
 pub fits_of : (window : Span) (len : ℕ) (segments : List ProgramHeader) (h : ProgramHeader)
     → first_failing (header_tests window len segments h) ≡ None → takes_memory h ≡ true → Fits window len h
 fits_of window len segments h passed takes = record {
@@ -75,7 +75,7 @@ all_fit window len entry segments (h ∷ hs) passed fit =
     at_header true e p = All-push (Fits window len) segments h fit (fits_of window len segments h p e)
     at_header false e p = fit
 
--- a header h that was read and fails after the segments held, in a table of which count - k headers are left
+-- a header h that was read and fails after the segments held, with `count - k` headers of the table left
 pub fails_next : (window : Span) (bytes : List ℕ) (entry place count k : ℕ) (segments held : List ProgramHeader)
     (h : ProgramHeader) (e : ImageError) → k < count
     → held ≡ segments → h ≡ header_at bytes place → first_failing (header_tests window (length bytes) held h) ≡ Some e

@@ -23,7 +23,7 @@ words (n ∷ ns) = word n ++ words ns
 abbrev pub program : List ℕ
 program = words (0x00500093 ∷ 0x00700113 ∷ 0x022081b3 ∷ 0x00100073 ∷ [])
 
--- an executable for RISC-V with so many program headers, entered at 0x10000
+-- an executable for RISC-V with `count` program headers, entered at 0x10000
 abbrev pub file_header : ℕ → List ℕ
 file_header count = words (0x464c457f ∷ 0x00010101 ∷ 0 ∷ 0 ∷ 0x00f30002 ∷ 1 ∷ 0x00010000 ∷ 0x00000034 ∷ 0 ∷ 0
     ∷ 0x00200034 ∷ count ∷ 0 ∷ [])
@@ -41,7 +41,7 @@ other_header kind address file_size memory_size =
 abbrev pub elf : List ℕ
 elf = file_header 1 ++ header 0x54 0x00010000 ++ program
 
--- so many headers, of segments one behind the other
+-- headers of segments one after another
 abbrev pub rising : ℕ → ℕ → ℕ → List ℕ
 rising offset address zero = []
 rising offset address (suc n) = header offset address ++ rising offset (address + 0x20) n
@@ -172,7 +172,7 @@ length_of_seventeen = refl
 pub seventeen_segments : answer seventeen_segments_elf ≡ Some TooManySegments
 seventeen_segments = refl
 
--- what stands in memory: the program, and zeros behind it
+-- the bytes in memory: the program, then zeros
 pub placed_first : byte_of elf (segments_of elf) 65536 ≡ 0x93
 placed_first = refl
 
@@ -185,7 +185,7 @@ placed_late = refl
 pub rest_is_zero : byte_of elf (segments_of elf) 65552 ≡ 0
 rest_is_zero = refl
 
--- sums don't wrap round at 2^32
+-- sums don't wrap at 2^32
 pub end_in_file_above_32_bits : answer
     (with_byte 56 0xff (with_byte 57 0xff (with_byte 58 0xff (with_byte 59 0xff elf)))) ≡ Some Truncated
 end_in_file_above_32_bits = refl
@@ -210,7 +210,7 @@ bytes_but_no_memory = refl
 pub entry_outside_segments : answer (with_byte 25 0x80 elf) ≡ None
 entry_outside_segments = refl
 
--- of the seventeenth segment: first its place, then the number, then what it shares
+-- of the seventeenth segment: its place is tested first, then the number, then what it shares
 abbrev pub sixteen_and : List ℕ → List ℕ
 sixteen_and last = file_header 17 ++ rising 0x254 0x00010000 16 ++ last ++ program
 

@@ -1,4 +1,4 @@
--- Where the segments of an accepted ELF file stand in its image.
+-- Where the segments of an accepted ELF file are in its image.
 use Rattle.std.proofs.Common.{◌≡◌, ℕ, ◌+◌, ◌-◌, ◌<◌, ◌≤◌, List, [], length, Bool, true, false, cond, arith, None, ap}
 use Rattle.std.proofs.Common.{◌∙◌}
 use Rattle.std.specs.Prelude.{IsTrue, MatchBool, slice_index}
@@ -16,7 +16,7 @@ use Rattle.tomex_image.specs.Window.{Span}
 use Rattle.tomex_image.proofs.Apart.{all_apart, sized_of, stands, zero_from}
 use Rattle.tomex_image.proofs.Refusals.{none_parts, all_fit}
 
--- what an accepted ELF file passes
+-- an accepted ELF file passes the tests of ELF files
 passes : (bytes : List ℕ) (window : Span) → IsTrue (is_elf bytes) → refused bytes window ≡ None
     → first_failing (elf_tests bytes window) ≡ None
 passes bytes window elf passed = at (is_elf bytes) elf passed
@@ -52,7 +52,7 @@ image_at bytes window image a is low high =
     let k : a - window.base < window.size = omega arith in
     is.2 (a - window.base) k ∙ ap (λ (x : ℕ). byte_of bytes (segments_of bytes) x) there
 
--- each segment stands at its address
+-- each segment is at its address
 pub segments_stand : (bytes : List ℕ) (window : Span) (image : Loaded) → IsElfImage bytes window image
     → All (StandsIn bytes image) (segments_of bytes)
 segments_stand bytes window image is k d in' = λ a low high.

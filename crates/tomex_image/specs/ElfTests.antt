@@ -27,7 +27,7 @@ file_tests bytes =
     Truncated
     ∷ []
 
--- the tests of a program header of a file of len bytes, after the segments of the earlier headers
+-- the tests of a program header of a file of `len` bytes, after the segments of the earlier headers
 abbrev pub header_tests : Span → ℕ → List ProgramHeader → ProgramHeader → List Test
 header_tests window len segments h =
     test (names_interpreter h) Dynamic
@@ -47,7 +47,7 @@ tests_from window len entry segments [] =
 tests_from window len entry segments (h ∷ hs) =
     header_tests window len segments h ++ tests_from window len entry (with_segment segments h) hs
 
--- the tests of a table of so many headers at an offset of the file, and of the whole
+-- the tests of a table of `count` headers at an offset of the file, and of the whole
 abbrev pub table_tests : Span → List ℕ → ℕ → ℕ → ℕ → List Test
 table_tests window bytes entry offset count =
     tests_from window (length bytes) entry [] (headers_from bytes offset count)
@@ -57,11 +57,11 @@ abbrev pub elf_tests : List ℕ → Span → List Test
 elf_tests bytes window =
     file_tests bytes ++ table_tests window bytes (entry_of bytes) (header_offset bytes) (header_count bytes)
 
--- what the tests promise of the entry: a word of the window
+-- the tests guarantee of the entry that it is a word of the window
 abbrev pub IsEntry : Span → ℕ → Type 0
 IsEntry window entry = (entry % 4 ≡ 0) × (window.base ≤ entry) × (entry + 4 ≤ window.base + window.size)
 
--- what the tests promise of each segment of a file of len bytes
+-- what the tests guarantee of each segment of a file of `len` bytes
 pub record Fits (window : Span) (len : ℕ) (h : ProgramHeader) : Type 0 where
   pub within_file : 0 < h.file_size → h.offset + h.file_size ≤ len
   pub not_longer : h.file_size ≤ h.memory_size

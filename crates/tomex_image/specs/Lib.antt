@@ -1,4 +1,4 @@
--- What contracts cite: windows, images, and ELF files.
+-- Definitions that contracts cite: windows, images, and ELF files.
 pub mod Window
 pub mod Image
 pub mod Tests

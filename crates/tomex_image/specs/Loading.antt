@@ -1,4 +1,4 @@
--- What the bytes of a file stand for in a window, and when they are refused.
+-- The image of a file's bytes in a window, and when the bytes are refused.
 use Rattle.std.specs.Prelude.{◌≡◌, ℕ, ◌+◌, ◌-◌, ◌<◌, List, [], ◌∷◌, ◌++◌, length, replicate, Option}
 use Rattle.std.specs.Prelude.{Bool, nat_eq, nat_lt, ◌&&◌, if◌then◌else◌, slice_index, MatchBool}
 use Rattle.tomex_image.specs.declared.error.ImageError.{ImageError}
@@ -28,19 +28,19 @@ flat_tests bytes window =
 abbrev pub refused : List ℕ → Span → Option ImageError
 refused bytes window = first_failing (if is_elf bytes then elf_tests bytes window else flat_tests bytes window)
 
--- a flat file stands at the window's base, the rest is zero
+-- a flat file is loaded at the window's base; the rest is zero
 abbrev pub flat_placed : List ℕ → Span → Loaded → Type 0
 flat_placed bytes window i = (i.window ≡ window)
     × (i.memory ≡ bytes ++ replicate (window.size - length bytes) 0)
     × (i.entry ≡ window.base)
 
--- of an ELF file each address has the byte that a segment places there, or zero
+-- an ELF file's image has at each address the byte that a segment places there, or zero
 abbrev pub elf_placed : List ℕ → Span → Loaded → Type 0
 elf_placed bytes window i = (i.window ≡ window)
     × (length i.memory ≡ window.size)
     × ((k : ℕ) → k < window.size → slice_index i.memory k ≡ byte_of bytes (segments_of bytes) (window.base + k))
     × (i.entry ≡ entry_of bytes)
 
--- the image is what the bytes stand for
+-- the image is that of the bytes
 abbrev pub placed : List ℕ → Span → Loaded → Type 0
 placed bytes window i = MatchBool (is_elf bytes) (elf_placed bytes window i) (flat_placed bytes window i)

@@ -10,7 +10,7 @@ is_filled h a = nat_le h.address a && nat_lt a (h.address + h.file_size)
 abbrev pub file_byte : List ℕ → ProgramHeader → ℕ → ℕ
 file_byte bytes h a = slice_index bytes (h.offset + (a - h.address))
 
--- what stands at an address: the byte of the file that a segment has there, or zero
+-- the byte at an address: the one of the file that a segment has there, or zero
 abbrev pub byte_of : List ℕ → List ProgramHeader → ℕ → ℕ
 byte_of bytes [] a = 0
 byte_of bytes (h ∷ hs) a = if is_filled h a then file_byte bytes h a else byte_of bytes hs a

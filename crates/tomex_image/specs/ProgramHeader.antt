@@ -14,7 +14,7 @@ header_at bytes i = record {
   memory_size = word_at bytes (i + 20);  -- p_memsz
 }
 
--- so many headers, of 32 bytes each, from an offset on
+-- headers from an offset on, of 32 bytes each
 abbrev pub headers_from : List ℕ → ℕ → ℕ → List ProgramHeader
 headers_from bytes i zero = []
 headers_from bytes i (suc n) = header_at bytes i ∷ headers_from bytes (i + 32) n

@@ -1,4 +1,4 @@
--- Where the segments of an accepted ELF file stand in its image: System V ABI, "Program Loading".
+-- Where the segments of an accepted ELF file are in its image: System V ABI, "Program Loading".
 use Rattle.std.specs.Prelude.{◌≡◌, ◌⊎◌, ℕ, ◌+◌, ◌-◌, ◌<◌, ◌≤◌, List, None, IsTrue, nat_lt, if◌then◌else◌, slice_index}
 use Rattle.std.specs.List.{All}
 use Rattle.tomex_image.specs.declared.elf.program_header.ProgramHeader.{ProgramHeader}
@@ -17,7 +17,7 @@ pub record IsElfImage (bytes : List ℕ) (window : Span) (image : Loaded) : Type
 abbrev pub image_byte : Loaded → ℕ → ℕ
 image_byte image a = slice_index image.memory (a - image.window.base)
 
--- what a segment has at an address of its own: the file's bytes, and zeros behind them
+-- the byte of a segment at an address of its own: the file's bytes, and zeros after them
 abbrev pub segment_byte : List ℕ → ProgramHeader → ℕ → ℕ
 segment_byte bytes h a = if nat_lt a (h.address + h.file_size) then file_byte bytes h a else 0
 

@@ -2,7 +2,7 @@
 use Rattle.std.specs.Prelude.{List, [], ◌∷◌, Option, Some, None, Bool, if◌then◌else◌}
 use Rattle.tomex_image.specs.declared.error.ImageError.{ImageError}
 
--- whether the test fails, and what is then answered
+-- a test: if `fails`, the file fails it, and is refused with `answer`
 pub record Test : Type 0 where
   pub fails : Bool
   pub answer : ImageError
@@ -10,7 +10,7 @@ pub record Test : Type 0 where
 abbrev pub test : Bool → ImageError → Test
 test fails answer = record { fails = fails; answer = answer }
 
--- the answer of the first test that fails, if one does
+-- the refusal of the first test that fails, if one does
 abbrev pub first_failing : List Test → Option ImageError
 first_failing [] = None
 first_failing (t ∷ ts) = if t.fails then Some t.answer else first_failing ts

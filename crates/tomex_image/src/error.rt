@@ -1,29 +1,29 @@
-//! Why bytes are no image.
+//! Why bytes can't be loaded.
 ghost use Rattle.std.specs.Prelude.{◌≡◌};
 ghost use Rattle.tomex_image.specs.declared.error.ImageError.TheVariants.{Memory};
 
 use std::alloc::AllocError;
 use thiserror::Error;
 
-/// Why bytes are no image of a window. `Memory` says nothing of the bytes.
+/// Why bytes can't be loaded into a window. `Memory` says nothing about the bytes.
 #[derive(Clone, Copy, Debug, Drop, Error, PartialEq, Eq)]
 pub enum ImageError {
     /// No bytes, or an ELF file without a segment that takes memory.
     #[error("empty")]
     Empty,
-    /// A flat file of more bytes than the window has.
+    /// A flat file with more bytes than the window.
     #[error("too large")]
     TooLarge,
     /// The file ends before something that a header says is in it.
     #[error("truncated")]
     Truncated,
-    /// An ELF file, but none of 32 bits, low byte first, for RISC-V.
+    /// An ELF file that isn't of 32 bits, low byte first, for RISC-V.
     #[error("not RISC-V")]
     NotRiscv,
     /// An ELF file of another type than executable.
     #[error("not executable")]
     NotExec,
-    /// Program headers of another size than 32 bytes.
+    /// Program headers are not 32 bytes.
     #[error("header size")]
     HeaderSize,
     /// The file asks for an interpreter, so it is linked dynamically.
@@ -38,10 +38,10 @@ pub enum ImageError {
     /// More segments than the limit.
     #[error("too many segments")]
     TooManySegments,
-    /// The entry is no multiple of 4, or its word leaves the window.
+    /// The entry is not a multiple of 4, or its word leaves the window.
     #[error("entry")]
     Entry,
-    /// The window's memory was refused.
+    /// Out of memory for the window.
     #[error("out of memory")]
     Memory,
 }

@@ -1,4 +1,4 @@
-//! Flat files: raw bytes that stand at the window's base.
+//! Flat files: raw bytes, loaded at the window's base.
 ghost use Rattle.std.specs.Prelude.{◌≡◌, ◌⊎◌, ◌++◌, ◌-◌, ◌≤◌, IfOk, IfErr, None, Some, replicate, length};
 ghost use Rattle.tomex_image.specs.Loading.{flat_placed, flat_tests};
 ghost use Rattle.tomex_image.specs.Tests.{first_failing};
@@ -8,7 +8,7 @@ use crate::image::Image;
 use crate::window::Window;
 use std::alloc::{AllocError, Allocator};
 
-/// The bytes, and zeros up to the size.
+/// The bytes, followed by zeros up to `size`.
 fn filled<A: Allocator>(alloc: A, bytes: &[u8], size: usize) -> Result<Vec<u8, A>, AllocError>
     requires { length bytes.now ≤ size }
     ensures { IfOk result (λ v. v.items ≡ bytes.now ++ replicate (size - length bytes.now) 0) }

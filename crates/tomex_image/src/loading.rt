@@ -1,4 +1,4 @@
-//! Bytes in, an image out.
+//! Loading: from the bytes of a file to an image.
 ghost use Rattle.std.specs.Prelude.{◌≡◌, ◌⊎◌, IfOk, IfErr, None, Some};
 ghost use Rattle.tomex_image.specs.Loading.{is_elf, placed, refused};
 
@@ -9,18 +9,18 @@ use crate::image::Image;
 use crate::window::Window;
 use std::alloc::Allocator;
 
-/// Whether the bytes begin with the magic number of ELF files (System V ABI, "ELF Identification").
+/// True if the bytes begin with the magic number of ELF files (System V ABI, "ELF Identification").
 fn has_elf_magic(bytes: &[u8]) -> bool
     ensures { result ≡ is_elf bytes.now }
 {
     bytes.len() > 3 && bytes[0] == 0x7f && bytes[1] == 0x45 && bytes[2] == 0x4c && bytes[3] == 0x46
 }
 
-/// The image that the bytes of a file stand for, in that window.
+/// The image of a file's bytes in `window`.
 ///
 /// Bytes that begin with ELF's magic number are an ELF file of 32 bits; all others are flat, the
 /// form that `objcopy -O binary` writes. A refusal names the first test that fails; `Memory` comes
-/// only where all tests have passed and the window's memory was refused.
+/// only if all tests have passed and there is no memory for the window.
 ///
 /// The work is bounded: a file has at most 65,535 program headers, each of which is tested once
 /// against at most 16 earlier segments, and what is then written is at most twice the window's size.

@@ -7,8 +7,8 @@ use std::marker::Model;
 /// The largest size of a window, in bytes.
 const MOST_BYTES: u32 = 1_048_576;
 
-/// A window of memory: the bytes from `base` up to, but without, `base + size`. Both are multiples
-/// of 4, the size is 4 to 1,048,576 bytes, and the end is at most 2^32.
+/// A window of memory: the bytes from `base` to `base + size`, exclusive. Both are multiples of 4,
+/// the size is 4 to 1,048,576 bytes, and the end is at most 2^32.
 #[derive(Clone, Copy, Debug, PartialEq, Eq)]
 pub struct Window {
     base: u32,
@@ -28,7 +28,7 @@ impl Model for Window {
 }
 
 impl Window {
-    /// The window of that base and that size in bytes, or `None` outside the limits.
+    /// The window with this base and this size in bytes; `None` outside the limits.
     pub fn new(base: u32, size: u32) -> Option<Self>
         ensures some { IfSome result (λ w. (w.base ≡ base) × (w.size ≡ size) × IsWindow base size) }
         ensures none { IfNone result (IsWindow base size → ⊥) }

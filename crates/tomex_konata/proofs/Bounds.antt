@@ -1,4 +1,4 @@
--- The places and the cycles of a log's steps and events, and that its events in their order are written as the log.
+-- The places and the cycles of a log's steps and events; its events, in their order, are written as the log.
 use Rattle.std.proofs.Common.{◌≡◌, ◌∙◌, ap, sym, subst, refl, arith, inl, inr, ℕ, zero, suc, ◌+◌, ◌<◌, ◌≤◌, ◌==◌}
 use Rattle.std.proofs.Common.{Bool, false, cond, List, [], ◌∷◌, ◌++◌, append_assoc, length, map, Some, Ok, Err, Vec}
 use Rattle.std.specs.Prelude.{All, IfOk, Result, nat_lt, not, ◌&&◌}
@@ -36,7 +36,7 @@ one_longer : (pre : List Entry) (e : Entry) → length (pre ++ e ∷ []) ≡ suc
 one_longer [] e = refl
 one_longer (p ∷ pre) e = omega (arith, one_longer pre e)
 
--- each entry stands where its number says
+-- each entry is at the place of its number
 pub there : (all pre : List Entry) (older : List Done) (steps : List Step) (times : List Times)
     → length pre ≡ length older
     → all ≡ pre ++ entries_from older steps times → AreThere all (entries_from older steps times)
@@ -76,7 +76,7 @@ ended n older (s ∷ ss) (t ∷ ts) bound =
     All-cons (λ e. e.at.end < n) (entry_of older d) (entries_from (d ∷ older) ss ts) (omega (arith, bound))
     (ended n (d ∷ older) ss ts (omega (arith, bound)))
 
--- what is true of each number is true of each once
+-- a property of each number holds for each, taken once
 once_all : (P : ℕ → Type 0) (cs : List ℕ) → All P cs → All P (once cs)
 once_all P [] all = all
 once_all P (c ∷ cs) all = elim (cases_Bool (list_any (λ d. d == c) cs)) [
@@ -103,7 +103,7 @@ placed n last es all =
     each : (e : Entry) → e.id < n → All (λ v. v.id < n) (changes_of last e)
     each e less = All-map (λ v. v.id < n) (change_in e.id) (once (change_cycles last e)) (λ k d within. less)
 
--- and none comes behind the last cycle
+-- and none comes after the last cycle
 pub timely : (last : ℕ) (es : List Entry) → All (λ e. e.at.end < last) es
     → All (λ v. v.cycle ≤ last) (events_of last es)
 timely last es all =
@@ -148,7 +148,7 @@ is_log number last since es vs all bound put =
     ∙ cycles_are number last es (last + 1) 0 since vs all (omega arith)
     (rises (λ v. v.cycle) 0 last vs put.rise (λ i d within. omega arith) high) (λ s le. put.keep s)
 
--- so it is of the steps that were gathered
+-- the same for the steps that were gathered
 pub written_is : (number since last : ℕ) (steps : List Step) (times : List Times) (es kept : List Entry)
     (vs put : List Event)
     → es ≡ entries_from [] steps times → kept ≡ es → last ≡ total_of times + 1 → put ≡ vs
@@ -175,7 +175,7 @@ all_placed last steps times es kept vs put pairs is same put_is order =
     rw (same, put_is) (All-permutation (λ v. v.id < length es) (events_of last es) vs order.same
     (placed (length es) last es each))
 
--- two events tie where they have one cycle
+-- two events tie if they have the same cycle
 pub tie : (t c : ℕ) → (not (is_lt (nat_cmp t c)) && not (is_lt (nat_cmp c t))) ≡ (c == t)
 tie t c = elim (cases_order t c) [
   | inl e ↦ rw (le-ltb t c (omega (arith, e)), le-ltb c t (omega (arith, e)), eq-eqb t c e, eq-eqb c t (sym e)) refl
@@ -199,7 +199,7 @@ kept vs ws stable t =
     sym (filter_alike (ties by_cycle x) (λ v. v.cycle == t) (λ v. tie t v.cycle) ws)
     ∙ (stable x ∙ filter_alike (ties by_cycle x) (λ v. v.cycle == t) (λ v. tie t v.cycle) vs)
 
--- behind its head the cycles are the log
+-- the log is its head and then its cycles
 pub log_is : (number first : ℕ) (steps : List Step) (times : List Times) (lines : List ℕ) → first ≡ first_issue times
     → lines ≡ cycles_of number (entries_from [] steps times) first 0 (total_of times + 2)
     → head_of first ++ lines ≡ log_of number steps times
@@ -207,7 +207,7 @@ log_is number first steps times lines is those =
     ap (λ (z : List ℕ). head_of first ++ z) those
     ∙ ap (λ (f : ℕ). head_of f ++ cycles_of number (entries_from [] steps times) f 0 (total_of times + 2)) is
 
--- a text that is made of one is made of an equal one
+-- a text that is made from lines is made from equal lines
 pub made_of : {B E : Type 0} (r : Result (Vec ℕ B) E) (lines whole : List ℕ) → lines ≡ whole
     → IfOk r (λ text. text.items ≡ lines) → IfOk r (λ text. text.items ≡ whole)
 made_of (Ok text) lines whole is made = made ∙ is
@@ -219,7 +219,7 @@ pub headed : (none head text bytes lines : List ℕ) (first : ℕ) → none ≡ 
 headed none head text bytes lines first empty begun more made =
     made ∙ (more ∙ ap (λ (z : List ℕ). z ++ lines) (begun ∙ ap (λ (z : List ℕ). z ++ head_of first) empty))
 
--- the text is the log that was asked for
+-- the text is the requested log
 pub logged : (config : Configuration) (run : List Step) (number count : ℕ) (e : TimedSteps) (text : List ℕ)
     → IsExcerptOf config run number count e → text ≡ log_of e.number e.steps e.times
     → IsLogOf config run number count text

@@ -1,4 +1,4 @@
--- The events of a cycle: a change of each step that may change in it, and then what goes out.
+-- The events of a cycle: a change of each step that may change in it, then the steps that go out.
 use Rattle.std.proofs.Common.{◌≡◌, ◌∙◌, ap, refl, inl, inr, ℕ, ◌==◌, Bool, true, false, cond, List, [], ◌∷◌, map}
 use Rattle.std.specs.List.{filter, list_any}
 use Rattle.std.proofs.lemmas.Bool.{cases_Bool, cases_eq, eq-eqb, ne_eqb}
@@ -6,7 +6,7 @@ use Rattle.tomex_konata.specs.declared.entries.Entry.{Entry}
 use Rattle.tomex_konata.specs.declared.events.Event.{Event}
 use Rattle.tomex_konata.specs.Kept.{change_cycles, change_in, changes_of, once}
 
--- of numbers once each, those that are one are one or none
+-- of numbers once each, at most one equals a given number
 pub once_at : (t : ℕ) (cs : List ℕ) → filter (λ c. c == t) (once cs) ≡ cond (list_any (λ c. c == t) cs) (t ∷ []) []
 once_at t [] = refl
 once_at t (c ∷ cs) = elim (cases_eq c t) [

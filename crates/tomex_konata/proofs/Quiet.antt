@@ -1,4 +1,4 @@
--- In a cycle that is none of those in which it may change a step has no lines.
+-- A step has no lines in a cycle in which it can't change.
 use Rattle.std.proofs.Common.{◌≡◌, ◌≢◌, ◌∙◌, ap, sym, refl, arith, inl, inr, ℕ, ◌+◌, ◌-◌, ◌<◌, ◌≤◌, ◌==◌, Bool, true}
 use Rattle.std.proofs.Common.{false, cond, ◌||◌, List, [], ◌++◌, Option, Some, None, min}
 use Rattle.std.specs.Prelude.{nat_le, nat_lt, unwrap_or}
@@ -15,7 +15,7 @@ use Rattle.tomex_konata.specs.declared.entries.Producer.{Producer}
 use Rattle.tomex_konata.specs.Konata.{is_shared, issue_lines, step_lines, turn_lines, wake_line, wake_lines}
 use Rattle.tomex_konata.specs.Kept.{change_cycles, ready}
 
--- the cycle before is no other one of the same kind
+-- the cycle before doesn't differ from this one for the test
 same_eq : (n t : ℕ) → n ≢ t → n + 1 ≢ t → (t - 1 == n) ≡ (t == n)
 same_eq n t here next = ne_eqb (t - 1) n (omega (arith, here, next)) ∙ sym (ne_eqb t n (omega (arith, here)))
 
@@ -52,7 +52,7 @@ same_address : (a : Option ℕ) (d t : ℕ) → unwrap_or a d ≢ t → unwrap_o
 same_address None d t here next = refl
 same_address (Some n) d t here next = ne_eqb n (t - 1) (omega (arith, here, next)) ∙ sym (ne_eqb n t here)
 
--- a cycle of no change
+-- a cycle without a change
 record IsStill (at : Times) (t : ℕ) : Type 0 where
   issue : at.issue ≢ t
   issued : at.issue + 1 ≢ t
@@ -117,7 +117,7 @@ no_wake id at t (Some p) other = elim (cases_Bool (p.end == t)) [
   | inr e ↦ rw e refl
 ]
 
--- what is none of some cycles up to the last is none of them before that
+-- a cycle that is none of some cycles, cut off at the last, is none of the cycles themselves
 is_none : (c last t : ℕ) → t ≤ last → (min c last == t) ≡ false → c ≢ t
 is_none c last t within none = let other : min c last ≢ t = eqb-false (min c last) t none in
     λ same. other (omega (arith, within, same))

@@ -6,7 +6,7 @@ use Rattle.std.specs.List.{filter}
 use Rattle.std.specs.List.Sorted.{IsNonDecreasingBy}
 use Rattle.std.proofs.lemmas.Bool.{cases_Bool, cases_eq, eq-eqb, ne_eqb, eqb-true, lt-ltb, le-ltb}
 
--- two tests that answer alike keep the same
+-- two tests that agree keep the same items
 pub filter_alike : {X : Type 0} (p q : X → Bool) → ((x : X) → p x ≡ q x) → (xs : List X) → filter p xs ≡ filter q xs
 filter_alike p q alike [] = refl
 filter_alike p q alike (x ∷ xs) = elim (cases_Bool (q x)) [
@@ -14,7 +14,7 @@ filter_alike p q alike (x ∷ xs) = elim (cases_Bool (q x)) [
   | inr e ↦ rw (alike x, e) (filter_alike p q alike xs)
 ]
 
--- what one test keeps is among what a wider one keeps
+-- the items that one test keeps are among those that a weaker one keeps
 pub filter_twice : {X : Type 0} (p q : X → Bool) → ((x : X) → p x ≡ true → q x ≡ true) → (xs : List X)
     → filter p (filter q xs) ≡ filter p xs
 filter_twice p q wider [] = refl
@@ -42,7 +42,7 @@ module _ {X : Type 0} (f : X → ℕ) where
   abbrev pub later : ℕ → X → Bool
   later t x = nat_lt t (f x)
 
-  -- none of a number where all are greater
+  -- no item has a number if all are greater
   pub none_at : (t last : ℕ) (xs : List X) → Rises (suc t) last xs → filter (at t) xs ≡ []
   none_at t last [] up = refl
   none_at t last (x ∷ xs) up =
@@ -80,7 +80,7 @@ module _ {X : Type 0} (f : X → ℕ) where
   rest_at s t xs less = filter_twice (at s) (later t) (λ x e. lt-ltb t (f x) (let is : f x ≡ s = eqb-true (f x) s e in
       omega (arith, is, less))) xs
 
-  -- where no number is below one before it
+  -- if no number is below one before it
   pub rises : (t last : ℕ) (xs : List X) → IsNonDecreasingBy f xs
       → ((i : ℕ) (d : X) → i < length xs → t ≤ f (get_or xs i d))
       → ((i : ℕ) (d : X) → i < length xs → f (get_or xs i d) ≤ last) → Rises t last xs

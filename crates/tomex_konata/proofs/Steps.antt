@@ -1,4 +1,4 @@
--- The steps of a log while they are gathered.
+-- The steps of a log, while they are gathered.
 use Rattle.std.proofs.Common.{◌≡◌, ◌∙◌, ap, sym, refl, arith, inl, inr, ℕ, zero, suc, ◌+◌, ◌<◌, ◌≤◌, List, [], ◌∷◌}
 use Rattle.std.proofs.Common.{◌++◌, append_assoc, drop, get_or, length, Option, Some, None}
 use Rattle.std.specs.Prelude.{replicate}
@@ -48,7 +48,7 @@ pub read : (older : List Done) (writers : List (Option Producer)) (o : Option Op
 read older writers None are low = sym (no_operand older)
 read older writers (Some o) are low = are.each o.register (low o refl) ∙ sym (by_register older o)
 
--- one step more
+-- one more step
 pub more_writers : (older : List Done) (d : Done) (dest : Option ℕ) (writers : List (Option Producer))
     → AreWriters older writers
     → step_dest d.step ≡ dest → AreWriters (d ∷ older)
@@ -67,7 +67,7 @@ more_writers older d (Some n) writers are is = record {
   ];
 }
 
--- what is gathered behind so many steps
+-- the entries that are gathered after `count` steps
 pub record AreGathered (steps : List Step) (times : List Times) (count : ℕ) (entries : List Entry)
     (writers : List (Option Producer)) : Type 0 where
   pub older : List Done
@@ -90,7 +90,7 @@ next_entry older zero (x ∷ xs) (y ∷ ys) step s at t within pairs step_is at_
 next_entry older (suc i) (x ∷ xs) (y ∷ ys) step s at t within pairs step_is at_is =
     next_entry older i xs ys step s at t (omega (arith, within)) (omega (arith, pairs)) step_is at_is
 
--- one step more
+-- one more step
 pub one_gathered : (steps : List Step) (times : List Times) (i : ℕ) (before after : List Entry)
     (writers behind : List (Option Producer))
     (step s : Step) (at t : Times) (j k : Option Producer) → (g : AreGathered steps times i before writers)
@@ -129,7 +129,7 @@ none_there : (older : List Done) (ss : List Step) → entries_from older ss [] �
 none_there older [] = refl
 none_there older (s ∷ ss) = refl
 
--- behind all of them
+-- after all of them
 pub all_gathered : (steps : List Step) (times : List Times) (count : ℕ) (entries : List Entry)
     (writers : List (Option Producer))
     → AreGathered steps times count entries writers → length steps ≤ count → entries ≡ entries_from [] steps times

@@ -1,4 +1,4 @@
--- What the loops over a step's cycles and over events have made one turn later.
+-- The results of the loops over a step's cycles and over events, one turn later.
 use Rattle.std.proofs.Common.{◌≡◌, ◌∙◌, ap, ap₂, sym, refl, arith, ℕ, zero, suc, ◌+◌, ◌-◌, ◌<◌, ◌≤◌, ◌==◌, Bool, true}
 use Rattle.std.proofs.Common.{false, cond, List, [], ◌∷◌, ◌++◌, append_assoc, drop, get_or, length, length-drop, map}
 use Rattle.std.proofs.Common.{take, Some}
@@ -18,7 +18,7 @@ next [] i x d within is = absurd (omega (arith, within))
 next (y ∷ ys) zero x d within is = ap (λ z. z ∷ ys) (sym is)
 next (y ∷ ys) (suc i) x d within is = next ys i x d (omega (arith, within)) is
 
--- the cycles behind a place
+-- the cycles after a place
 left : (given : List ℕ) (i k c d : ℕ) (b : Bool) → i < length given → length given ≤ k + (i + 1) → c ≡ get_or given i d
     → list_any (λ n. n == c) (take k (drop (i + 1) given)) ≡ b
     → once (drop i given) ≡ cond b (once (drop (i + 1) given)) (c ∷ once (drop (i + 1) given))
@@ -28,7 +28,7 @@ left given i k c d b within covers is found =
     take_all k (drop (i + 1) given) (omega (arith, length-drop (i + 1) given, covers)) in
     ap once (next given i c d within is) ∙ rw (← found, whole, more) refl
 
--- a cycle that comes again
+-- a cycle that occurs again
 pub change_again : (id last : ℕ) (e : Entry) (given : List ℕ) (i k c d : ℕ) (before after whole : List Event)
     → given ≡ change_cycles last e
     → i < 9 → 9 ≤ k + (i + 1) → c ≡ get_or given i d → list_any (λ n. n == c) (take k (drop (i + 1) given)) ≡ true
@@ -58,14 +58,14 @@ change_once id last e given i k c d before after whole same within covers is new
     ∙ (ap (λ (ns : List ℕ). before ++ map (change_in id) ns) (sym rest)
     ∙ (ap (λ (cs : List ℕ). before ++ map (change_in id) (once (drop i cs))) same ∙ so_far)))
 
--- behind all of them
+-- after all of them
 pub all_changed : (id last i : ℕ) (e : Entry) (made whole : List Event) → 9 ≤ i
     → made ++ map (change_in id) (once (drop i (change_cycles last e))) ≡ whole → made ≡ whole
 all_changed id last i e made whole past so_far =
     let none : drop i (change_cycles last e) ≡ [] = drop_all i (change_cycles last e) past in
     sym (append-nil made) ∙ (ap (λ (cs : List ℕ). made ++ map (change_in id) (once cs)) (sym none) ∙ so_far)
 
--- the lines of one event more
+-- the lines of one more event
 pub event_more : (number : ℕ) (es : List Entry) (vs : List Event) (i since gone since' gone' : ℕ) (v d : Event)
     (e : Entry)
     (cleared lines before after whole : List ℕ) → i < length vs → v ≡ get_or vs i d → v.id < length es
@@ -96,7 +96,7 @@ few_gone gone gone' i kind is few = rw is (go kind)
     go Change = omega (arith, few)
     go Out = omega (arith, few)
 
--- behind the last event
+-- after the last event
 pub all_written : (number : ℕ) (entries : List Entry) (events : List Event) (index since gone : ℕ)
     (text whole : List ℕ) → length events ≤ index
     → text ++ written number entries since gone (drop index events) ≡ whole → text ≡ whole

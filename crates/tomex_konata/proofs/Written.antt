@@ -34,7 +34,7 @@ since_more t since [] b = refl
 since_more t since (x ∷ a) [] = refl
 since_more t since (x ∷ a) (y ∷ b) = refl
 
--- what goes out in a cycle has gone before the next
+-- the steps that go out in a cycle have gone before the next
 gone_next : (t : ℕ) (es : List Entry) → gone_before t es + count_by (goes_out t) es ≡ gone_before (t + 1) es
 gone_next t [] = refl
 gone_next t (e ∷ es) =
@@ -61,13 +61,13 @@ gone_next t (e ∷ es) =
       ) refl
     ]
 
--- each of some entries stands where it says
+-- each of some entries is at the place of its number
 abbrev pub AreThere : List Entry → List Entry → Type 0
 AreThere all [] = Unit {0}
 AreThere all (e ∷ es) = (slice_get all e.id ≡ Some e) × AreThere all es
 
 module _ (number last : ℕ) (all : List Entry) where
-  -- the lines of some events, and how many have gone out behind them
+  -- the lines of some events, and how many steps have gone out after them
   abbrev lines_of : ℕ → List Event → List ℕ
   lines_of gone [] = []
   lines_of gone (v ∷ vs) = lines_at number gone v (slice_get all v.id) ++ lines_of (gone_after gone v.kind) vs
@@ -139,7 +139,7 @@ module _ (number last : ℕ) (all : List Entry) where
             ∙ ap (λ (z : List ℕ). z ++ flat_map (step_lines number t) es) (sym (quiet number last t e within f)))
       ])
 
-  -- and what goes out in it
+  -- and the steps that go out in it
   outs_gone : (t gone : ℕ) (es : List Entry) → gone_of gone (filter (at (λ v. v.cycle) t) (map out_of es)) ≡ gone
       + count_by (goes_out t) es
   outs_gone t gone [] = omega arith

@@ -1,4 +1,4 @@
--- What is kept while a log is made: the youngest writer of each register, and the events of all steps, in the order in
+-- The state while a log is made: the youngest writer of each register, and the events of all steps, in the order in
 -- which they are written.
 use Rattle.std.specs.Prelude.{◌≡◌, ℕ, ◌+◌, ◌-◌, ◌==◌, if◌then◌else◌, List, [], ◌∷◌, ◌++◌, IsPermutation}
 use Rattle.std.specs.Prelude.{map, max, min, Option, Some, None, slice_index_or, slice_set, unwrap_or}
@@ -18,21 +18,21 @@ abbrev pub written_in : List (Option Producer) → Option Operand → Option Pro
 written_in writers None = None
 written_in writers (Some o) = slice_index_or writers o.register None
 
--- the table behind a step that writes this register
+-- the table after a step that writes this register
 abbrev pub noted : List (Option Producer) → Option ℕ → Producer → List (Option Producer)
 noted writers None p = writers
 noted writers (Some register) p = slice_set writers register (Some p)
 
--- the next cycle, but none behind the last
+-- the next cycle, but none after the last
 abbrev pub after : ℕ → ℕ → ℕ
 after cycle last = min (cycle + 1) last
 
--- the cycle in which a step gets an operand: that of its issue if it has it by then
+-- the cycle in which a step gets an operand: that of its issue if it has the operand by then
 abbrev pub ready : Times → Option Producer → ℕ
 ready at None = at.issue
 ready at (Some p) = max p.end at.issue
 
--- the cycles in which a step may have lines but for the one in which it goes out
+-- the cycles in which a step may have lines, except the one in which it goes out
 abbrev pub change_cycles : ℕ → Entry → List ℕ
 change_cycles last e =
     min e.at.issue last ∷ after e.at.issue last
@@ -54,7 +54,7 @@ changes_of last e = map (change_in e.id) (once (change_cycles last e))
 abbrev pub out_of : Entry → Event
 out_of e = record { cycle = e.at.end + 1; kind = Out; id = e.id }
 
--- the changes of all steps, and then what goes out
+-- the changes of all steps, then the steps that go out
 abbrev pub events_of : ℕ → List Entry → List Event
 events_of last es = flat_map (changes_of last) es ++ map out_of es
 
@@ -64,7 +64,7 @@ pub record ArePut (before after : List Event) : Type 0 where
   pub rise : IsNonDecreasingBy (λ v. v.cycle) after
   pub keep : (t : ℕ) → filter (λ v. v.cycle == t) after ≡ filter (λ v. v.cycle == t) before
 
--- the lines of an event, so many steps having gone out before
+-- the lines of an event, after `gone` steps have gone out
 abbrev pub event_lines : ℕ → ℕ → ℕ → Kind → Entry → List ℕ
 event_lines number gone t Change e = step_lines number t e
 event_lines number gone t Out e = out_lines gone e
@@ -77,7 +77,7 @@ abbrev pub gone_after : ℕ → Kind → ℕ
 gone_after gone Change = gone
 gone_after gone Out = gone + 1
 
--- the text of some events, so many steps having gone out before; the last cycle with lines was `since`
+-- the text of some events, after `gone` steps have gone out; the last cycle with lines was `since`
 abbrev pub written : ℕ → List Entry → ℕ → ℕ → List Event → List ℕ
 written number es since gone [] = []
 written number es since gone (v ∷ vs) =

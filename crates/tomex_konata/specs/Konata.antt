@@ -31,7 +31,7 @@ producer (d ∷ older) (Some o) =
     if is_number (step_dest d.step) o.register then Some (record { id = length older; end = d.at.end })
     else producer older (Some o)
 
--- a step, behind those that are older
+-- a step, after older ones
 abbrev pub entry_of : List Done → Done → Entry
 entry_of older d = record {
   id = length older;
@@ -41,7 +41,7 @@ entry_of older d = record {
   k = producer older (k_of d.step);
 }
 
--- and the steps from there on
+-- and the following steps
 abbrev pub entries_from : List Done → List Step → List Times → List Entry
 entries_from older (step ∷ steps) (at ∷ times) =
     entry_of older (record { step = step; at = at })
@@ -71,7 +71,7 @@ tabbed [] = codes "\n"
 tabbed (field ∷ []) = field ++ codes "\n"
 tabbed (field ∷ fields) = field ++ (codes "\t" ++ tabbed fields)
 
--- `I`: a step comes in; `L`: what it is, and its station
+-- `I`: a step comes in; `L`: its text, and its station
 abbrev pub station_line : ℕ → Option PoolId → Option ℕ → List ℕ
 station_line id (Some pool) (Some station) =
     tabbed (codes "L" ∷ decimal id ∷ codes "1" ∷ (name_of_pool pool ++ decimal station) ∷ [])
@@ -112,17 +112,17 @@ abbrev pub is_shared : Option Producer → Option Producer → Bool
 is_shared (Some j) (Some k) = j.id == k.id
 is_shared _ _ = false
 
--- of both operands, and once where they have one producer
+-- of both operands, and only once if they have the same producer
 abbrev pub wake_lines : ℕ → Entry → List ℕ
 wake_lines t e = wake_line e.id e.at t e.j ++ (if is_shared e.j e.k then [] else wake_line e.id e.at t e.k)
 
--- the lines of a step in a cycle; number is that of the first step shown
+-- the lines of a step in a cycle; `number` is that of the first step shown
 unfoldable pub step_lines : ℕ → ℕ → Entry → List ℕ
 step_lines number t e =
     (if t == e.at.issue then issue_lines (number + e.id) e else [])
     ++ (turn_lines e.id (stage_in e.at (t - 1)) (stage_in e.at t) ++ wake_lines t e)
 
--- `R`: a step goes out in the cycle behind its end, so many having gone before it
+-- `R`: a step goes out in the cycle after its end, after `gone` others
 abbrev pub leave_lines : ℕ → ℕ → Option Stage → List ℕ
 leave_lines gone id None = []
 leave_lines gone id (Some stage) =
@@ -134,12 +134,12 @@ out_lines gone e = leave_lines gone e.id (stage_in e.at e.at.end)
 abbrev pub goes_out : ℕ → Entry → Bool
 goes_out t e = e.at.end + 1 == t
 
--- the lines of those that go out in a cycle, so many having gone before them
+-- the lines of the steps that go out in a cycle, after `gone` others
 abbrev pub outs_in : ℕ → ℕ → List Entry → List ℕ
 outs_in t gone [] = []
 outs_in t gone (e ∷ es) = if goes_out t e then out_lines gone e ++ outs_in t (gone + 1) es else outs_in t gone es
 
--- how many went out before a cycle
+-- the number of steps that went out before a cycle
 abbrev pub gone_before : ℕ → List Entry → ℕ
 gone_before t es = count_by (λ e. nat_lt (e.at.end + 1) t) es
 
@@ -147,12 +147,12 @@ gone_before t es = count_by (λ e. nat_lt (e.at.end + 1) t) es
 abbrev pub lines_in : ℕ → ℕ → List Entry → List ℕ
 lines_in number t es = flat_map (step_lines number t) es ++ outs_in t (gone_before t es) es
 
--- `C`: so many cycles passed since the last one with lines
+-- `C`: the number of cycles since the last one with lines
 abbrev pub passed : ℕ → List ℕ
 passed zero = []
 passed (suc n) = tabbed (codes "C" ∷ decimal (suc n) ∷ [])
 
--- a cycle's lines, behind the n cycles that passed since the last one with lines; none where nothing happens
+-- a cycle's lines, after the n cycles since the last one with lines; none if nothing happens
 abbrev pub with_cycle : ℕ → List ℕ → List ℕ
 with_cycle n [] = []
 with_cycle n (x ∷ lines) = passed n ++ (x ∷ lines)
@@ -169,18 +169,18 @@ cycles_of number es since t (suc n) =
     with_cycle (t - since) (lines_in number t es)
     ++ cycles_of number es (next_since since t (lines_in number t es)) (t + 1) n
 
--- what each log begins with: its format, and the cycle from which it counts
+-- the head of a log: its format, and the cycle from which it counts
 abbrev pub head_of : ℕ → List ℕ
 head_of first = tabbed (codes "Kanata" ∷ codes "0004" ∷ []) ++ tabbed (codes "C=" ∷ decimal first ∷ [])
 
--- the log of steps with these times, from a number on: up to the cycle in which the last one goes out. Before the first
--- one's issue nothing happens.
+-- the log of steps with these times, the first of which has this number, up to the cycle in which the last one goes
+-- out. Nothing happens before the first one's issue.
 abbrev pub log_of : ℕ → List Step → List Times → List ℕ
 log_of number steps times =
     head_of (first_issue times)
     ++ cycles_of number (entries_from [] steps times) (first_issue times) 0 (total_of times + 2)
 
--- the text is the log of the steps that are asked for
+-- the text is the log of the requested steps
 pub record IsLogOf (config : Configuration) (steps : List Step) (number count : ℕ) (text : List ℕ) : Type 0 where
   pub there : number ≤ length steps
   pub is : text ≡ log_of number (shown number count steps) (shown number count (times_in config steps))

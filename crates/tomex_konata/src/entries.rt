@@ -20,7 +20,7 @@ pub struct Producer {
 /// A step of the log.
 #[derive(Clone, Copy)]
 pub struct Entry {
-    /// How many steps of the log are older.
+    /// The number of older steps in the log.
     pub id: usize,
     pub step: Step,
     pub at: Times,
@@ -37,7 +37,7 @@ struct Writers {
 }
 
 impl Writers {
-    /// Before the first step.
+    /// The writers before the first step: none.
     fn none() -> Writers
         ensures { result ≡ record { of = replicate 32 None } }
     {
@@ -55,7 +55,7 @@ impl Writers {
         }
     }
 
-    /// Notes what a step writes.
+    /// Notes the register that a step writes.
     fn note(&mut self, step: &Step, producer: Producer)
         ensures { self.new.of ≡ noted self.old.of (step_dest step.now) producer }
     {

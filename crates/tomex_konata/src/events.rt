@@ -1,4 +1,4 @@
-//! What happens to the steps of a log, cycle by cycle.
+//! The events of a log's steps, cycle by cycle.
 
 ghost use Rattle.std.specs.Prelude.{◌≡◌, ◌<◌, ◌^◌, ◌++◌, map, IfOk, OnOk, All};
 ghost use Rattle.std.specs.List.{flat_map};
@@ -8,12 +8,12 @@ use crate::entries::{Entry, Producer};
 use std::alloc::{AllocError, Allocator};
 use tomex_timing::Times;
 
-/// What may happen to a step.
+/// The kind of an event.
 #[derive(Clone, Copy, Debug, PartialEq, Eq)]
 pub enum Kind {
     /// It issues, begins a stage or gets an operand.
     Change,
-    /// It goes out, in the cycle behind its end.
+    /// It goes out, in the cycle after its end.
     Out,
 }
 
@@ -33,7 +33,8 @@ fn after(cycle: u64, last: u64) -> u64
     if cycle < last { cycle + 1 } else { last }
 }
 
-/// The cycle in which a step gets an operand, or that of its issue if it has it by then.
+/// The cycle in which a step gets an operand, or the cycle of its issue if it has the operand by
+/// then.
 fn ready(at: &Times, producer: Option<Producer>) -> u64
     ensures { result ≡ ready at.now producer }
 {
@@ -43,8 +44,8 @@ fn ready(at: &Times, producer: Option<Producer>) -> u64
     }
 }
 
-/// The cycles in which a step may change, in no order, and some of them more than once. What would come behind the last
-/// cycle of the log stands at the last: nothing changes there.
+/// The cycles in which a step may change, in no order, and some of them more than once. Cycles
+/// after the last one of the log are replaced by the last, in which nothing changes.
 fn change_cycles(entry: &Entry, last: u64) -> [u64; 9]
     ensures { result ≡ change_cycles last entry.now }
 {
@@ -121,8 +122,8 @@ fn put_in_order<A: Allocator>(events: &mut Vec<Event, A>) -> Result<(), AllocErr
     events.sort_by_key(|event| event.cycle)
 }
 
-/// What happens to the steps of a log up to a cycle, cycle by cycle: in a cycle the changes of all steps, and then what
-/// goes out.
+/// The events of a log's steps up to a cycle, cycle by cycle: in a cycle the changes of all steps,
+/// then the steps that go out.
 pub fn ordered_events<A: Allocator>(
     alloc: A,
     entries: &[Entry],

@@ -40,7 +40,7 @@ fn place_of_stage(stage: Stage) -> u8
     }
 }
 
-/// Adds the line of a station, if there is one.
+/// Adds the line of a step's station, if it has one.
 fn push_station(
     text: &mut String,
     id: usize,
@@ -109,7 +109,7 @@ fn push_turn(
     }
 }
 
-/// Adds the line of a step that gets a value, if it does in this cycle.
+/// Adds the line of a value that a step gets, if it gets it in this cycle.
 fn push_wake(
     text: &mut String,
     entry: &Entry,
@@ -128,7 +128,7 @@ fn push_wake(
     Ok(())
 }
 
-/// Whether two operands have one producer.
+/// True if two operands have the same producer.
 fn is_shared(j: Option<Producer>, k: Option<Producer>) -> bool
     ensures { result ≡ is_shared j k }
 {
@@ -170,7 +170,7 @@ pub fn push_step(
     push_wakes(text, entry, cycle)
 }
 
-/// Adds the lines of a step that goes out, so many having gone before it.
+/// Adds the lines of a step that goes out after `gone` others.
 #[tactic(auto, unfolding(crate::specs::Konata::out_lines))]
 pub fn push_out(text: &mut String, gone: u64, entry: &Entry) -> Result<(), AllocError>
     ensures { OnOk result (string_bytes text.new

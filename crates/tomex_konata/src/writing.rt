@@ -1,6 +1,7 @@
 //! The log of some steps of a run on one configuration.
 
-ghost use Rattle.std.specs.Prelude.{◌≡◌, ◌+◌, ◌-◌, ◌<◌, ◌^◌, ◌++◌, All, length, IfErr, IfOk, IsErrOf, OnOk, string_bytes};
+ghost use Rattle.std.specs.Prelude.{◌≡◌, ◌+◌, ◌-◌, ◌<◌, ◌^◌, ◌++◌, All, length, IfErr, IfOk, IsErrOf, OnOk};
+ghost use Rattle.std.specs.Prelude.{string_bytes};
 ghost use Rattle.tomex_rvexec.specs.Run.{start_of};
 ghost use Rattle.tomex_rvexec.specs.Trace.{steps_from};
 ghost use Rattle.tomex_timing.specs.Search.{total_of};
@@ -39,8 +40,8 @@ fn push_event(
     }
 }
 
-/// Adds lines of a cycle, if there are any, after the cycles that passed since the last one with lines. Returns which
-/// one that is now.
+/// Adds lines of a cycle, if there are any, after the cycles that passed since the last one with
+/// lines. Returns the last cycle with lines, which may now be this one.
 fn push_in_cycle<A: Allocator>(
     text: &mut String<A>,
     since: u64,
@@ -62,7 +63,7 @@ fn push_in_cycle<A: Allocator>(
     Ok(cycle)
 }
 
-/// How many steps went out with an event.
+/// The number of steps that have gone out after an event.
 fn gone_after(gone: u64, kind: Kind) -> u64
     requires { gone < 2 ^ 63 }
     ensures { result ≡ gone_after gone kind }
@@ -100,7 +101,7 @@ fn push_events<A: Allocator>(
     Ok(())
 }
 
-/// What each log begins with, and the lines of events.
+/// The log's head, and the lines of events.
 fn text_of<A: Allocator>(
     alloc: A,
     heap: Global,
@@ -121,7 +122,7 @@ fn text_of<A: Allocator>(
     Ok(text.into_bytes())
 }
 
-/// The log of steps with these times, from a number on.
+/// The log of steps with these times, the first of which has number `number`.
 fn log_of<A: Allocator + Clone>(
     alloc: A,
     heap: Global,
@@ -147,10 +148,12 @@ fn log_of<A: Allocator + Clone>(
     )
 }
 
-/// The log of some steps of a program's run on a configuration for the viewer Konata, at most `count` of them from
-/// step `number` on; the first step is number 1. Producers are looked for among these steps only.
+/// The log of some steps of a program's run on a configuration for the viewer Konata, at most
+/// `count` of them from step `number` on; the first step is number 1. Only these steps count as
+/// producers.
 ///
-/// The work grows as n log n with the steps, whatever the number of cycles. What is small is taken of `heap`.
+/// The work grows as n log n with the steps, for any number of cycles. Small values are allocated
+/// in `heap`.
 pub fn konata_text<A: Allocator + Clone>(
     alloc: A,
     heap: Global,

@@ -1,4 +1,4 @@
--- Which rows are dealt to whom.
+-- Which rows are dealt to which worker.
 use Rattle.std.proofs.Common.{◌≡◌, ◌≢◌, ℕ, zero, suc, Bool, true, false, List, [], ◌∷◌, ◌++◌, sym, ap, ◌∙◌, subst, All}
 use Rattle.std.proofs.Common.{Contains, ◌+◌, ◌-◌, ◌%◌, ◌<◌, ◌≤◌, ◌==◌, if◌then◌else◌, length, refl, arith, inl, inr}
 use Rattle.std.proofs.Common.{get_or, slice_get, slice_set, Some}
@@ -91,7 +91,7 @@ dealt-counts workers count (suc n) =
     All-push (λ (l : Dealt). l.count ≡ count) (dealt workers count n) (lane_of workers n count (workers - 1))
     (dealt-counts workers count n) refl
 
--- Lanes that are connected one after another: so many of each know the lists of others.
+-- Lanes that are connected one after another: each knows the lists of a number of others.
 
 abbrev pub lanes_with : ℕ → ℕ → (ℕ → ℕ) → ℕ → List Dealt
 lanes_with workers count known zero = []
@@ -148,7 +148,7 @@ lane-at workers count known (suc n) i l =
     there : (xs : List Dealt) (i : ℕ) (d : Dealt) → slice_get xs i ≡ Some d → get_or xs i d ≡ d
     there xs i d e = get_or_from_slice_get xs i d d e
 
--- one lane is written anew
+-- one lane is replaced
 pub lane-set : (workers count : ℕ) (known : ℕ → ℕ) (k n to : ℕ) → to < n
     → slice_set (lanes_with workers count known n) to (lane_of workers to count k) ≡ lanes_with workers count
     (λ i. if i == to then k else known i) n
@@ -180,7 +180,7 @@ lane-set workers count known k (suc n) to l =
     only : (x y : Dealt) (j : ℕ) → j ≡ 0 → slice_set (x ∷ []) j y ≡ y ∷ []
     only x y j e = ap (λ i. slice_set (x ∷ []) i y) e
 
--- those before one are connected to all others, it itself to k of them, and those after it to none
+-- lanes before one are connected to all others, that lane to k of them, and lanes after it to none
 abbrev pub connected : ℕ → ℕ → ℕ → ℕ → ℕ
 connected workers to k i = if i == to then k else (if nat_lt i to then workers - 1 else 0)
 
@@ -241,11 +241,11 @@ thief-at workers count to k l =
     let here : connected workers to k to ≡ k = rw (eq-eqb to to refl) refl in
     lane-at workers count (connected workers to k) workers to l ∙ ap (λ j. Some (lane_of workers to count j)) here
 
--- what is written back as it was changes nothing
+-- writing a lane back unchanged changes nothing
 pub set_same : (xs : List Dealt) (i : ℕ) (x y : Dealt) → slice_get xs i ≡ Some x → y ≡ x → slice_set xs i y ≡ xs
 set_same xs i x y here same = ap (slice_set xs i) (same ∙ sym (get_or_from_slice_get xs i x x here)) ∙ set-get_or xs i x
 
--- one more list is told to a lane
+-- one more list is added to a lane
 pub told_more : (workers count to step from : ℕ) (thief victim : Dealt) → 1 ≤ step → from ≡ (to + step) % workers
     → thief ≡ lane_of workers to count (step - 1) → victim.rows ≡ rows_of workers from count
     → with_other thief victim.rows ≡ lane_of workers to count step

@@ -47,7 +47,7 @@ rest_kept a n =
 two_in : (a n : ℕ) → HasTwo (range_with_len a (suc (suc n)))
 two_in a n = (a, a + 1, inl refl, inr (inl refl), λ e. absurd (omega arith))
 
--- So many workers have a lane and a seat with one number each; the seat at hand has the other numbers.
+-- The first `next` workers have a lane and a seat with one number each; the current seat has the other numbers.
 pub record IsDealing (board : TableId) (all : List Dealt) (own : Known) (workers : List Equipped) (lanes : List Dealt)
     (next : ℕ) : Type 0 where
   pub board_of : own.board ≡ board
@@ -80,7 +80,7 @@ none_dealt board all lanes own workers none is few at new =
       lanes_of_all = is;
     }
 
--- the share at hand as its first two numbers and the others
+-- the current share as its first two numbers and the others
 first_two : (n : ℕ) (share : List ℕ) → n + 2 ≤ 32 → share ≡ range_with_len n (32 - n)
     → share ≡ range_with_len n (suc (suc (30 - n)))
 first_two n share fit is = let as_two : 32 - n ≡ suc (suc (30 - n)) = omega arith in is ∙ ap (range_with_len n) as_two
@@ -105,7 +105,7 @@ add_shares workers w =
     ∙ (flat_map-append (λ (s : Known). s.view.share) (seats_of workers) (w.seat ∷ [])
     ∙ ap (λ l. shares (seats_of workers) ++ l) (append-nil w.seat.view.share))
 
--- all numbers stay when the least goes over
+-- all numbers are kept when the least one moves
 moved_over : (xs share : List ℕ) → IsWhole (xs ++ share)
     → IsWhole ((xs ++ least_of share ∷ []) ++ without (least_of share) share)
 moved_over xs share all x low = ⊎_elim
@@ -167,7 +167,7 @@ next_dealt board all own kept given workers more lanes rest lane next was low is
       lanes_of_all = one_lane_more workers w lanes rest all is was.lanes_of_all;
     }
 
--- the last one gets the seat at hand
+-- the last one gets the current seat
 pub all_dealt : (board : TableId) (all : List Dealt) (own : Known) (workers more : List Equipped)
     (lanes rest : List Dealt) (lane : Dealt) (next : ℕ) → IsDealing board all own workers lanes next → length all ≤ next
     → lanes ≡ lane ∷ rest

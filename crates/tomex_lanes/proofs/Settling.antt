@@ -80,7 +80,7 @@ part_board board count seat mine part parts rest was is same =
     ap (λ (k : Known). k.board) same ∙ All-head (λ (p : Returned). p.seat.board ≡ board) part rest
     (subst (All (λ (p : Returned). p.seat.board ≡ board)) is was.boards)
 
--- one part more is joined
+-- one more part is joined
 pub next_joined : (board : TableId) (count : ℕ) (seat mine new : Known) (part : Returned) (parts rest : List Returned)
     → IsJoined board count seat parts → parts ≡ part ∷ rest
     → mine ≡ part.seat → All (KnowsNotOpen mine.view) part.rows → new.board ≡ board

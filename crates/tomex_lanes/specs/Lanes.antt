@@ -3,16 +3,15 @@ use Rattle.std.specs.Prelude.{ℕ, zero, suc, ◌+◌, ◌-◌, ◌%◌, ◌<◌
 use Rattle.std.specs.List.{flat_map}
 use Rattle.tomex_lanes.specs.Rows.{rows_of}
 
--- a worker's number, how many rows there are over all workers, the list of its own, and the lists of the
--- workers that it
--- steals from, the first one first
+-- a worker's number, the number of rows of all workers together, the list of its own, and the lists of the workers
+-- that it steals from, the first one first
 pub record Dealt : Type 0 where
   pub worker : ℕ
   pub count : ℕ
   pub rows : List ℕ
   pub others : List (List ℕ)
 
--- the numbers of rows of which there are so many
+-- the numbers of `count` rows
 abbrev pub AreBelow : ℕ → List ℕ → Type 0
 AreBelow count rows = All (λ row. row < count) rows
 
@@ -20,7 +19,7 @@ AreBelow count rows = All (λ row. row < count) rows
 abbrev pub IsListed : Dealt → ℕ → Type 0
 IsListed l row = Contains l.rows row ⊎ ((rows : List ℕ) × Contains l.others rows × Contains rows row)
 
--- the lists of the n workers after one, and round
+-- the lists of the n workers after one, around all workers
 abbrev pub others_of : ℕ → ℕ → ℕ → ℕ → List (List ℕ)
 others_of workers worker count zero = []
 others_of workers worker count (suc n) =
@@ -36,11 +35,11 @@ lane_of workers worker count n =
       others = others_of workers worker count n;
     }
 
--- a lane with one list more to steal from
+-- a lane with one more list to steal from
 abbrev pub with_other : Dealt → List ℕ → Dealt
 with_other l rows = record l { others = l.others ++ rows ∷ [] }
 
--- the first n of so many workers' lanes, each with the lists of all others
+-- the first n of all workers' lanes, each with the lists of all others
 abbrev pub dealt : ℕ → ℕ → ℕ → List Dealt
 dealt workers count zero = []
 dealt workers count (suc n) = dealt workers count n ++ lane_of workers n count (workers - 1) ∷ []

@@ -1,4 +1,4 @@
--- What workers get and give back, as contracts see it.
+-- What workers get and return, as contracts see it.
 use Rattle.std.specs.Prelude.{◌≡◌, ℕ, ◌<◌, Bool, true, false, List, [], All, Contains}
 use Rattle.std.specs.List.{flat_map}
 use Rattle.atomic_table.specs.Seated.{TableId}
@@ -8,12 +8,12 @@ use Rattle.tomex_board.specs.declared.mark.Mark.{Mark}
 use Rattle.tomex_board.specs.declared.mark.Mark.TheVariants.{Finished, Dropped}
 use Rattle.tomex_lanes.specs.Lanes.{Dealt}
 
--- what a worker starts with: its lane, and a seat of the board
+-- a worker before it starts: its lane, and a seat of the board
 pub record Equipped : Type 0 where
   pub lane : Dealt
   pub seat : Known
 
--- what it gives back: a seat of the board, and a list of rows
+-- the part that it returns: a seat of the board, and a list of rows
 pub record Returned : Type 0 where
   pub seat : Known
   pub rows : List ℕ

@@ -8,8 +8,7 @@ use Rattle.tomex_lanes.specs.declared.known.Known.{Known}
 abbrev pub known : Bool → List ℕ → Known
 known filling rows = record { filling = filling; rows = rows }
 
--- A pass knows the list. One that may add to it is the only one, and nothing of the list comes after
--- what the deque holds.
+-- A pass knows the list. A pass that may add to it is the only one, and the deque holds the end of the list.
 abbrev pub KnowsList : List ℕ → List ℕ → List Known → Known → Type 0
 KnowsList rows after views v = (v.rows ≡ rows) × (v.filling ≡ true → (after ≡ []) × (views ≡ v ∷ []))
 

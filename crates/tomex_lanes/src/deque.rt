@@ -1,4 +1,4 @@
-//! Deques of rows, which contracts see as the lists that they were filled with.
+//! Deques of rows, which contracts see as the lists with which they were filled.
 
 ghost use Rattle.std.specs.Prelude.{◌≡◌, ◌<◌, IfOk, IfSome, Contains};
 ghost use Rattle.tomex_lanes.specs.Rows.{rows_of};
@@ -24,7 +24,7 @@ impl<A: Allocator> Model for RowDeque<A> {
     ghost invariant = { λ d. worker_flavor d.owner ≡ 0 };
 }
 
-/// What another worker steals by.
+/// A handle through which another worker steals.
 #[derive(Drop)]
 pub struct Victim<A: Allocator> {
     thief: Thief<A>,
@@ -60,7 +60,7 @@ impl<A: Allocator> RowDeque<A> {
         Ok(RowDeque { owner })
     }
 
-    /// What one other worker steals from this deque by.
+    /// A handle through which one other worker steals from this deque.
     pub fn victim(&mut self) -> Result<Victim<A>, AllocError>
         ensures same { self.new ≡ self.old }
         ensures list { IfOk result (λ v. v ≡ self.old) }
@@ -70,7 +70,7 @@ impl<A: Allocator> RowDeque<A> {
         Ok(Victim { thief, pass })
     }
 
-    /// Takes the first row that is left. `None` where there is none.
+    /// Takes the first row that is left. `None` if there is none.
     pub fn take(&mut self) -> Option<usize>
         ensures same { self.new ≡ self.old }
         ensures row { IfSome result (λ row. Contains self.old row) }
@@ -80,8 +80,8 @@ impl<A: Allocator> RowDeque<A> {
 }
 
 impl<A: Allocator> Victim<A> {
-    /// Takes the first row that is left. `None` where there is none, or where 32 tries in a row met
-    /// another's step.
+    /// Takes the first row that is left. `None` if there is none, or if 32 tries in a row met
+    /// another worker's step.
     pub fn steal(&mut self) -> Option<usize>
         ensures same { self.new ≡ self.old }
         ensures row { IfSome result (λ row. Contains self.old row) }

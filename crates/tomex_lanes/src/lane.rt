@@ -1,4 +1,4 @@
-//! What a worker takes its rows from.
+//! Lanes, from which workers take their rows.
 
 ghost use Rattle.std.specs.Prelude.{◌≡◌, ◌<◌, IfOk, IfSome, OnOk};
 ghost use Rattle.tomex_lanes.specs.Rows.{rows_of};
@@ -8,12 +8,12 @@ use crate::deque::{RowDeque, Victim};
 use std::alloc::{AllocError, Allocator};
 use std::marker::Model;
 
-/// A worker's number, the list of its rows, its own deque with them, and what it steals from the
-/// others by, the next worker first.
+/// A worker's number, the list of its rows, its own deque with them, and a handle for stealing from
+/// each other worker, the next one first.
 #[derive(Drop)]
 pub struct Lane<A: Allocator> {
     worker: usize,
-    /// How many rows there are, over all workers.
+    /// The number of rows of all workers together.
     count: usize,
     rows: Vec<usize, A>,
     own: RowDeque<A>,
@@ -54,7 +54,7 @@ fn rows_of<A: Allocator>(
 }
 
 impl<A: Allocator> Lane<A> {
-    /// A lane that knows no other.
+    /// A lane without workers to steal from.
     pub(crate) fn new(
         alloc: A,
         worker: usize,
@@ -78,7 +78,7 @@ impl<A: Allocator> Lane<A> {
         })
     }
 
-    /// What another worker steals from this one by.
+    /// A handle through which another worker steals from this one.
     pub(crate) fn victim(&mut self) -> Result<Victim<A>, AllocError>
         ensures same { self.new ≡ self.old }
         ensures list { IfOk result (λ v. v ≡ self.old.rows) }
@@ -103,14 +103,14 @@ impl<A: Allocator> Lane<A> {
         self.worker
     }
 
-    /// How many rows there are, over all workers.
+    /// The number of rows of all workers together.
     pub fn count(&self) -> usize
         ensures { result ≡ self.now.count }
     {
         self.count
     }
 
-    /// The rows that were dealt to the worker, rising, whoever took them since.
+    /// The rows that were dealt to the worker, rising, also those that were taken since.
     pub fn rows(&self) -> &[usize]
         ensures value { result.now ≡ self.now.rows }
         ensures below { AreBelow self.now.count self.now.rows }
@@ -118,15 +118,15 @@ impl<A: Allocator> Lane<A> {
         self.rows.as_slice()
     }
 
-    /// These rows, where the lane is no longer wanted.
+    /// These rows, when the lane is no longer needed.
     pub fn into_rows(self) -> Vec<usize, A>
         ensures value { result.items ≡ self.rows }
     {
         self.rows
     }
 
-    /// Takes a row: the first that is left in the worker's own deque, else one that is stolen. `None`
-    /// after one round of all others in which nothing was got.
+    /// Takes a row: the first that is left in the worker's own deque, else one that is stolen.
+    /// `None` after one round of all others without success.
     pub fn take(&mut self) -> Option<usize>
         ensures same { self.new ≡ self.old }
         ensures row { IfSome result (λ row. row < self.old.count) }

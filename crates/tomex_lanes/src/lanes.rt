@@ -1,4 +1,4 @@
-//! How rows are dealt.
+//! Dealing rows to workers.
 
 ghost use Rattle.std.specs.Prelude.{◌≡◌, ◌<◌, ◌≤◌, length, slice_get, slice_set, IfOk, OnOk, Some, All};
 ghost use Rattle.tomex_lanes.specs.Lanes.{Dealt, dealt, with_other};
@@ -25,8 +25,8 @@ fn connect<A: Allocator>(
 }
 
 /// A lane for each worker. Row i goes to the worker that is left when i is divided by their number,
-/// and each worker can steal from all others, the next one first. All memory that lanes use is taken
-/// here.
+/// and each worker can steal from all others, the next one first. All memory that lanes use is
+/// allocated here.
 pub fn deal<A: Allocator + Clone + Drop>(
     alloc: A,
     workers: usize,

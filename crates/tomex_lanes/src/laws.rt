@@ -2,7 +2,7 @@
 
 ghost use Rattle.tomex_lanes.specs.Lanes.{EachRowIsDealt};
 
-/// Each row is on the list of one of the workers, however many there are.
+/// Each row is on the list of one of the workers, for any number of workers.
 #[tactic(auto, using(crate::proofs::Dealing::each_is_dealt))]
 pub fn each_row_is_dealt()
     ensures { EachRowIsDealt }

@@ -17,7 +17,7 @@ pub(crate) type Thief<A> = Stealer<usize, A, Known, OfList>;
 
 pub(crate) type RowPass<A> = Pass<usize, Known, A>;
 
-/// A steal that is told to try again does so at most so many times.
+/// How often a steal that returns `Retry` is tried.
 const TRIES: usize = 32;
 
 /// Adds a row at the end of the list.
@@ -72,7 +72,7 @@ pub(crate) fn steal<A: Allocator>(thief: &Thief<A>, pass: &mut RowPass<A>) -> Op
     None
 }
 
-/// A deque of the worker's rows. Its memory is reserved, so no row that is added needs more.
+/// A deque of the worker's rows. Its memory is reserved first, so adding rows needs no more.
 pub(crate) fn filled<A: Allocator + Clone + Drop>(
     alloc: A,
     worker: usize,

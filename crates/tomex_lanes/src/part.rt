@@ -1,4 +1,4 @@
-//! What a worker gives back, and the marks that all of them leave.
+//! The part that each worker returns, and the marks that all parts together give.
 
 ghost use Rattle.std.specs.Prelude.{◌≡◌, ◌<◌, ℕ, [], true, length, All};
 ghost use Rattle.tomex_board.specs.Marks.{AreLawful};
@@ -48,8 +48,8 @@ impl<J: Plan, A: Allocator> Part<J, A> {
     }
 }
 
-/// The marks of all rows, each finished or dropped, where the parts have all rows and all numbers. It
-/// takes no memory.
+/// The marks of all rows, each finished or dropped, if the parts have all rows and all numbers.
+/// Allocates nothing.
 pub fn settle<J: Plan, A: Allocator>(
     board: Board<J, A>,
     mut parts: Vec<Part<J, A>, A>,

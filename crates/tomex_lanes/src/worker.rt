@@ -1,4 +1,4 @@
-//! What a worker starts with.
+//! Workers before they start.
 
 ghost use Rattle.std.specs.Prelude.{◌≡◌, ◌≤◌, [], map, length, IfOk};
 ghost use Rattle.std.specs.List.{range_with_len};

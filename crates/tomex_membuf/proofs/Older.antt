@@ -1,4 +1,4 @@
--- What an older access is in the way of, and the turns of the search for those that are.
+-- Which accesses an older one blocks, and the turns of the search for those that block.
 use Rattle.std.proofs.Common.{ℕ, ◌<◌, ◌≤◌, ◌≡◌, ◌∙◌, Bool, true, false, arith, refl, sym, inl, inr, ◌⊎◌, List, Option}
 use Rattle.std.proofs.Common.{Some, None, slice_index, slice_index_or}
 use Rattle.std.specs.Prelude.{◌==◌, ◌&&◌, ◌||◌, Decides, not, nat_lt, is_some}
@@ -26,7 +26,7 @@ lets_none (Some other) s next e = rw (e, share_none (bytes_in other)) refl
 
 -- Turns of the search for older accesses.
 
--- those that were looked at let it
+-- those that were visited let it pass
 abbrev pub AreLooked : List (Option Station) → List ℕ → ℕ → ℕ → Station → ℕ → Type 0
 AreLooked slots issue_numbers issue_number rest s next = (x : ℕ) → x < 128 → slice_index issue_numbers x < issue_number
     → (has rest x ≡ true) ⊎ (lets_pass (slice_index_or slots x None) s next ≡ true)
@@ -69,7 +69,7 @@ blocked_test true true e = absurd (cc)
 blocked_test true false e = (refl, refl)
 blocked_test false lets_pass e = absurd (cc)
 
--- one is in its way
+-- one blocks it
 pub found_blocked : (slots : List (Option Station)) (issue_numbers : List ℕ) (place other issue_number : ℕ)
     (s : Station) (next : ℕ) (b : Bool) → issue_number ≡ slice_index issue_numbers place → other < 128
     → b ≡ (nat_lt (slice_index issue_numbers other) issue_number && not
@@ -139,7 +139,7 @@ looked_first slots rivals issue_numbers issue_number s next others x l less = el
   | inr e ↦ inr (others x l less e)
 ]
 
--- a test of the station that stands in a place is one of the place
+-- a test of the station in a place is one of the place
 pub clear_here : (pools : Pools) (place next : ℕ) (s : Station) (r : Bool) → slot pools.slots place ≡ Some s
     → Decides r (IsClear pools.slots pools.issue_numbers place s next) → Decides r (IsClearAt pools place next)
 clear_here pools place next s r here says = (
@@ -155,7 +155,7 @@ clear_there pools place next s r here says = (
   λ clear. says.1 (λ t there. let same : s ≡ t = cc in rw (← same) clear),
 )
 
--- nothing is in the way where nothing stands
+-- nothing blocks a free place
 pub clear_free : (pools : Pools) (place next : ℕ) → slot pools.slots place ≡ None
     → Decides true (IsClearAt pools place next)
 clear_free pools place next free = (λ yes s there. absurd (cc), λ clear. refl)

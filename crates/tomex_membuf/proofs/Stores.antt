@@ -1,4 +1,4 @@
--- In which places stores stand.
+-- The places of stores.
 use Rattle.std.proofs.Common.{ℕ, zero, suc, ◌/◌, ◌<◌, ◌≡◌, false, arith, refl, List, Option, Some, None, slice_index_or}
 use Rattle.tomex_rvdec.specs.declared.pool.PoolId.TheVariants as pools
 use Rattle.tomex_steps.specs.Steps.{is_in, is_store}
@@ -8,7 +8,7 @@ use Rattle.tomex_tags.specs.Places.{pool_at}
 use Rattle.tomex_tags.specs.Pools.{AreOwn}
 use Rattle.tomex_tags.proofs.Listening.{own_here}
 
--- below the store buffers no store stands
+-- no store is in a place below the store buffers
 pub no_store : (slots : List (Option Station)) (place : ℕ) (s : Station) → place < 64 → AreOwn slots
     → slice_index_or slots place None ≡ Some s → is_store (step_in s) ≡ false
 no_store slots place s l own here =

@@ -41,7 +41,7 @@ IsClear slots issue_numbers place s cycle =
     (x : ℕ) → x < 128 → slice_index issue_numbers x < slice_index issue_numbers place
     → lets_pass (slot slots x) s cycle ≡ true
 
--- if a station stands in a place, no older one blocks it
+-- if there is a station in a place, no older one blocks it
 abbrev pub IsClearAt : Pools → ℕ → ℕ → Type 0
 IsClearAt pools place cycle =
     (s : Station) → slot pools.slots place ≡ Some s → IsClear pools.slots pools.issue_numbers place s cycle

@@ -1,4 +1,4 @@
-//! Accesses to memory: they touch their byte range alone.
+//! Accesses to memory: they touch only their byte range.
 
 ghost use Rattle.std.specs.Prelude.{◌≡◌, IfSome, IsSome, Some};
 ghost use Rattle.tomex_rvdec.specs.Operands.{pool_of};
@@ -11,8 +11,8 @@ use tomex_rvdec::PoolId;
 use tomex_rvexec::{Memory, result_in, store};
 use tomex_tags::Station;
 
-/// The result of the operation of a station of this pool, which for a load is read from its bytes; `None`
-/// where a byte of its access lies outside memory.
+/// The result of the operation of a station of this pool; a load reads its bytes for it. `None` if
+/// a byte of its access lies outside memory.
 #[inline(always)]
 pub fn read<A: Allocator>(pool: PoolId, station: &Station, memory: &Memory<A>) -> Option<u32>
     requires { pool_of station.now.instr.op ≡ Some pool }
@@ -23,8 +23,8 @@ pub fn read<A: Allocator>(pool: PoolId, station: &Station, memory: &Memory<A>) -
     result_in(pool, &station.step(), memory)
 }
 
-/// Writes the bytes of a station's store. Memory stays as it was if the station holds none, or if a byte of its
-/// access lies outside memory.
+/// Writes the bytes of a station's store. Memory is unchanged if the station holds none, or if a
+/// byte of its access lies outside memory.
 #[inline(always)]
 pub fn write<A: Allocator>(station: &Station, memory: &mut Memory<A>)
     ensures stored { HasStored (step_in station.now) memory.old memory.new }
@@ -33,11 +33,11 @@ pub fn write<A: Allocator>(station: &Station, memory: &mut Memory<A>)
     store(&station.step(), memory);
 }
 
-/// A whole access: what the operation of a station of this pool results in, and the bytes of its store. `None`, and
-/// memory as it was, if a byte of it lies outside memory.
+/// A whole access: the result of the operation of a station of this pool, and the bytes of its
+/// store. `None`, and memory unchanged, if a byte of it lies outside memory.
 ///
-/// A cycle makes its accesses in two passes, `read` for each and then `write`, since all of its loads read what stood
-/// before it.
+/// A cycle makes its accesses in two passes, `read` for each and then `write`, since all of its
+/// loads read memory as it was before the cycle.
 pub fn access<A: Allocator>(pool: PoolId, station: &Station, memory: &mut Memory<A>) -> Option<u32>
     requires { pool_of station.now.instr.op ≡ Some pool }
     ensures value { IfSome result (λ v. v ≡ result_of (step_in station.now) (byte_in memory.old)) }

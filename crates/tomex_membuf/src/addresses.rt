@@ -9,7 +9,7 @@ use tomex_bus::oldest;
 use tomex_tags::{Pools, Station};
 use tomex_timing::Field;
 
-/// Whether the base of a place's station is there.
+/// True if there is a station and its base is there.
 fn has_base(station: Option<Station>) -> bool
     ensures { result ≡ has_base station }
 {

@@ -1,7 +1,7 @@
 //! The load and store buffers of a Tomasulo machine.
 //!
 //! Addresses are computed in program order. An access waits for the older ones that share a byte
-//! with it where one of the two is a store; nothing is forwarded from a store to a load.
+//! with it, if one of the two is a store; nothing is forwarded from a store to a load.
 #![tactic(auto)]
 
 mod accesses;

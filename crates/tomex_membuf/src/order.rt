@@ -34,13 +34,14 @@ fn is_finished_before(finish: Option<u64>, cycle: u64) -> bool
     }
 }
 
-/// Whether the accesses of two stations, as far as their addresses are computed, share a byte, one being a store.
+/// True if the accesses of two stations, as far as their addresses are computed, share a byte, one
+/// being a store.
 #[inline(always)]
 fn stations_conflict(other: &Station, station: &Station) -> bool
     ensures { result ≡ stations_conflict other.now station.now }
 {
     match (other.address, station.address) {
-        // None is of more than four bytes: how many they are is asked only of two that are near.
+        // No access has more than four bytes: the sizes matter only for two that are near.
         (Some(a), Some(b)) if a.abs_diff(b) < 4 => {
             shares_byte(other.bytes(), station.bytes())
                 && (other.step().is_store() || station.step().is_store())
@@ -49,7 +50,7 @@ fn stations_conflict(other: &Station, station: &Station) -> bool
     }
 }
 
-/// Whether an older station, if there is one, doesn't block another.
+/// True if an older station, if there is one, doesn't block `station`.
 #[inline(always)]
 fn lets_pass(other: Option<Station>, station: &Station, cycle: u64) -> bool
     ensures { result ≡ lets_pass other station.now cycle }
@@ -62,7 +63,7 @@ fn lets_pass(other: Option<Station>, station: &Station, cycle: u64) -> bool
     }
 }
 
-/// Whether what stands in a place blocks a station: it is older, and doesn't let it pass.
+/// True if the station in a place blocks another: it is older, and doesn't let it pass.
 #[inline(always)]
 fn is_blocked_by(
     pools: &Pools,
@@ -77,8 +78,8 @@ fn is_blocked_by(
     pools.issue_numbers()[other] < issue_number && !lets_pass(pools.at(other), station, cycle)
 }
 
-/// The places of the other loads and stores with an address, among which is each older one that blocks the one in a
-/// place. For a load they are those of the stores.
+/// The places of the other loads and stores with an address, which include every older one that
+/// blocks the one in a place. For a load they are those of the stores.
 #[inline(always)]
 fn rivals(pools: &Pools, place: usize) -> u128
     requires { place < 128 }
@@ -86,7 +87,7 @@ fn rivals(pools: &Pools, place: usize) -> u128
         → HasEachBlocker pools.now place s cycle result }
 {
     let addressed = pools.addressed();
-    // No store stands below the store buffers.
+    // No store is in a place below the store buffers.
     pools.keeps_places();
     if place >= FIRST_STORE {
         without(addressed, place)
@@ -95,7 +96,7 @@ fn rivals(pools: &Pools, place: usize) -> u128
     }
 }
 
-/// Whether no rival blocks the station that stands in a place.
+/// True if no rival blocks the station in a place.
 fn passes(pools: &Pools, place: usize, rivals: u128, station: &Station, cycle: u64) -> bool
     requires low { place < 128 }
     requires rivals { HasEachBlocker pools.now place station.now cycle rivals }
@@ -114,20 +115,22 @@ fn passes(pools: &Pools, place: usize, rivals: u128, station: &Station, cycle: u
     true
 }
 
-/// Whether no older access blocks what stands in a place: true unless an older load or store whose address is computed,
-/// and which isn't finished before the cycle, shares a byte with it, one of the two being a store.
+/// True if no older access blocks the one in a place: no older load or store whose address is
+/// computed, and which wasn't finished before the cycle, shares a byte with it, one of the two
+/// being a store.
 ///
-/// So it is true of a free place, of what is no load or store, and of one without its address; callers ask of an
-/// access that has its address, which this contract doesn't require. Addresses are computed in program order
-/// (`address_next`), so once an access has its own, no older one lacks it. A set of places holds numbers below 128,
-/// so that any of them may be asked of; no station stands in those from 96 on.
+/// Also true for a free place, an operation that isn't a load or store, or an access without its
+/// address; callers only ask for accesses with an address, which this contract doesn't require.
+/// Addresses are computed in program order (`address_next`), so once an access has its own, every
+/// older one has one. Sets of places hold numbers below 128, so any of them may be passed; those
+/// from 96 on have no station.
 #[inline(always)]
 pub fn may_access(pools: &Pools, place: usize, cycle: u64) -> bool
     requires { place < 128 }
     ensures { Decides result (IsClearAt pools.now place cycle) }
 {
     let rivals = rivals(pools, place);
-    // Mostly there is none, and no station has to be read.
+    // Usually there is none, and no station has to be read.
     if rivals == 0 {
         return true;
     }
@@ -137,7 +140,7 @@ pub fn may_access(pools: &Pools, place: usize, cycle: u64) -> bool
     }
 }
 
-/// Whether at most one load or store has its address: then none blocks another.
+/// True if at most one load or store has its address: then none blocks another.
 #[inline(always)]
 pub fn is_alone(pools: &Pools) -> bool
     ensures { Decides result (HasAtMostOneAccess pools.now.slots) }

@@ -1,4 +1,4 @@
--- What a search among plateaus finds.
+-- The results of a search among plateaus.
 use Rattle.std.proofs.Common.{◌≡◌, ℕ, ◌-◌, ◌<◌, ◌≤◌, ◌++◌, ◌+◌, arith, ap, sym, ◌∙◌, refl, subst, Bool, true, false}
 use Rattle.std.proofs.Common.{List, [], ◌∷◌, length, get_or, Option, Some, None, All, reverse, inl, inr, ⊎_elim}
 use Rattle.std.specs.Prelude.{option_map, IfSome}
@@ -22,7 +22,7 @@ all_reverse P xs all k d low =
     let below : k < length xs = rw length-reverse at low in
     subst P (sym (get_or-reverse xs k d below)) (all (length xs - 1 - k) d (omega arith))
 
--- what is found passes, and is one of them
+-- the item that is found passes, and is one of them
 found_one : {X : Type 0} (P : X → Type 0) (p : X → Bool) (xs : List X) (x : X) → All P xs → find p xs ≡ Some x → P x
     × (p x ≡ true)
 found_one P p [] x all is = absurd (cc)
@@ -34,7 +34,7 @@ found_one P p (y ∷ ys) x all is = elim (cases_Bool (p y)) [
   | inr fails ↦ found_one P p ys x (All-tail P y ys all) (rw fails at is)
 ]
 
--- where none is found none passes
+-- if none is found, none passes
 none_found : {X : Type 0} (p : X → Bool) (xs : List X) → find p xs ≡ None → All (λ x. p x ≡ false) xs
 none_found p [] is = All-nil (λ x. p x ≡ false)
 none_found p (y ∷ ys) is = elim (cases_Bool (p y)) [
@@ -53,7 +53,7 @@ total_in config steps found (Some p) n good all at is =
     at in
     w.0 config good w.1 ∙ e
 
--- a total that is known is the program's
+-- a known total is the program's
 total_is : (config : Configuration) (steps : List Step) (found : List Plateau) (n : ℕ) → IsWithinLimits config
     → All (IsPlateauOf steps) found → total_known config found ≡ Some n → total_of (times_in config steps) ≡ n
 total_is config steps found n good all is =
@@ -82,7 +82,7 @@ known_in config steps found (Some p) k d good all low on at =
     at in
     ap (λ (n : ℕ). Some n) (sym (w.0 config good w.1))
 
--- and that of a configuration on one of the plateaus is known
+-- the total of a configuration on one of the plateaus is known
 pub is_known : (config : Configuration) (steps : List Step) (found : List Plateau) (k : ℕ) (d : Plateau)
     → IsWithinLimits config → All (IsPlateauOf steps) found → k < length found
     → lies_on config (get_or found k d) ≡ true → total_known config found ≡ Some (total_of (times_in config steps))

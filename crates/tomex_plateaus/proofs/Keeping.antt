@@ -1,4 +1,4 @@
--- One plateau more, or another one, in the list of a program's.
+-- One more plateau, or another one, in a program's list.
 use Rattle.std.proofs.Common.{◌<◌, ◌≤◌, ◌≡◌, ◌+◌, ◌++◌, ◌∷◌, [], ◌%◌, ℕ, List, arith, length, refl}
 use Rattle.std.proofs.Math.ListN.{set, length-set}
 use Rattle.std.proofs.lemmas.Bool.{le-ltb, lt-ltb}
@@ -36,7 +36,7 @@ another_one steps found oldest p kept one =
       place = (let l : (oldest + 1) % 1024 < 1024 = omega arith in l);
     }
 
--- what is kept with one plateau more, while there are few, and once there are as many as are kept
+-- the list with one more plateau, before it is full and after
 pub kept_few : (k : Kept) (p : Plateau) → length k.found < MOST
     → kept_with p k ≡ record { steps = k.steps; found = k.found ++ (p ∷ []); oldest = k.oldest }
 kept_few k p low = rw (lt-ltb (length k.found) MOST low) refl

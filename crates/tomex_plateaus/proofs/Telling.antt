@@ -1,6 +1,6 @@
--- The demands of a run give a plateau: a configuration that lies on it serves the run as its own configuration does.
-use Rattle.std.proofs.Common.{ℕ, zero, suc, ◌<◌, ◌≤◌, ◌≡◌, ◌∙◌, ◌⊎◌, Bool, true, false, ap, arith, refl, sym, inl, inr, List, []}
-use Rattle.std.proofs.Common.{◌∷◌, Some, length}
+-- The demands of a run give a plateau: a configuration that lies on it gives the run the same cycles as its own.
+use Rattle.std.proofs.Common.{ℕ, zero, suc, ◌<◌, ◌≤◌, ◌≡◌, ◌∙◌, ◌⊎◌, Bool, true, false, ap, arith, refl, sym, inl}
+use Rattle.std.proofs.Common.{inr, List, [], ◌∷◌, Some, length}
 use Rattle.std.specs.Prelude.{min, nat_le, ◌==◌, not, slice_get}
 use Rattle.std.specs.List.{list_all}
 use Rattle.std.proofs.lemmas.Bool.{and_from, and_parts, cases_Bool, eqb-true, leb-true, le-leb}
@@ -27,7 +27,7 @@ use Rattle.tomex_plateaus.specs.Laws.{OwnConfigurationLiesOn, TotalIsThatOfThePl
 use Rattle.tomex_plateaus.specs.Plateaus.{counts_for, counts_of, is_within, latencies_for, latencies_of, latency_for}
 use Rattle.tomex_plateaus.specs.Plateaus.{lies_on, plateau_of}
 
--- the counts of a configuration are small
+-- a configuration's counts are small
 
 between : (low high n : ℕ) → is_between low high n ≡ true → n ≤ high
 between low high n h = leb-true n high (and_parts (nat_le low n) (nat_le n high) h).1
@@ -44,7 +44,7 @@ count_high config (Units unit) good = let h = units_high config unit good in ome
 count_high config Buses good = let h = between 1 8 config.buses good.buses in omega arith
 count_high config Width good = let h = between 1 4 config.width good.width in omega arith
 
--- what follows for a count and a latency in an interval, and that a configuration's own is in it
+-- consequences for a count and a latency in an interval; a configuration's own is in it
 
 count_in : (demand : Demand) (count n : ℕ) → n ≤ 16 → is_within (counts_for demand count) n ≡ true → (n ≡ count)
     ⊎ ((demand.waits ≡ false) × (demand.peak ≤ n))
@@ -114,7 +114,7 @@ latencies_are demands own units.Div = refl
 latencies_are demands own units.Mem = refl
 latencies_are demands own units.Bru = refl
 
--- what all of a list pass each of them passes
+-- a test that all of a list pass is passed by each
 
 at_place : {X : Type 0} (p : X → Bool) (xs : List X) (n : ℕ) (x : X) → list_all p xs ≡ true → slice_get xs n ≡ Some x
     → p x ≡ true
@@ -148,7 +148,7 @@ all_from : {X : Type 0} (p : X → Bool) (xs : List X) → ((x : X) → p x ≡ 
 all_from p [] each = refl
 all_from p (x ∷ xs) each = and_from (p x) (list_all p xs) (each x) (all_from p xs each)
 
--- a configuration on the plateau serves the run
+-- a configuration on the plateau gives the run the same cycles
 
 -- a part has no stalls if no step waits for it
 no_stalls : (n : ℕ) → not (n == 0) ≡ false → n ≡ 0

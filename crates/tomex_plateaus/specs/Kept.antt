@@ -1,4 +1,4 @@
--- The plateaus that are kept of one program.
+-- The plateaus that are kept for one program.
 use Rattle.std.specs.Prelude.{◌≡◌, ℕ, ◌+◌, ◌%◌, ◌<◌, ◌≤◌, ◌^◌, nat_lt, true, if◌then◌else◌, List, [], ◌∷◌, ◌++◌, length}
 use Rattle.std.specs.Prelude.{All, slice_set}
 use Rattle.tomex_steps.specs.declared.step.Step.{Step}
@@ -7,7 +7,7 @@ use Rattle.tomex_plateaus.specs.declared.plateau.Plateau.{Plateau}
 use Rattle.tomex_plateaus.specs.declared.plateaus.TheConstants.{MOST}
 use Rattle.tomex_plateaus.specs.Plateaus.{IsPlateauOf, lies_on}
 
--- the steps of the program's run, its plateaus, and the place of the oldest of them, if there are as many as are kept
+-- the steps of the program's run, its plateaus, and the place of the oldest of them, if the list is full
 pub record Kept : Type 0 where
   pub steps : List Step
   pub found : List Plateau
@@ -20,14 +20,14 @@ pub record AreKept (k : Kept) : Type 0 where
   pub few : length k.found ≤ MOST
   pub place : k.oldest < MOST
 
--- with one plateau more, which takes the place of the oldest if there are as many as are kept
+-- with one more plateau, which replaces the oldest if the list is full
 abbrev pub kept_with : Plateau → Kept → Kept
 kept_with p k =
     if nat_lt (length k.found) MOST
     then record { steps = k.steps; found = k.found ++ (p ∷ []); oldest = k.oldest }
     else record { steps = k.steps; found = slice_set k.found k.oldest p; oldest = (k.oldest + 1) % MOST }
 
--- one plateau more is kept, and the configuration lies on it
+-- one more plateau is kept, and the configuration lies on it
 pub record HasLearnt (config : Configuration) (old new : Kept) : Type 0 where
   pub plateau : Plateau
   pub on : lies_on config plateau ≡ true

@@ -13,7 +13,7 @@ OwnConfigurationLiesOn = (own : Configuration) (steps : List Step) (demands : De
     → IsWithinLimits own → AreDemands own (history own steps) demands
     → lies_on own (plateau_of demands own) ≡ true
 
--- and on each configuration of it the run takes the same cycles
+-- and on every configuration of it the run takes the same cycles
 abbrev pub TotalIsThatOfThePlateau : Type 0
 TotalIsThatOfThePlateau = (own : Configuration) (steps : List Step) (demands : Demands)
     → IsWithinLimits own → AreDemands own (history own steps) demands

@@ -1,4 +1,4 @@
--- What contracts cite: plateaus, what is kept of them, and their laws.
+-- Definitions that contracts cite: plateaus, which of them are kept, and their laws.
 pub mod Plateaus
 pub mod Kept
 pub mod Laws

@@ -1,4 +1,4 @@
--- Plateaus: configurations on which a program takes the same cycles, as the demands of one run give them.
+-- Plateaus: configurations on which a program takes the same cycles, derived from the demands of one run.
 use Rattle.std.specs.Prelude.{◌≡◌, ℕ, min, ◌==◌, nat_le, Bool, true, ◌&&◌, if◌then◌else◌, List}
 use Rattle.std.specs.Prelude.{[], ◌∷◌, map, reverse, Option, option_map, slice_index_or}
 use Rattle.std.specs.List.{find, list_all}
@@ -21,28 +21,28 @@ use Rattle.tomex_plateaus.specs.declared.plateau.Plateau.{Plateau}
 abbrev pub is_within : Interval → ℕ → Bool
 is_within i n = nat_le i.least n && nat_le n i.most
 
--- no numbers but 0
+-- only the number 0
 abbrev pub zero_alone : Interval
 zero_alone = record { least = 0; most = 0 }
 
--- how many of a part a configuration of a plateau has
+-- the counts of a part on a plateau
 abbrev pub counts_of : Plateau → Part → Interval
 counts_of p (Stations pool) = slice_index_or p.stations (place_of_pool pool) zero_alone
 counts_of p (Units unit) = slice_index_or p.units (place_of_unit unit) zero_alone
 counts_of p Buses = p.buses
 counts_of p Width = p.width
 
--- and how long its units of a kind take
+-- the latencies of a kind of unit on a plateau
 abbrev pub latencies_of : Plateau → UnitId → Interval
 latencies_of p unit = slice_index_or p.latencies (place_of_unit unit) zero_alone
 
--- a configuration lies on a plateau: of each part it has so many, and units of each kind take so long
+-- a configuration lies on a plateau: its counts and latencies are in the plateau's intervals
 abbrev pub lies_on : Configuration → Plateau → Bool
 lies_on config p =
     list_all (λ part. is_within (counts_of p part) (count_of config part)) all_parts
     && list_all (λ unit. is_within (latencies_of p unit) (option_of config unit).latency) all_units
 
--- on each configuration of it the run of these steps takes its total
+-- on every configuration of it the run of these steps takes its total
 abbrev pub IsPlateauOf : List Step → Plateau → Type 0
 IsPlateauOf steps p = (config : Configuration) → IsWithinLimits config → lies_on config p ≡ true
     → total_of (times_in config steps) ≡ p.total
@@ -51,14 +51,14 @@ IsPlateauOf steps p = (config : Configuration) → IsWithinLimits config → lie
 abbrev pub total_known : Configuration → List Plateau → Option ℕ
 total_known config found = option_map (λ p. p.total) (find (lies_on config) (reverse found))
 
--- Of a part for which no step waits, a run is served as well by each count from its peak on; of another one by its
--- configuration's own count. A configuration's counts are at most 16.
+-- If no step waits for a part, every count from the run's peak on gives the same cycles; otherwise the
+-- configuration's own count does. A configuration's counts are at most 16.
 abbrev pub counts_for : Demand → ℕ → Interval
 counts_for demand count =
     if demand.waits then record { least = count; most = count }
     else record { least = min demand.peak 255; most = 255 }
 
--- and if it uses no unit of a kind, any latency will do
+-- if the run uses no unit of a kind, any latency gives the same cycles
 abbrev pub latencies_for : Demand → ℕ → Interval
 latencies_for demand latency =
     if demand.peak == 0 then record { least = 0; most = 255 } else record { least = latency; most = latency }
@@ -75,7 +75,7 @@ latency_for demands own unit = latencies_for (demand_of demands (Units unit)) (o
 abbrev pub all_pools : List PoolId
 all_pools = pools.Alu ∷ pools.Mul ∷ pools.Div ∷ pools.Load ∷ pools.Store ∷ pools.Bru ∷ []
 
--- the plateau that the demands of a run on its own configuration give
+-- the plateau that follows from the demands of a run on its own configuration
 abbrev pub plateau_of : Demands → Configuration → Plateau
 plateau_of demands own = record {
   stations = map (stations_for demands own) all_pools;

@@ -13,7 +13,7 @@ pub struct Interval {
 }
 
 impl Interval {
-    /// The counts of a part on which a run takes the same cycles as on a configuration's own count.
+    /// The counts of a part that give a run the same cycles as the configuration's own count.
     pub(crate) fn of_counts(demand: Demand, count: u8) -> Interval
         ensures { result ≡ counts_for demand count }
     {
@@ -30,7 +30,8 @@ impl Interval {
         }
     }
 
-    /// The same of a kind of unit's latencies.
+    /// The latencies of a kind of unit that give a run the same cycles as the configuration's own
+    /// latency.
     pub(crate) fn of_latencies(demand: Demand, latency: u8) -> Interval
         ensures { result ≡ latencies_for demand latency }
     {

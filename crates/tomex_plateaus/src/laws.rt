@@ -2,8 +2,8 @@
 
 ghost use Rattle.tomex_plateaus.specs.Laws.{OwnConfigurationLiesOn, TotalIsThatOfThePlateau};
 
-/// The demands of a run give a plateau of its program: its own configuration lies on it, and on each configuration of
-/// it the program takes the run's cycles.
+/// The demands of a run give a plateau of its program: the run's configuration lies on it, and on
+/// every configuration of it the program takes the run's cycles.
 pub fn demands_give_a_plateau()
     ensures own { OwnConfigurationLiesOn }
     ensures total { TotalIsThatOfThePlateau }

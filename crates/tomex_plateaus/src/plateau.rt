@@ -9,8 +9,8 @@ use tomex_config::Config;
 use tomex_rvdec::{PoolId, UnitId};
 use tomex_timing::{Demands, Part};
 
-/// A region of the design space, given by how many a configuration may have of each part and how long its units may
-/// take, and the cycles that a program takes on each configuration of it.
+/// A region of the design space, given by the counts of each part and the latencies of each kind of
+/// unit, and the cycles that a program takes on every configuration of it.
 #[derive(Clone, Copy, Debug, PartialEq, Eq)]
 pub struct Plateau {
     /// In the order of `PoolId::ALL` and of `UnitId::ALL`.
@@ -22,21 +22,21 @@ pub struct Plateau {
     pub total: u64,
 }
 
-/// The numbers of a pool's stations on which a run takes the same cycles as on its own configuration.
+/// The numbers of a pool's stations that give a run the same cycles as its own configuration.
 fn stations_for(demands: &Demands, own: &Config, pool: PoolId) -> Interval
     ensures { result ≡ stations_for demands.now own.now pool }
 {
     Interval::of_counts(demands.demand(Part::Stations(pool)), own.stations(pool))
 }
 
-/// The same of a kind's units.
+/// The numbers of a kind's units that give a run the same cycles.
 fn units_for(demands: &Demands, own: &Config, unit: UnitId) -> Interval
     ensures { result ≡ units_for demands.now own.now unit }
 {
     Interval::of_counts(demands.demand(Part::Units(unit)), own.units(unit))
 }
 
-/// And of their latencies.
+/// The latencies of a kind of unit that give a run the same cycles.
 fn latency_for(demands: &Demands, own: &Config, unit: UnitId) -> Interval
     ensures { result ≡ latency_for demands.now own.now unit }
 {
@@ -44,7 +44,7 @@ fn latency_for(demands: &Demands, own: &Config, unit: UnitId) -> Interval
 }
 
 impl Plateau {
-    /// The plateau that the demands of a run give, which was made on its own configuration.
+    /// The plateau that follows from the demands of a run on its own configuration.
     pub fn of(demands: &Demands, own: &Config) -> Plateau
         ensures { result ≡ plateau_of demands.now own.now }
     {
@@ -77,7 +77,7 @@ impl Plateau {
         }
     }
 
-    /// How many of a part a configuration may have.
+    /// The counts of a part on the plateau.
     fn counts(&self, part: Part) -> Interval
         ensures { result ≡ counts_of self.now part }
     {
@@ -89,7 +89,7 @@ impl Plateau {
         }
     }
 
-    /// How long units of a kind may take.
+    /// The latencies of a kind of unit on the plateau.
     fn latencies(&self, unit: UnitId) -> Interval
         ensures { result ≡ latencies_of self.now unit }
     {

@@ -11,16 +11,16 @@ use std::marker::Model;
 use tomex_config::Config;
 use tomex_timing::Run;
 
-/// How many are kept.
+/// The most plateaus that are kept.
 const MOST: usize = 1024;
 
-/// Plateaus of a program, as the demands of its runs gave them.
+/// Plateaus of a program, from the demands of its runs.
 #[derive(Drop)]
 pub struct Plateaus<'s, A: Allocator> {
     /// A run of the program.
     run: &'s Run<A>,
     found: Vec<Plateau, A>,
-    /// The place of the oldest, once there are as many as are kept.
+    /// The place of the oldest, once the list is full.
     oldest: usize,
 }
 
@@ -35,7 +35,7 @@ impl<'s, A: Allocator> Model for Plateaus<'s, A> {
 }
 
 impl<'s, A: Allocator> Plateaus<'s, A> {
-    /// None yet of the program whose run this is. Takes no memory.
+    /// No plateaus yet, for the program of this run. Allocates nothing.
     pub fn new(alloc: A, run: &'s Run<A>) -> Plateaus<'s, A>
         requires { length run.now < 2 ^ 28 }
         ensures { result ≡ record { steps = run.now; found = []; oldest = 0 } }
@@ -47,8 +47,9 @@ impl<'s, A: Allocator> Plateaus<'s, A> {
         }
     }
 
-    /// The cycles that the program takes on a configuration, if the configuration lies on one of its plateaus. The
-    /// end of the list is asked first; on whichever plateau it lies, the total is the same.
+    /// The cycles that the program takes on a configuration, if the configuration lies on one of
+    /// its plateaus. The search begins at the end of the list; every plateau on which it lies gives
+    /// the same total.
     pub fn total_on(&self, config: &Config) -> Option<u64>
         ensures known { result ≡ total_known config.now self.now.found }
         ensures total { IfSome result (λ n. total_of (times_in config.now self.now.steps) ≡ n) }
@@ -66,7 +67,7 @@ impl<'s, A: Allocator> Plateaus<'s, A> {
         Some(plateau.total)
     }
 
-    /// Keeps one more, in the place of the oldest if there are as many as are kept.
+    /// Keeps one more, in place of the oldest if the list is full.
     fn keep(&mut self, plateau: Plateau) -> Result<(), AllocError>
         requires { IsPlateauOf self.old.steps plateau }
         ensures steps { self.new.steps ≡ self.old.steps }
@@ -83,8 +84,8 @@ impl<'s, A: Allocator> Plateaus<'s, A> {
         Ok(())
     }
 
-    /// Evaluates the program's run on a configuration, and keeps the plateau that its demands give: the run's cycles.
-    /// If memory is refused, nothing is forgotten.
+    /// Evaluates the program's run on a configuration, and keeps the plateau that its demands give.
+    /// Returns the run's cycles. If out of memory, no plateau is lost.
     ///
     /// The work is that of `times`, without its list.
     pub fn learn(&mut self, alloc: A, config: &Config) -> Result<u64, AllocError>

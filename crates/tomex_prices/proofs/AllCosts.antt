@@ -1,4 +1,4 @@
--- What a configuration costs is the sum of all prices of the study, each as often as the configuration pays it.
+-- The cost of a configuration is the sum of all prices of the study, each as often as the configuration pays it.
 use Rattle.std.proofs.Common.{◌≡◌, ◌∙◌, ◌+◌, ◌*◌, ◌<◌, ℕ, zero, suc, ap, arith, refl, sym}
 use Rattle.std.proofs.Common.{true, false, inl, inr, not, cond, List, [], ◌∷◌, ◌++◌, get_or, length, map}
 use Rattle.std.specs.Prelude.{sum_by}
@@ -29,7 +29,7 @@ picked x os = sum_by (one_of x) os
 same_itself : (x : UnitOption) → same_option x x ≡ true
 same_itself x = rw (eq-eqb x.units x.units refl, eq-eqb x.latency x.latency refl, eq-eqb x.price x.price refl) refl
 
--- an option that is the same as the first is in none that aren't
+-- an option equal to the first is not among those that differ from it
 none_picked : (x first : UnitOption) (os : List UnitOption) → same_option x first ≡ true
     → picked x (filter (λ o. not (same_option first o)) os) ≡ 0
 none_picked x first [] same = refl
@@ -45,7 +45,7 @@ none_picked x first (o ∷ os) same = elim (cases_Bool (same_option first o)) [
       rw fails (more ∙ (let z : one_of x o + picked x rest ≡ 0 = omega arith in z))
 ]
 
--- one that isn't is in those that aren't, as often as in all
+-- any other is among those that differ from it as often as among all
 others_picked : (x first : UnitOption) (os : List UnitOption) → same_option x first ≡ false
     → picked x (filter (λ o. not (same_option first o)) os) ≡ picked x os
 others_picked x first [] other = refl
@@ -65,7 +65,7 @@ others_picked x first (o ∷ os) other = elim (cases_Bool (same_option first o))
       rw fails (let z : picked x (o ∷ kept) ≡ picked x (o ∷ os) = omega arith in z)
 ]
 
--- of a row's option and those that differ from it
+-- a row's option and those that differ from it
 abbrev with_others : UnitOption → List UnitOption → List UnitOption
 with_others first os = first ∷ filter (λ o. not (same_option first o)) os
 
@@ -88,7 +88,7 @@ later_picked x first os other later =
     let nothing : one_of x first ≡ 0 = rw other (omega arith) in
     more ∙ (omega (arith, among, nothing, later))
 
--- of the options that rows have, a row picks its own
+-- a row picks its own of the options that rows have
 own_option : (unit : UnitId) (rows : List Configuration) (k : ℕ) → k < length rows
     → picked (option_of (get_or rows k plain) unit) (options_of unit rows)
     ≡ (option_of (get_or rows k plain) unit).price

@@ -60,7 +60,7 @@ cycles_there s rows k d is all low =
     let cycles = as_many_cycles s in
     rw all (rows_at 0 k s.costs (cycles_of s) d (omega arith) (omega arith))
 
--- their numbers are those of configurations
+-- all rows' numbers are those of configurations
 pub rows_within : (s : DesignSpace) (rows : List FrontRow) → IsStudy s → rows ≡ all_rows s
     → All (λ r. r.row < length s.rows) rows
 rows_within s rows is all =
@@ -89,7 +89,7 @@ front_row_within s r is one =
     let within = at.within in
     omega arith
 
--- one row more with a price apart
+-- one more row with a price apart
 pub next_priced : (price : Price) (prices : PriceList) (k : ℕ) (cs : List Configuration) (ys : List ℕ)
     (c : Configuration) (before after whole : List PricedRow) (r : PricedRow) → k < length cs → k < length ys
     → c ≡ get_or cs k c
@@ -114,7 +114,7 @@ made_apart s price k config prices rows d r is all low list made =
     ∙ (ap (λ (p : PriceList). with_price_apart price p k config (get_or rows k d).cycles) list
     ∙ ap (λ (y : ℕ). with_price_apart price s.prices k config y) (cycles_there s rows k d is all low))
 
--- one small row more
+-- one more small row
 pub small_more : (before after : List PricedRow) (r : PricedRow) → after ≡ before ++ r ∷ [] → IsSmall r
     → All IsSmall before → All IsSmall after
 small_more before after r grown small all =

@@ -1,4 +1,4 @@
--- How long columns are.
+-- The lengths of columns.
 use Rattle.std.proofs.Common.{◌≡◌, ap, suc, List, [], ◌∷◌, length, map}
 use Rattle.std.specs.Prelude.{All}
 use Rattle.std.proofs.lemmas.List.{length-map}

@@ -1,4 +1,4 @@
--- How many prices are relevant, option by option and in all.
+-- The number of relevant prices, option by option and in all.
 use Rattle.std.proofs.Common.{◌≡◌, ◌∙◌, ◌+◌, ◌<◌, ◌≤◌, ℕ, ap, arith, sym, Bool, true, false, List, [], ◌∷◌, ◌++◌}
 use Rattle.std.proofs.Common.{drop, get_or, length, length-append, map, take}
 use Rattle.std.specs.List.{filter, flat_map}
@@ -14,7 +14,7 @@ use Rattle.tomex_prices.specs.declared.price.Price.TheVariants.{Station, Choice,
 use Rattle.tomex_prices.specs.Prices.{choices_of, is_relevant, prices_of, relevant_prices_of}
 use Rattle.tomex_prices.proofs.FirstOptions.{all_options, has, new_options, seen, unseen}
 
--- how many pass
+-- the number that pass
 abbrev pub passing : (Price → Bool) → UnitId → List UnitOption → ℕ
 passing p unit options = length (filter p (map (Choice unit) options))
 

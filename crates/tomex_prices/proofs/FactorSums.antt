@@ -1,4 +1,4 @@
--- What two configurations pay at factors of the prices, beside what they differ by.
+-- What two configurations pay at factors of the prices, compared with how they differ.
 use Rattle.std.proofs.Common.{◌≡◌, ◌+◌, ◌-◌, ◌*◌, ◌≤◌, inl, inr, ℕ, ap, arith}
 use Rattle.std.proofs.Common.{sym, subst, cond, List, [], ◌∷◌}
 use Rattle.std.specs.Prelude.{nat_lt, sum_by}
@@ -13,9 +13,9 @@ use Rattle.tomex_prices.specs.AllPrices.{AreWithin, Factors}
 use Rattle.tomex_prices.specs.Price.{paid, stated}
 use Rattle.tomex_prices.proofs.AllCosts.{share}
 
--- one price: f is its factor, s what it is stated as, a and b how often the row and a rival pay it
+-- one price: f is its factor, s its stated value, a and b how often the row and a rival pay it
 
--- what the price differs by, times its way from the factor of 100, is at most e of it
+-- the difference that the price makes changes by at most e percent of it
 abbrev pub Apart : (f s a b e : ℕ) → Type 0
 Apart f s a b e = f * (s * a) + 100 * (s * b) ≤ f * (s * b) + 100 * (s * a) + e * (s * abs_diff a b)
 
@@ -55,7 +55,7 @@ price_apart f s a b e low high = elim (cases_lt a b) [
       (rw d m)
 ]
 
--- and exactly e of it if the factor is worst for the row
+-- and by exactly e percent if the factor is the worst for the row
 
 worst_row : (s b d e : ℕ)
     → (100 + e) * (s * (b + d)) + 100 * (s * b) ≡ (100 + e) * (s * b) + 100 * (s * (b + d)) + e * (s * d)
@@ -149,7 +149,7 @@ module _ (prices : PriceList) (a b : Configuration) where
       )
       (omega (arith, one, rest, more))
 
-  -- the rival pays at most what it differs by more
+  -- the rival pays at most the difference more
   no_further : (p : Price) → share prices b p ≤ share prices a p + differs p
   no_further p =
       let s = stated p prices in
@@ -164,7 +164,7 @@ module _ (prices : PriceList) (a b : Configuration) where
       rw (sum_by-cons (share prices a) p ps, sum_by-cons (share prices b) p ps, sum_by-cons differs p ps)
       (omega (arith, no_further p, all_no_further ps))
 
-  -- if it pays all that it differs by more, it is no cheaper whatever the factors
+  -- if it pays the whole difference more, it is no cheaper at any factors
   pub never_cheaper : (factors : Factors) (all : List Price)
       → sum_by (share prices a) all + sum_by differs all ≤ sum_by (share prices b) all
       → sum_by (paid_times factors a) all ≤ sum_by (paid_times factors b) all

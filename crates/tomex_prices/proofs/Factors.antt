@@ -1,4 +1,4 @@
--- All prices wrong at once: by the percentage that is computed a row of the front stays, by one percent more it needn't.
+-- All prices wrong at once: a row of the front stays within its percentage, and with one percent more it may not.
 use Rattle.std.proofs.Common.{◌≡◌, ◌∙◌, ◌+◌, ◌-◌, ◌*◌, ◌/◌, ◌<◌, ◌≤◌, inl, inr, ℕ, ap, arith}
 use Rattle.std.proofs.Common.{refl, subst, false, List, [], ◌∷◌}
 use Rattle.std.specs.Prelude.{nat_le, sum_by}
@@ -23,7 +23,8 @@ use Rattle.tomex_prices.specs.Studies.{config_of}
 use Rattle.tomex_prices.proofs.AllCosts.{share}
 use Rattle.tomex_prices.proofs.FactorSums.{all_no_further, differs, never_cheaper, paid_times, sums_apart, worst}
 use Rattle.tomex_prices.proofs.FactorSums.{worst_sums, worst_within}
-use Rattle.tomex_prices.proofs.NewCosts.{front_free, free_keeps, off_costed, on_costed, premium, premium_few, row_shares}
+use Rattle.tomex_prices.proofs.NewCosts.{front_free, free_keeps, off_costed, on_costed, premium, premium_few}
+use Rattle.tomex_prices.proofs.NewCosts.{row_shares}
 
 -- the percentage for one rival
 
@@ -51,7 +52,7 @@ least_set s r (x ∷ xs) few = elim (cases_lt (least_percent s r xs) (percent_fo
 abbrev apart_of : DesignSpace → FrontRow → FrontRow → ℕ
 apart_of s r j = difference s.prices (prices_of s) (config_of s r) (config_of s j)
 
--- a percentage of what they differ by is no more than what the rival is dearer
+-- a percentage of the difference is at most how much dearer the rival is
 rival_within : (s : DesignSpace) (r j : FrontRow) (e : ℕ) → e ≤ percent_for s r j → j.cycles ≤ r.cycles
     → r.cost + premium r j ≤ j.cost → e * apart_of s r j + premium r j ≤ 100 * (j.cost - r.cost)
 rival_within s r j e low fast dear = elim (cases_lt 0 (apart_of s r j)) [
@@ -67,7 +68,7 @@ rival_within s r j e low fast dear = elim (cases_lt 0 (apart_of s r j)) [
       rw zero_apart (omega (arith, dear))
 ]
 
--- and one percent more are more, if that is the percentage
+-- and one percent more is more than that, if it is the rival's percentage
 rival_beyond : (s : DesignSpace) (r j : FrontRow) (e : ℕ) → percent_for s r j ≡ e → e < 100
     → (j.cycles ≤ r.cycles) × (100 * (j.cost - r.cost) < (e + 1) * apart_of s r j + premium r j)
 rival_beyond s r j e is few = elim (cases_lt r.cycles j.cycles) [
@@ -115,7 +116,7 @@ stays_within s factors r is one within =
     rival_stays s factors r j (percent_of s r) is free.0 there within
     (rival_within s r j (percent_of s r) (least_low s r j (all_rows s) there) fast dear) dear)
 
--- whatever the prices
+-- at any prices
 rival_never : (s : DesignSpace) (factors : Factors) (r j : FrontRow) → IsStudy s → Has (all_rows s) r
     → Has (all_rows s) j → 100 * apart_of s r j + premium r j ≤ 100 * (j.cost - r.cost)
     → r.cost + premium r j ≤ j.cost

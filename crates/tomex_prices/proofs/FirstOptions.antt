@@ -18,11 +18,11 @@ use Rattle.tomex_prices.specs.Prices.{choices_of, options_of}
 abbrev pub has : List Configuration → UnitId → UnitOption → Bool
 has rows unit o = list_any (λ config. same_option (option_of config unit) o) rows
 
--- the options of rows to come that none of those before has
+-- the options of the remaining rows that none of those before has
 abbrev pub new_options : UnitId → List Configuration → List Configuration → List UnitOption
 new_options unit before rest = filter (λ o. not (has before unit o)) (options_of unit rest)
 
--- what passes two tests
+-- the items that pass two tests
 
 filter_case : {X : Type 0} (p : X → Bool) (a : Bool) (x : X) (some all : List X) → filter p some ≡ all
     → filter p (cond a (x ∷ some) some) ≡ cond (a && p x) (x ∷ all) all
@@ -67,7 +67,7 @@ next_option unit before rest c =
     ap (λ (os : List UnitOption). cond (old first) (first ∷ os) os) rest_is
     ∙ turned (has before unit first) first (filter new (options_of unit rest))
 
--- the same of the rows of a list
+-- the same for the rows of a list
 
 pub all_options : (unit : UnitId) (rows : List Configuration) → new_options unit [] rows ≡ options_of unit rows
 all_options unit rows = filter_every (options_of unit rows)
@@ -93,7 +93,7 @@ module _ (unit : UnitId) (rows : List Configuration) (k : ℕ) (c : Configuratio
       ≡ option_of c unit ∷ new_options unit (take (k + 1) rows) (drop (k + 1) rows)
   unseen fresh = next_row ∙ rw fresh refl
 
--- their prices: those so far, and those of options that only rows to come have
+-- their prices: those so far, and those of options that only remaining rows have
 
 pub choices_at_first : (prices : List Price) (unit : UnitId) (rows : List Configuration)
     → prices ++ map (Choice unit) (new_options unit [] rows) ≡ prices ++ choices_of rows unit

@@ -24,7 +24,7 @@ use Rattle.tomex_prices.specs.Repriced.{is_on}
 
 -- rows
 
--- how much dearer a rival must be: 1 if it takes fewer cycles
+-- how much dearer than the row a rival must be: 1 if it takes fewer cycles
 abbrev pub premium : FrontRow → FrontRow → ℕ
 premium r j = cond (nat_lt j.cycles r.cycles) 1 0
 
@@ -34,7 +34,7 @@ premium_few r j = elim (cases_Bool (nat_lt j.cycles r.cycles)) [
   | inr fails ↦ rw fails (omega arith)
 ]
 
--- a row that a rival doesn't dominate costs less by that
+-- a row that a rival doesn't dominate costs less by this
 pub free_keeps : (r j : FrontRow) → (Dominates j r → ⊥) → j.cycles ≤ r.cycles → r.cost + premium r j ≤ j.cost
 free_keeps r j never low = elim (cases_lt j.cycles r.cycles) [
   | inl l ↦

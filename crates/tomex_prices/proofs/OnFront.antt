@@ -31,7 +31,7 @@ has_place q [] k r low at = absurd (omega arith)
 has_place q (x ∷ xs) zero r low at = inl (ap (at_price q) at)
 has_place q (x ∷ xs) (suc k) r low at = inr (has_place q xs k r (omega arith) at)
 
--- rows of one number are one
+-- rows with the same number are one
 
 pub same_row : (rows : List FrontRow) (x y : FrontRow) → AreApart rows → Has rows x → Has rows y → x.row ≡ y.row → x ≡ y
 same_row [] x y far hx hy e = absurd hx

@@ -17,7 +17,7 @@ use Rattle.tomex_prices.specs.Repriced.{IsOnRepricedExactlyWithin, cost_with, co
 use Rattle.tomex_prices.proofs.OnFront.{on_front_within}
 use Rattle.tomex_prices.proofs.Splitting.{costs_split, stated_costs_stay}
 
--- the rows with a price apart are, at q, the rows of the costs at q
+-- at q, the rows with a price apart are the rows with the costs at q
 rows_at : (price : Price) (prices : PriceList) (q n : ℕ) (cs : List Configuration) (ys : List ℕ) → IsPriceList prices
     → All IsWithinLimits cs
     → map (at_price q) (priced_from price prices n cs ys) ≡ rows_from n (costs_with price q prices cs) ys

@@ -12,7 +12,7 @@ use Rattle.tomex_prices.specs.declared.priced_row.PricedRow.{PricedRow}
 use Rattle.tomex_prices.specs.Interval.{at_price, cost_at, premium, fall, rise, slack}
 use Rattle.tomex_prices.specs.declared.price.TheConstants.{GREATEST_PRICE}
 
--- a rival that takes no more cycles is dearer, or as dear if it takes as many
+-- a rival that takes no more cycles is dearer, or costs as much if it takes as many
 abbrev pub Keeps : ℕ → PricedRow → PricedRow → Type 0
 Keeps q r j = j.cycles ≤ r.cycles → cost_at q r + premium r j ≤ cost_at q j
 
@@ -70,7 +70,7 @@ apart p q d low =
     let e : q ≡ p + (q - p) = omega arith in
     ap (λ (z : ℕ). z * d) e ∙ add-mul p (q - p) d
 
--- the row pays the price d times more: a is its rest with the step that it needs, b the rival's rest
+-- the row pays the price d times more: a is its rest plus the premium, b the rival's rest
 
 up_so : (now q a b d : ℕ) → 0 < d → a + now * d ≤ b → a + q * d ≤ b → q ≤ now + (b - (a + now * d)) / d
 up_so now q a b d some old new = elim (cases_lt now q) [
@@ -116,7 +116,7 @@ down_back now q a b d old low = elim (cases_lt q now) [
   | inr g ↦ let m = mul-le-mul_right d g in omega arith
 ]
 
--- the same of two rows
+-- the same for two rows
 
 -- the rival's bounds, if they are not the widest
 rise_is : (now : ℕ) (r j : PricedRow) → j.cycles ≤ r.cycles → j.times < r.times

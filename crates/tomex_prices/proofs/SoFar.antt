@@ -1,11 +1,11 @@
--- The ends of an interval, as they are found rival by rival.
+-- The ends of an interval, found rival by rival.
 use Rattle.std.proofs.Common.{◌≡◌, ℕ, ◌≤◌, arith, List, [], ◌∷◌}
 use Rattle.std.specs.Prelude.{max, min}
 use Rattle.tomex_prices.specs.declared.priced_row.PricedRow.{PricedRow}
 use Rattle.tomex_prices.specs.Interval.{least, most, rise}
 use Rattle.tomex_prices.specs.declared.price.TheConstants.{GREATEST_PRICE}
 
--- the ends so far, and those of the rivals to come, are those of all
+-- the ends so far, with those of the remaining rivals, are those of all
 pub record AreEndsOf (now : ℕ) (r : PricedRow) (rows rest : List PricedRow) (low high : ℕ) : Type 0 where
   pub least : max low (least now r rest) ≡ least now r rows
   pub few : high ≤ GREATEST_PRICE
@@ -24,7 +24,7 @@ ends_at_first now r rows =
     let high : GREATEST_PRICE ≤ GREATEST_PRICE = omega arith in
     record { least = omega arith; few = high; most = omega arith }
 
--- at the end none are to come
+-- at the end no rivals remain
 pub ends_at_last : (now : ℕ) (r : PricedRow) (rows : List PricedRow) (low high : ℕ)
     → AreEndsOf now r rows [] low high → (low ≡ least now r rows) × (high ≡ most now r rows)
 ends_at_last now r rows low high are =

@@ -133,7 +133,7 @@ costs_split (Choice unit o) q prices config list good = choice_split unit o q pr
 costs_split Bus q prices config list good = let m = mul_comm q config.buses in omega arith
 costs_split Width q prices config list good = let m = mul_comm q config.width in omega arith
 
--- a price replaced by what it is
+-- a price replaced by its stated value
 
 pub same_are_one : (a b : UnitOption) → same_option a b ≡ true → a ≡ b
 same_are_one a b same =

@@ -1,4 +1,4 @@
--- At the price as it is stated a row of the front stays, and at all if rows pay it equally often.
+-- A row of the front stays at the stated price, and at all prices if rows pay it equally often.
 use Rattle.std.proofs.Common.{◌≡◌, ◌∙◌, ◌<◌, ◌≤◌, ◌&&◌, ◌||◌, ◌==◌, ℕ, zero, suc, ap, arith}
 use Rattle.std.proofs.Common.{refl, sym, Bool, true, false, not}
 use Rattle.std.proofs.Common.{inl, inr, get_or, length, List, [], ◌∷◌}
@@ -23,7 +23,7 @@ use Rattle.tomex_prices.specs.Studies.{repriced, row_with, rows_with}
 use Rattle.tomex_prices.proofs.RepricedStudy.{is_there, on_study_within, study_cycles}
 use Rattle.tomex_prices.proofs.Repricing.{stated_costs}
 
--- with the price as it is stated the front is the study's own
+-- at the stated price the front is the study's own
 same_front : (s : DesignSpace) (price : Price) → IsStudy s → stated price s.prices ≤ GREATEST_PRICE
     → front_of_study (repriced s price (stated price s.prices)) ≡ front_of_study s
 unfolding front_of_study

@@ -1,11 +1,12 @@
--- Prices that move together, each by a share of its way to an end of its interval.
+-- Prices that move together, each by a share of the way to an end of its interval.
 use Rattle.std.proofs.Common.{◌≡◌, ◌∙◌, ◌+◌, ◌-◌, ◌*◌, ◌/◌, ◌<◌, ◌≤◌, inl, inr, ℕ, zero, suc, ap, arith}
 use Rattle.std.proofs.Common.{refl, sym, subst, List, [], ◌∷◌, get_or, length}
 use Rattle.std.specs.Prelude.{max, min, sum_by}
 use Rattle.std.specs.List.{Contains}
 use Rattle.std.proofs.lemmas.Bool.{cases_lt, le-leb, lt-ltb}
 use Rattle.std.proofs.lemmas.List.Sums.{sum_by-cons}
-use Rattle.std.proofs.Math.Nat.{add-mul, div-mul-le_self, le_of_mul-le-mul_right, mul-add, mul-le-mul_left, mul-le-mul_right, mul_assoc, mul_comm}
+use Rattle.std.proofs.Math.Nat.{add-mul, div-mul-le_self, le_of_mul-le-mul_right, mul-add, mul-le-mul_left}
+use Rattle.std.proofs.Math.Nat.{mul-le-mul_right, mul_assoc, mul_comm}
 use Rattle.tomex_config.specs.Configuration.{plain}
 use Rattle.tomex_pareto.specs.declared.front_row.FrontRow.{FrontRow}
 use Rattle.tomex_pareto.proofs.Finished.{row_at}
@@ -26,8 +27,8 @@ use Rattle.tomex_prices.proofs.NewCosts.{config_cost, front_free, free_keeps, on
 use Rattle.tomex_prices.proofs.RepricedStudy.{row_at_apart}
 use Rattle.tomex_prices.proofs.Splitting.{costs_split, stated_costs_stay}
 
--- one price: n is what it is stated as, v its value; the row pays it a times and a rival b times; w is the whole, and k
--- the share of it that counts against a slack of g
+-- one price: n is its stated value, v its new value; the row pays it a times and a rival b times; w is the whole, and
+-- k the share of it that counts against a slack of g
 
 abbrev Counts : (n v a b w k g : ℕ) → Type 0
 Counts n v a b w k g = (v * a + n * b) * w ≤ (v * b + n * a) * w + k * g
@@ -44,7 +45,7 @@ moved n d b e w x low =
     add-mul ((n + d) * b + n * (b + e)) (d * e) w in
     rw whole (omega (arith, parts, low))
 
--- a way of at most m, of which it moves k parts of w, each of which is worth e
+-- it moves `k` parts out of `w` of a way of at most m, each step of which is worth e
 bounded : (d e w k m g : ℕ) → d * w ≤ k * m → m * e ≤ g → d * e * w ≤ k * g
 bounded d e w k m g part few =
     let turned : d * e * w ≡ d * w * e = mul_assoc d e w ∙ (ap (λ (z : ℕ). d * z) (mul_comm e w) ∙ sym (mul_assoc d w e)) in
@@ -76,7 +77,7 @@ down_counts n v a b w k g m more falls part few =
     let y : n * a + v * b ≡ v * b + n * a = omega arith in
     rw (x, y) at turned
 
--- whoever pays it more often, it moves the other way
+-- the price moves the other way, whichever of the two pays it more often
 helps : (n d b e w x : ℕ) → (n * (b + e) + (n + d) * b) * w ≤ (n * b + (n + d) * (b + e)) * w + x
 helps n d b e w x =
     let p : (n + d) * (b + e) ≡ (n + d) * b + (n + d) * e = mul-add (n + d) b e in
@@ -136,7 +137,7 @@ way_down now r j rows there fast more =
     let way : now - least now r rows ≤ q = omega (arith, low, falls) in
     omega (arith, mul-le-mul_right (j.times - r.times) way, div-mul-le_self (slack now r j) (j.times - r.times))
 
--- a row with a price apart costs what it costs
+-- a row with a price apart has the same cost
 apart_cost : (s : DesignSpace) (price : Price) (r : FrontRow) → IsStudy s → Has (all_rows s) r
     → cost_at (stated price s.prices) (row_with s price r) ≡ r.cost
 apart_cost s price r is one =

@@ -60,7 +60,7 @@ relevant : map name_of_price (relevant_prices_of study)
 unfolding relevant_prices_of prices_of choices_of is_relevant digits
 relevant = refl
 
--- for which values of a price a row stays
+-- the values of a price for which a row stays
 abbrev range_of : Price → ℕ → Configuration → ℕ → PriceRange
 range_of price n c y =
     interval (stated price list) (with_price_apart price list n c y) (priced_from price list 0 rows cycles)
@@ -78,7 +78,7 @@ sixth : texts 6 (config 2 slow 1) 11 ≡ codes "..24" ∷ codes "26.." ∷ codes
 unfolding digits
 sixth = refl
 
--- by how many percent all may be wrong
+-- the percentage by which all may be wrong
 abbrev front_row : ℕ → ℕ → ℕ → FrontRow
 front_row n cost y = record { row = n; cost = cost; cycles = y }
 

@@ -1,5 +1,5 @@
--- All prices of a study are wrong at once, each by a factor of its own, in hundredths: what rows cost then, and which
--- rows of the front stay on it.
+-- All prices of a study are wrong at once, each by a factor of its own, in hundredths: the costs of rows then, and
+-- which rows of the front stay on it.
 use Rattle.std.specs.Prelude.{◌≡◌, ◌+◌, ◌*◌, ◌<◌, ◌≤◌, ℕ, Bool, true, false, List, map, sum_by}
 use Rattle.std.specs.List.{Contains}
 use Rattle.tomex_config.specs.Configuration.{Configuration}
@@ -19,7 +19,7 @@ use Rattle.tomex_prices.specs.Studies.{config_of}
 abbrev pub Factors : Type 0
 Factors = Price → ℕ
 
--- what a configuration costs, in hundredths: each price times its factor, as often as the configuration pays it
+-- the cost of a configuration, in hundredths: each price times its factor, as often as the configuration pays it
 unfoldable pub cost_times : Factors → PriceList → List Price → Configuration → ℕ
 cost_times factors prices all config =
     sum_by (λ price. factors price * (stated price prices * paid price config)) all
@@ -40,17 +40,17 @@ is_on_at factors s r = is_on (front_of (map (row_times factors s) (all_rows s)))
 abbrev pub AreWithin : ℕ → Factors → Type 0
 AreWithin percent factors = (price : Price) → (100 ≤ factors price + percent) × (factors price ≤ 100 + percent)
 
--- if each factor is 100, a row costs what is stated
+-- if each factor is 100, a row has its stated cost
 abbrev pub IsStatedAtHundred : Type 0
 IsStatedAtHundred = (s : DesignSpace) (r : FrontRow) → IsStudy s → Contains (all_rows s) r
     → (row_times (λ price. 100) s r).cost ≡ 100 * r.cost
 
--- a row of the front stays on it if all prices are wrong by at most the percentage that is computed of it
+-- a row of the front stays on it if all prices are wrong by at most its percentage
 abbrev pub StaysWithinPercent : Type 0
 StaysWithinPercent = (s : DesignSpace) (factors : Factors) (r : FrontRow) → IsStudy s → Contains (front_of_study s) r
     → AreWithin (percent_of s r) factors → is_on_at factors s r ≡ true
 
--- and whatever the prices if that is 100
+-- and at any prices if that is 100
 abbrev pub StaysIfHundred : Type 0
 StaysIfHundred = (s : DesignSpace) (factors : Factors) (r : FrontRow) → IsStudy s → Contains (front_of_study s) r
     → percent_of s r ≡ 100 → is_on_at factors s r ≡ true

@@ -1,4 +1,5 @@
--- One price varies, all others stay as stated: what rows cost then, and for which values of it a row stays undominated.
+-- One price varies, all others stay as stated: the costs of rows then, and for which values of it a row stays
+-- undominated.
 use Rattle.std.specs.Prelude.{ℕ, ◌+◌, ◌-◌, ◌*◌, ◌/◌, ◌<◌, ◌^◌, ◌&&◌, ◌==◌, if◌then◌else◌, max, min, nat_le}
 use Rattle.std.specs.Prelude.{nat_lt, Bool, List, [], ◌∷◌, ◌++◌, codes, map}
 use Rattle.std.specs.Fmt.{decimal}
@@ -14,7 +15,7 @@ pub record IsSmall (r : PricedRow) : Type 0 where
   pub rest : r.rest < 2 ^ 32
   pub times : r.times < 256
 
--- what a row costs at the price q: its rest, and q as often as it pays it
+-- the cost of a row at the price q: its rest, plus q as often as it pays the price
 abbrev pub cost_at : ℕ → PricedRow → ℕ
 cost_at q r = r.rest + q * r.times
 
@@ -29,11 +30,12 @@ stays q rows r = is_undominated (map (at_price q) rows) (at_price q r)
 abbrev pub on_front : ℕ → List PricedRow → ℕ → Bool
 on_front q rows n = list_any (λ x. x.row == n) (front_of (map (at_price q) rows))
 
--- how much dearer a rival must be if the row stays: 1 if the rival takes fewer cycles, 0 if it takes as many
+-- how much dearer than the row a rival must be for the row to stay: 1 if the rival takes fewer cycles, 0 if it takes
+-- as many
 abbrev pub premium : PricedRow → PricedRow → ℕ
 premium r j = if nat_lt j.cycles r.cycles then 1 else 0
 
--- by how much a rival may get cheaper against the row
+-- how much cheaper a rival may get, relative to the row
 abbrev pub slack : ℕ → PricedRow → PricedRow → ℕ
 slack now r j = cost_at now j - cost_at now r - premium r j
 
@@ -47,7 +49,7 @@ abbrev pub fall : ℕ → PricedRow → PricedRow → ℕ
 fall now r j =
     if nat_le j.cycles r.cycles && nat_lt r.times j.times then now - slack now r j / (j.times - r.times) else 0
 
--- the same of all rivals
+-- the same for all rivals
 abbrev pub most : ℕ → PricedRow → List PricedRow → ℕ
 most now r [] = GREATEST_PRICE
 most now r (j ∷ js) = min (rise now r j) (most now r js)
@@ -56,14 +58,14 @@ abbrev pub least : ℕ → PricedRow → List PricedRow → ℕ
 least now r [] = 0
 least now r (j ∷ js) = max (fall now r j) (least now r js)
 
--- the prices at which a row stays that stays at `now`
+-- the prices at which a row stays, if it stays at `now`
 abbrev pub interval : ℕ → PricedRow → List PricedRow → PriceRange
 interval now r rows = record { least = least now r rows; most = most now r rows }
 
 abbrev pub is_within : PriceRange → ℕ → Bool
 is_within range q = nat_le range.least q && nat_le q range.most
 
--- the text of a range: an end at the limit of prices isn't shown, and `any` stands for all prices
+-- the text of a range: an end at the limit of prices isn't shown, and all prices are shown as `any`
 abbrev pub range_text : PriceRange → List ℕ
 range_text range =
     if range.least == 0 && range.most == GREATEST_PRICE then codes "any"

@@ -6,7 +6,7 @@ use Rattle.tomex_prices.specs.declared.price.TheConstants.{GREATEST_PRICE}
 use Rattle.tomex_prices.specs.declared.priced_row.PricedRow.{PricedRow}
 use Rattle.tomex_prices.specs.Interval.{at_price, interval, is_within, on_front, stays}
 
--- a row that stays at the price as it is stated stays at exactly those of its interval
+-- a row that stays at the stated price stays at exactly the prices of its interval
 abbrev pub StaysExactlyWithin : Type 0
 StaysExactlyWithin = (now q : ℕ) (rows : List PricedRow) (r : PricedRow) → q ≤ GREATEST_PRICE
     → stays now rows r ≡ true → stays q rows r ≡ is_within (interval now r rows) q

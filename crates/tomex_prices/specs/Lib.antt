@@ -1,5 +1,5 @@
--- What contracts cite: for which values of a price a row stays on the front, by how much all prices may be wrong, the
--- laws of that, and the table of a study's prices.
+-- Definitions that contracts cite: the values of a price for which a row stays on the front, how wrong all prices may
+-- be, the laws of both, and the table of a study's prices.
 pub mod Price
 pub mod Interval
 pub mod Laws

@@ -1,4 +1,4 @@
--- A price: what it is stated as, how often a configuration pays it, and its name.
+-- A price: its stated value, how often a configuration pays it, and its name.
 use Rattle.std.specs.Prelude.{ℕ, ◌&&◌, ◌==◌, ◌++◌, codes, if◌then◌else◌, Bool, List}
 use Rattle.std.specs.Fmt.{decimal}
 use Rattle.tomex_rvdec.specs.Parts.{name_of_pool, name_of_unit}
@@ -20,14 +20,14 @@ paid (Choice unit o) config = if same_option (option_of config unit) o then 1 el
 paid Bus config = config.buses
 paid Width config = config.width
 
--- a price as it is stated
+-- the stated price
 abbrev pub stated : Price → PriceList → ℕ
 stated (Station pool) prices = price_of prices pool
 stated (Choice unit o) prices = o.price
 stated Bus prices = prices.bus
 stated Width prices = prices.width
 
--- its name: of an option the kind of unit, the units, and the latency
+-- its name; for an option the kind of unit, the units, and the latency
 abbrev pub name_of_price : Price → List ℕ
 name_of_price (Station pool) = name_of_pool pool
 name_of_price (Choice unit o) = name_of_unit unit ++ codes ":" ++ decimal o.units ++ codes "@" ++ decimal o.latency

@@ -11,7 +11,7 @@ use Rattle.tomex_prices.specs.Price.{stated}
 use Rattle.tomex_prices.specs.Prices.{is_relevant}
 use Rattle.tomex_prices.specs.Studies.{interval_of}
 
--- it holds the price as it is stated
+-- it holds the stated price
 abbrev pub HoldsStated : Type 0
 HoldsStated = (s : DesignSpace) (price : Price) (r : FrontRow) → IsStudy s → stated price s.prices ≤ GREATEST_PRICE
     → Contains (front_of_study s) r → is_within (interval_of s price r) (stated price s.prices) ≡ true

@@ -25,11 +25,11 @@ choices_of rows unit = map (Choice unit) (options_of unit rows)
 unfoldable pub prices_of : DesignSpace → List Price
 prices_of s = map Station all_pools ++ (flat_map (choices_of s.rows) all_units ++ Bus ∷ Width ∷ [])
 
--- two of the rows pay a price differently often: one does from the first
+-- two of the rows pay a price differently often: some row and the first one
 unfoldable pub is_relevant : List Configuration → Price → Bool
 is_relevant [] price = false
 is_relevant (first ∷ rows) price = list_any (λ config. not (paid price config == paid price first)) rows
 
--- the prices that some rows pay more often than others: the rest move all costs alike
+-- the prices that some rows pay more often than others: all others move every cost by the same amount
 unfoldable pub relevant_prices_of : DesignSpace → List Price
 relevant_prices_of s = filter (is_relevant s.rows) (prices_of s)

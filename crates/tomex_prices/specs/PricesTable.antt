@@ -1,5 +1,5 @@
--- The table of a study's prices: for which values of each a row of the front stays, and by how many percent all may be
--- wrong.
+-- The table of a study's prices: the values of each for which a row of the front stays, and the percentage by which
+-- all may be wrong.
 use Rattle.std.specs.Prelude.{ℕ, ◌*◌, nat_lt, suc, Bool, List, ◌∷◌, [], ◌++◌, codes, length, map}
 use Rattle.std.specs.Fmt.{decimal}
 use Rattle.tomex_pareto.specs.declared.front_row.FrontRow.{FrontRow}
@@ -20,7 +20,7 @@ use Rattle.tomex_prices.specs.Studies.{interval_of}
 unfoldable pub is_too_large : DesignSpace → Bool
 is_too_large s = nat_lt MOST_INTERVALS (length (front_of_study s) * length (relevant_prices_of s))
 
--- a column: its name, what it has in the line `now`, and what each row of the front has in it
+-- a column: its name, its text in the line `now`, and its text for each row of the front
 abbrev pub column_of : List ℕ → List ℕ → (FrontRow → List ℕ) → List FrontRow → TableColumn
 column_of name now text front = record { name = name; entries = now ∷ map text front }
 
@@ -29,7 +29,7 @@ name_of_heading Row = codes "row"
 name_of_heading Cost = codes "cost"
 name_of_heading Cycles = codes "cycles"
 
--- the line of the prices as they are stated is called `now`
+-- the line of the stated prices is called `now`
 abbrev pub now_under : Heading → List ℕ
 now_under Row = codes "now"
 now_under heading = codes "-"

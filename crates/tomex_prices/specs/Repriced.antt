@@ -1,4 +1,4 @@
--- Configurations and a price list with one price replaced, and what they cost.
+-- Configurations and a price list with one price replaced, and their costs.
 use Rattle.std.specs.Prelude.{◌≡◌, ℕ, ◌+◌, ◌*◌, ◌≤◌, ◌==◌, if◌then◌else◌, Bool, true, suc, List, [], ◌∷◌, map}
 use Rattle.std.specs.Prelude.{All, slice_set}
 use Rattle.std.specs.List.{Contains, list_any}
@@ -27,21 +27,21 @@ config_with (Choice unit o) q config =
     if same_option (option_of config unit) o then with_option unit config (record o { price = q }) else config
 config_with price q config = config
 
--- what a configuration then costs
+-- the cost of a configuration then
 abbrev pub cost_with : Price → ℕ → PriceList → Configuration → ℕ
 cost_with price q prices config = cost_of (config_with price q config) (list_with price q prices)
 
--- that is its cost with the price replaced by 0, and q as often as it pays it
+-- that is its cost with the price replaced by 0, plus q as often as it pays the price
 abbrev pub CostsSplit : Type 0
 CostsSplit = (price : Price) (q : ℕ) (prices : PriceList) (config : Configuration) → IsPriceList prices
     → IsWithinLimits config → cost_with price q prices config ≡ cost_with price 0 prices config + q * paid price config
 
--- replaced by what it is, a price changes no cost
+-- replaced by its stated value, a price changes no cost
 abbrev pub StatedCostsStay : Type 0
 StatedCostsStay = (price : Price) (prices : PriceList) (config : Configuration) → IsPriceList prices
     → IsWithinLimits config → cost_with price (stated price prices) prices config ≡ cost_of config prices
 
--- what configurations cost with the price replaced
+-- the costs of configurations with the price replaced
 abbrev pub costs_with : Price → ℕ → PriceList → List Configuration → List ℕ
 costs_with price q prices configs = costs_of (list_with price q prices) (map (config_with price q) configs)
 

@@ -1,4 +1,4 @@
--- A study with one price replaced, and for which values of it a row of the front stays on the front.
+-- A study with one price replaced, and the values for which a row of the front stays on the front.
 use Rattle.std.specs.Prelude.{◌≡◌, ℕ, ◌≤◌, List, map, slice_index_or}
 use Rattle.std.specs.List.{Contains}
 use Rattle.tomex_config.specs.Configuration.{Configuration, plain}
@@ -33,7 +33,7 @@ row_with s price r = with_price_apart price s.prices r.row (config_of s r) r.cyc
 abbrev pub rows_with : DesignSpace → Price → List PricedRow
 rows_with s price = priced_from price s.prices 0 s.rows (cycles_of s)
 
--- for which values of a price, all others as stated, a row of the front is on the front
+-- the values of a price for which a row of the front is on the front, all other prices as stated
 abbrev pub interval_of : DesignSpace → Price → FrontRow → PriceRange
 interval_of s price r = interval (stated price s.prices) (row_with s price r) (rows_with s price)
 

@@ -1,4 +1,4 @@
--- Several prices of a study change at once, each by a share of its way to an end of its interval.
+-- Several prices of a study change at once, each by a share of the way to an end of its interval.
 use Rattle.std.specs.Prelude.{◌≡◌, ◌-◌, ◌*◌, ◌<◌, ◌≤◌, ℕ, Bool, true, List, map, sum_by}
 use Rattle.std.specs.List.{Contains}
 use Rattle.tomex_config.specs.Configuration.{Configuration}
@@ -17,7 +17,7 @@ use Rattle.tomex_prices.specs.Studies.{config_of, interval_of}
 abbrev pub Values : Type 0
 Values = Price → ℕ
 
--- what a configuration costs at these values: each as often as it pays it
+-- the cost of a configuration at these values: each as often as it pays the price
 unfoldable pub cost_at_values : Values → List Price → Configuration → ℕ
 cost_at_values values all config = sum_by (λ price. values price * paid price config) all
 
@@ -30,13 +30,12 @@ row_at_values values s r =
 abbrev pub is_on_with : Values → DesignSpace → FrontRow → Bool
 is_on_with values s r = is_on (front_of (map (row_at_values values s) (all_rows s))) r.row
 
--- from where it is now, a price moves by at most `share` parts of the `whole` of its way to the end of a range on its
--- side
+-- a price moves from now by at most `share` parts of the `whole` of the way to the end of a range on its side
 pub record IsShareOfWay (range : PriceRange) (now value share whole : ℕ) : Type 0 where
   pub up : (value - now) * whole ≤ share * (range.most - now)
   pub down : (now - value) * whole ≤ share * (now - range.least)
 
--- a row of the front stays on it if each price moves by a share of its way to the end of its interval, and the shares
+-- a row of the front stays on it if each price moves by a share of the way to the end of its interval, and the shares
 -- add up to no more than the whole
 abbrev pub StaysByShares : Type 0
 StaysByShares = (s : DesignSpace) (values : Values) (shares : Price → ℕ) (whole : ℕ) (r : FrontRow) → IsStudy s
@@ -45,7 +44,7 @@ StaysByShares = (s : DesignSpace) (values : Values) (shares : Price → ℕ) (wh
     → IsShareOfWay (interval_of s price r) (stated price s.prices) (values price) (shares price) whole)
     → is_on_with values s r ≡ true
 
--- at the stated prices a row costs what is stated
+-- at the stated prices a row has its stated cost
 abbrev pub IsStatedAtStated : Type 0
 IsStatedAtStated = (s : DesignSpace) (r : FrontRow) → IsStudy s → Contains (all_rows s) r
     → (row_at_values (λ price. stated price s.prices) s r).cost ≡ r.cost

@@ -1,4 +1,4 @@
-//! How many prices of a study are relevant, found without any memory.
+//! The number of relevant prices of a study, computed without allocating.
 
 ghost use Rattle.std.specs.Prelude.{◌≡◌, ◌*◌, ◌≤◌, ◌∷◌, [], length, map};
 ghost use Rattle.std.specs.List.{filter, flat_map};
@@ -13,7 +13,7 @@ use tomex_config::Config;
 use tomex_rvdec::{PoolId, UnitId};
 use tomex_study::Study;
 
-/// How many prices of pools' stations are relevant.
+/// The number of relevant prices of pools' stations.
 fn count_stations(rows: &[Config]) -> usize
     ensures count { result ≡ length (filter (is_relevant rows.now) (map Station all_pools)) }
     ensures few { result ≤ 6 }
@@ -27,7 +27,7 @@ fn count_stations(rows: &[Config]) -> usize
     count
 }
 
-/// How many prices of options for a kind of unit are relevant.
+/// The number of relevant prices of options for a kind of unit.
 fn count_choices(rows: &[Config], unit: UnitId) -> usize
     ensures count { result ≡ length (filter (is_relevant rows.now) (choices_of rows.now unit)) }
     ensures few { result ≤ length rows.now }
@@ -44,7 +44,7 @@ fn count_choices(rows: &[Config], unit: UnitId) -> usize
     count
 }
 
-/// How many prices of options are relevant.
+/// The number of relevant prices of options.
 fn count_options(rows: &[Config]) -> usize
     requires { length rows.now ≤ 16384 }
     ensures count { result
@@ -66,7 +66,7 @@ fn count_price(rows: &[Config], price: Price) -> usize
     if is_relevant(rows, price) { 1 } else { 0 }
 }
 
-/// How many prices of a study are relevant.
+/// The number of relevant prices of a study.
 pub(crate) fn count_relevant<A: Allocator>(study: &Study<A>) -> usize
     ensures { result ≡ length (relevant_prices_of study.now) }
 {

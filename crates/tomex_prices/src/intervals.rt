@@ -1,4 +1,4 @@
-//! The prices at which a row stays.
+//! The prices at which a row stays on the front.
 
 ghost use Rattle.std.specs.Prelude.{◌≡◌, ℕ, ◌≤◌, ◌<◌, ◌^◌, true, All, map};
 ghost use Rattle.std.specs.List.{Contains};
@@ -44,7 +44,7 @@ impl fmt::Display for PriceRange {
     }
 }
 
-/// What a row costs at a price.
+/// The cost of a row at a price.
 fn cost_at(price: u64, row: PricedRow) -> u64
     requires price { price < 2 ^ 32 }
     requires row { IsSmall row }
@@ -54,14 +54,14 @@ fn cost_at(price: u64, row: PricedRow) -> u64
     row.rest + price * row.times
 }
 
-/// How much dearer a rival must be if the row stays.
+/// The least amount by which a rival must be dearer than the row for the row to stay.
 fn premium(row: PricedRow, rival: PricedRow) -> u64
     ensures { result ≡ premium row rival }
 {
     if rival.cycles < row.cycles { 1 } else { 0 }
 }
 
-/// By how much a rival may get cheaper against the row.
+/// The amount by which a rival may get cheaper, relative to the row.
 fn slack(now: u64, row: PricedRow, rival: PricedRow) -> u64
     requires now { now < 2 ^ 32 }
     requires row { IsSmall row }
@@ -88,7 +88,7 @@ fn rise(now: u64, row: PricedRow, rival: PricedRow) -> u64
     }
 }
 
-/// The least one.
+/// The least price at which a rival lets the row stay.
 fn fall(now: u64, row: PricedRow, rival: PricedRow) -> u64
     requires now { now < 2 ^ 32 }
     requires row { IsSmall row }
@@ -102,8 +102,8 @@ fn fall(now: u64, row: PricedRow, rival: PricedRow) -> u64
     }
 }
 
-/// The prices at which a row stays that stays at the price as it is stated, `now`: those and no others. The row may
-/// be one of the rows itself.
+/// The prices, and no others, at which a row stays on the front, if it stays at the stated price,
+/// `now`. The row may be one of `rows`.
 pub fn interval(now: u64, row: PricedRow, rows: &[PricedRow]) -> PriceRange
     requires now { now < 2 ^ 32 }
     requires row { IsSmall row }
@@ -124,8 +124,8 @@ pub fn interval(now: u64, row: PricedRow, rows: &[PricedRow]) -> PriceRange
     PriceRange { least, most }
 }
 
-/// For which values of a price, all others as stated, a row of the study's front stays on it: those and no others.
-/// `rows` are all rows of the study with that price apart.
+/// The values of a price, and no others, for which a row of the study's front stays on it, all
+/// other prices as stated. `rows` are all rows of the study with that price apart.
 pub fn interval_of<A: Allocator>(
     study: &Study<A>,
     price: Price,

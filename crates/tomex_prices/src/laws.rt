@@ -8,7 +8,8 @@ ghost use Rattle.tomex_prices.specs.Repriced.{CostsSplit, IsOnRepricedExactlyWit
 ghost use Rattle.tomex_prices.specs.Studies.{IsOnStudyExactlyWithin};
 ghost use Rattle.tomex_prices.specs.Together.{IsStatedAtStated, StaysByShares};
 
-/// A row that no other dominates at the price as it is stated stays so at exactly the prices of its interval.
+/// A row that no other dominates at the stated price stays so at exactly the prices of its
+/// interval.
 pub fn stays_exactly_within()
     ensures { StaysExactlyWithin }
 {}
@@ -18,8 +19,8 @@ pub fn on_front_exactly_within()
     ensures { IsOnFrontExactlyWithin }
 {}
 
-/// A configuration's cost is its cost with one price replaced by 0, and that price as often as it is paid. A price
-/// replaced by what it is stated as changes no cost.
+/// A configuration's cost is its cost with one price replaced by 0, plus that price as often as it
+/// is paid. Replacing a price by its stated value changes no cost.
 pub fn costs_split()
     ensures split { CostsSplit }
     ensures stated { StatedCostsStay }
@@ -36,7 +37,7 @@ pub fn on_front_of_study_exactly_within()
     ensures { IsOnStudyExactlyWithin }
 {}
 
-/// The interval of a row of the front holds the price as it is stated.
+/// The interval of a row of the front holds the stated price.
 pub fn stated_prices_are_within()
     ensures { HoldsStated }
 {}
@@ -46,9 +47,10 @@ pub fn irrelevant_prices_are_any()
     ensures { HoldsAllIfIrrelevant }
 {}
 
-/// With all prices wrong at once, each by a factor of its own, a row of the front stays on it if none is wrong by more
-/// than the percentage that is computed of the row, and whatever the prices if that is 100. If it is less, one percent
-/// more can be too much. Factors are in hundredths: if all are 100, costs are those that are stated.
+/// If all prices are wrong at once, each by a factor of its own, a row of the front stays on it
+/// while none is wrong by more than the row's percentage, and at any prices if that is 100. If it
+/// is less, one percent more can be too much. Factors are in hundredths: if all are 100, costs are
+/// the stated ones.
 pub fn all_prices_may_be_wrong_by_the_percentage()
     ensures stays { StaysWithinPercent }
     ensures whatever { StaysIfHundred }
@@ -56,8 +58,9 @@ pub fn all_prices_may_be_wrong_by_the_percentage()
     ensures stated { IsStatedAtHundred }
 {}
 
-/// If several prices move at once, each by a share of its way to an end of its interval, and the shares add up to at
-/// most the whole, a row of the front stays on it. If all are as they are stated, so are costs.
+/// If several prices move at once, each by a share of the way to an end of its interval, and the
+/// shares add up to at most the whole, a row of the front stays on it. If all prices are as stated,
+/// so are costs.
 pub fn prices_may_move_by_shares()
     ensures stays { StaysByShares }
     ensures stated { IsStatedAtStated }

@@ -1,5 +1,5 @@
-//! Prices: for which values of one price, all others as stated, a row of the front stays on it, and by how many percent
-//! all may be wrong at once; and the table of both.
+//! Prices: the values of one price, all others as stated, for which a row of the front stays on it;
+//! the percentage by which all may be wrong at once; and the table of both.
 #![tactic(auto)]
 
 mod counts;

@@ -1,4 +1,4 @@
-//! By how many percent all prices may be wrong at once.
+//! The percentage by which all prices may be wrong at once.
 
 ghost use Rattle.std.specs.Prelude.{◌≡◌, ◌<◌, ◌≤◌, length};
 ghost use Rattle.tomex_prices.specs.Percent.{difference, percent_for, percent_of};
@@ -11,7 +11,7 @@ use tomex_config::{Config, Prices};
 use tomex_pareto::FrontRow;
 use tomex_study::Study;
 
-/// What two configurations don't have in common, at these prices.
+/// The cost of the parts that two configurations don't have in common, at these prices.
 #[tactic(auto, unfolding(crate::specs::Percent::difference))]
 fn difference(prices: &Prices, all: &[Price], a: &Config, b: &Config) -> u128
     ensures { result ≡ difference prices.now all.now a.now b.now }
@@ -24,7 +24,8 @@ fn difference(prices: &Prices, all: &[Price], a: &Config, b: &Config) -> u128
     sum
 }
 
-/// By how many percent the prices may be wrong if only one rival counts. `all` are the study's prices.
+/// The percentage by which the prices may be wrong if there is only one rival. `all` are the
+/// study's prices.
 fn percent_for<A: Allocator>(
     study: &Study<A>,
     all: &[Price],
@@ -49,8 +50,9 @@ fn percent_for<A: Allocator>(
     dearer.saturating_sub(premium) / apart
 }
 
-/// The greatest whole percentage by which all prices of a study may be wrong at once, each one in its own direction,
-/// and a row of its front stays on the front: 0 to 99, or 100 if it stays whatever the prices. A price of 0 stays 0.
+/// The greatest whole percentage by which all prices of a study may be wrong at once, each one in
+/// its own direction, such that a row of its front stays on the front: 0 to 99, or 100 if it stays
+/// at any prices. A price of 0 stays 0.
 ///
 /// `all` are the study's prices, `rows` all its rows.
 #[tactic(auto, unfolding(crate::specs::Percent::percent_of))]

@@ -20,7 +20,7 @@ pub enum Price {
     Width,
 }
 
-/// True if two options are one.
+/// True if two options are the same.
 pub fn same_option(a: UnitOption, b: UnitOption) -> bool
     ensures { result ≡ same_option a b }
 {
@@ -28,7 +28,7 @@ pub fn same_option(a: UnitOption, b: UnitOption) -> bool
 }
 
 impl Price {
-    /// The price as it is stated.
+    /// The stated price.
     pub fn stated(self, prices: &Prices) -> u64
         ensures price { result ≡ stated self prices.now }
         ensures few { result < 2 ^ 32 }

@@ -12,7 +12,7 @@ use tomex_config::{Config, Prices, cost};
 use tomex_pareto::FrontRow;
 use tomex_study::Study;
 
-/// A row, with what it costs except for one price.
+/// A row, with its cost except for one price.
 #[derive(Clone, Copy, Debug, PartialEq, Eq)]
 pub struct PricedRow {
     /// Its number, from 0.
@@ -47,7 +47,7 @@ pub(crate) fn with_price_apart(
     }
 }
 
-/// All rows of a study with a price apart. `rows` are all of them.
+/// All rows of a study with a price apart. `rows` are all rows of the study.
 pub fn rows_with<A: Allocator, B: Allocator>(
     alloc: B,
     study: &Study<A>,

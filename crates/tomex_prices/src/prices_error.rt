@@ -8,9 +8,9 @@ use std::alloc::{AllocError, AllocFailed};
 /// Why a study has no table of its prices.
 #[derive(Clone, Copy, Debug, Drop, PartialEq, Eq)]
 pub enum PricesError {
-    /// The front's rows times the relevant prices are too many.
+    /// Too many rows of the front times relevant prices.
     TooLarge,
-    /// Memory was refused.
+    /// Out of memory.
     Memory,
 }
 

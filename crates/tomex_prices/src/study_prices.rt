@@ -1,4 +1,4 @@
-//! The prices of a study, and which of them rows pay differently often.
+//! The prices of a study, and those that rows pay differently often.
 
 ghost use Rattle.std.specs.Prelude.{◌≡◌, ◌≤◌, ◌==◌, ◌++◌, length, map, not, IfOk, OnOk};
 ghost use Rattle.std.specs.List.{filter, flat_map, list_any};
@@ -99,7 +99,8 @@ pub(crate) fn is_relevant(rows: &[Config], price: Price) -> bool
     is_other(price, price.paid(first), rest)
 }
 
-/// The prices that some rows of a study pay more often than others. No other price has a say in its front.
+/// The prices that some rows of a study pay more often than others. No other price affects its
+/// front.
 #[tactic(auto, unfolding(crate::specs::Prices::relevant_prices_of))]
 pub fn relevant_prices<A: Allocator, B: Allocator + Clone>(
     alloc: B,

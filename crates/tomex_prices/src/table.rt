@@ -23,7 +23,7 @@ use tomex_tables::{Column, table_of};
 /// The most intervals of one table.
 const MOST_INTERVALS: u64 = 262_144;
 
-/// What a row of the front says of itself.
+/// A property of a row of the front.
 #[derive(Clone, Copy)]
 enum Heading {
     Row,
@@ -32,7 +32,6 @@ enum Heading {
 }
 
 impl Heading {
-    /// Its name.
     fn name(self) -> &'static str
         ensures { result.now ≡ name_of_heading self }
     {
@@ -43,7 +42,7 @@ impl Heading {
         }
     }
 
-    /// What stands under it in the line of the prices as they are stated.
+    /// Its text in the line of the stated prices.
     fn now(self) -> &'static str
         ensures { result.now ≡ now_under self }
     {
@@ -53,7 +52,7 @@ impl Heading {
         }
     }
 
-    /// What a row says.
+    /// Its value for a row.
     fn of(self, row: FrontRow) -> u64
         ensures { result ≡ number_under self row }
     {
@@ -65,7 +64,6 @@ impl Heading {
     }
 }
 
-/// The column of a heading.
 #[tactic(auto, unfolding(crate::specs::PricesTable::heading_column))]
 fn heading_column(heap: Global, front: &[FrontRow], heading: Heading) -> Result<Column, AllocError>
     ensures { IfOk result (λ c. c ≡ heading_column front.now heading) }
@@ -80,7 +78,6 @@ fn heading_column(heap: Global, front: &[FrontRow], heading: Heading) -> Result<
     Ok(column)
 }
 
-/// The text of a percentage.
 fn percent_text(heap: Global, percent: u64) -> Result<String, AllocError>
     ensures { IfOk result (λ text. string_bytes text ≡ percent_text percent) }
 {
@@ -114,7 +111,6 @@ fn percent_column<A: Allocator>(
     Ok(column)
 }
 
-/// The column of a price.
 #[tactic(auto, unfolding(crate::specs::PricesTable::price_column))]
 fn price_column<A: Allocator>(
     heap: Global,
@@ -158,7 +154,6 @@ fn push_prices<A: Allocator>(
     Ok(())
 }
 
-/// Adds all columns.
 fn push_columns<A: Allocator>(
     columns: &mut Vec<Column>,
     heap: Global,
@@ -179,7 +174,7 @@ fn push_columns<A: Allocator>(
     push_prices(columns, heap, study, rows, front, relevant.as_slice())
 }
 
-/// True if there are too many intervals for a table. It takes no memory.
+/// True if there are too many intervals for a table. Allocates nothing.
 #[tactic(auto, unfolding(crate::specs::PricesTable::is_too_large))]
 fn is_too_large<A: Allocator>(study: &Study<A>, front: &[FrontRow]) -> bool
     requires { front.now ≡ front_of_study study.now }
@@ -189,11 +184,13 @@ fn is_too_large<A: Allocator>(study: &Study<A>, front: &[FrontRow]) -> bool
     intervals > u128::from(MOST_INTERVALS)
 }
 
-/// The table of a study's prices: a line of names, a line of the prices as they are stated, and then a line a row of
-/// the front, with its number, cost and cycles, by how many percent all prices may be wrong at once, and, for each
-/// price that rows pay differently often, for which values of it the row stays.
+/// The table of a study's prices: a line of names, a line of the stated prices, and then a line for
+/// each row of the front, with its number, cost and cycles, the percentage by which all prices may
+/// be wrong at once, and, for each price that rows pay differently often, the values for which the
+/// row stays.
 ///
-/// `rows` are all rows of the study, `front` those of its front. Everything except the text is taken of `heap`.
+/// `rows` are all rows of the study, `front` those of its front. Everything except the text is
+/// allocated in `heap`.
 pub fn prices_table<A: Allocator>(
     alloc: A,
     heap: Global,

@@ -13,7 +13,7 @@ next_item [] i x d within is = absurd (omega (arith, within))
 next_item (y ∷ ys) zero x d within is = ap (λ z. z ∷ ys) (sym is)
 next_item (y ∷ ys) (suc i) x d within is = next_item ys i x d (omega (arith, within)) is
 
--- what is first in the rest is first in all
+-- the first in the rest is the first of all
 abbrev pub IsFirstFrom : List ℕ → List Refusal → ℕ → Type 0
 IsFirstFrom text refusals i =
     (found : Option Refusal) → IsFirstIn text (drop i refusals) found → IsFirstIn text refusals found
@@ -39,7 +39,7 @@ pub none_is_in : (text : List ℕ) (refusals : List Refusal) (i : ℕ) → lengt
 unfolding IsFirstIn
 none_is_in text refusals i past so_far = so_far None (rw (drop_all i refusals past) refl)
 
--- the line of one more
+-- the line of one more item
 pub line_more : {X : Type 0} (f : X → List ℕ) (xs : List X) (i : ℕ) (x d : X) (before after whole : List ℕ)
     → i < length xs → x ≡ get_or xs i d → after ≡ before ++ f x → before ++ flat_map f (drop i xs) ≡ whole
     → after ++ flat_map f (drop (i + 1) xs) ≡ whole
@@ -47,7 +47,7 @@ line_more f xs i x d before after whole within is grown so_far =
     rw (add-one, grown) (append_assoc before (f x) (flat_map f (drop (suc i) xs))
     ∙ (ap (λ ys. before ++ flat_map f ys) (sym (next_item xs i x d within is)) ∙ so_far))
 
--- and of all
+-- and of all items
 pub all_lines : {X : Type 0} (f : X → List ℕ) (xs : List X) (i : ℕ) (text whole : List ℕ) → length xs ≤ i
     → text ++ flat_map f (drop i xs) ≡ whole → text ≡ whole
 all_lines f xs i text whole past so_far =

@@ -1,4 +1,4 @@
--- What commands refuse themselves.
+-- Refusals by commands themselves.
 use Rattle.std.specs.Prelude.{ℕ, List, ◌++◌, codes}
 use Rattle.tomex_refusals.specs.declared.commands.CommandRefusal.{CommandRefusal}
 use Rattle.tomex_refusals.specs.declared.commands.CommandRefusal.TheVariants as those
@@ -19,7 +19,7 @@ words_of those.ThreadRefused = codes "thread refused"
 words_of those.OutOfMemory = codes "out of memory"
 words_of those.NoSuchRefusal = codes "no such refusal"
 
--- how they look, with names in place of what differs
+-- their forms, with names in place of the parts that vary
 abbrev pub form_of : CommandRefusal → List ℕ
 form_of those.CannotRead = codes "cannot read NAME"
 form_of other = words_of other
@@ -96,7 +96,7 @@ no_such_refusal =
     codes "What `tomex explain` was given has the words of no refusal. Without words it\n"
     ++ codes "lists them all. A command line that is refused (status 2) says itself why.\n"
 
--- what is said of each
+-- the advice on each: its meaning, the usual causes, and what to do
 abbrev pub advice_of : CommandRefusal → List ℕ
 advice_of those.CannotRead = cannot_read
 advice_of those.BadWindow = bad_window

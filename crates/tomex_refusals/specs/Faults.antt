@@ -1,4 +1,4 @@
--- Faults of a program's run.
+-- Refusals of programs whose runs fault.
 use Rattle.std.specs.Prelude.{ℕ, List, ◌++◌, codes}
 use Rattle.tomex_refusals.specs.declared.faults.FaultRefusal.{FaultRefusal}
 use Rattle.tomex_refusals.specs.declared.faults.FaultRefusal.TheVariants as those
@@ -10,7 +10,7 @@ words_of those.Illegal = codes "fault: illegal"
 words_of those.MisalignedTarget = codes "fault: misaligned target"
 words_of those.Access = codes "fault: access"
 
--- how they look, with names in place of what differs
+-- their forms, with names in place of the parts that vary
 abbrev pub form_of : FaultRefusal → List ℕ
 form_of those.Fetch = codes "fault: fetch at PC"
 form_of those.Illegal = codes "fault: illegal at PC"
@@ -43,7 +43,7 @@ access =
     ++ (codes "a program of GNU ld whose start code loads no `gp` (link examples/start.s, or\n"
     ++ codes "use -Wl,--no-relax). `llvm-objdump -d FILE` shows the instruction.\n"))
 
--- what is said of each
+-- the advice on each: its meaning, the usual causes, and what to do
 abbrev pub advice_of : FaultRefusal → List ℕ
 advice_of those.Fetch = fetch
 advice_of those.Illegal = illegal

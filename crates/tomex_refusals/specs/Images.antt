@@ -1,4 +1,4 @@
--- Images that are refused.
+-- Refusals of images.
 use Rattle.std.specs.Prelude.{ℕ, List, ◌++◌, codes}
 use Rattle.tomex_refusals.specs.declared.images.ImageRefusal.{ImageRefusal}
 use Rattle.tomex_refusals.specs.declared.images.ImageRefusal.TheVariants as those
@@ -82,7 +82,7 @@ entry =
     ++ (codes "compressed code (compile with `-march=rv32im`), or no symbol `_start`, from\n"
     ++ codes "which linkers take it (or name another: `-Wl,-e,NAME`).\n"))
 
--- what is said of each
+-- the advice on each: its meaning, the usual causes, and what to do
 abbrev pub advice_of : ImageRefusal → List ℕ
 advice_of those.Empty = empty
 advice_of those.TooLarge = too_large

@@ -1,4 +1,4 @@
--- All refusals of the program, and which of them a text is.
+-- All refusals of the program, and how to find a text's.
 use Rattle.std.specs.Prelude.{◌≡◌, ◌⊎◌, ℕ, List, [], ◌∷◌, ◌++◌, codes, Option, Some, None}
 use Rattle.std.specs.List.{flat_map}
 use Rattle.std.specs.Str.Iter.{HasSubslice}
@@ -15,7 +15,7 @@ use Rattle.tomex_refusals.specs.Faults as of_faults
 use Rattle.tomex_refusals.specs.Images as of_images
 use Rattle.tomex_refusals.specs.Studies as of_studies
 
--- in the order in which they are looked for: what has a name in it first
+-- in the order in which they are looked for: those with a name in them first
 abbrev pub all_refusals : List Refusal
 all_refusals =
     Command commands.CannotRead ∷ Command commands.BadWindow ∷ Command commands.TooLong
@@ -37,21 +37,21 @@ words_of (Image refusal) = of_images.words_of refusal
 words_of (Fault refusal) = of_faults.words_of refusal
 words_of (Study refusal) = of_studies.words_of refusal
 
--- how it looks, with names in place of what differs
+-- its form, with names in place of the parts that vary
 abbrev pub form_of : Refusal → List ℕ
 form_of (Command refusal) = of_commands.form_of refusal
 form_of (Image refusal) = of_images.words_of refusal
 form_of (Fault refusal) = of_faults.form_of refusal
 form_of (Study refusal) = of_studies.form_of refusal
 
--- what it means, the usual causes, and what to do
+-- the advice on it: its meaning, the usual causes, and what to do
 abbrev pub advice_of : Refusal → List ℕ
 advice_of (Command refusal) = of_commands.advice_of refusal
 advice_of (Image refusal) = of_images.advice_of refusal
 advice_of (Fault refusal) = of_faults.advice_of refusal
 advice_of (Study refusal) = of_studies.advice_of refusal
 
--- its words stand somewhere in a text
+-- its words are somewhere in a text
 abbrev pub IsIn : List ℕ → Refusal → Type 0
 IsIn text refusal = HasSubslice text (words_of refusal)
 
@@ -61,16 +61,16 @@ IsFirstIn text [] found = found ≡ None
 IsFirstIn text (refusal ∷ refusals) found =
     (IsIn text refusal × (found ≡ Some refusal)) ⊎ ((IsIn text refusal → ⊥) × IsFirstIn text refusals found)
 
--- how it looks, and then what is said of it
+-- its form, and then the advice on it
 abbrev pub explanation_of : Refusal → List ℕ
 explanation_of refusal = form_of refusal ++ (codes "\n" ++ advice_of refusal)
 
--- a text explains the refusal that the words are
+-- a text explains the refusal in the words
 abbrev pub IsExplained : List ℕ → List ℕ → Type 0
 IsExplained words text =
     (refusal : Refusal) × IsFirstIn words all_refusals (Some refusal) × (text ≡ explanation_of refusal)
 
--- why there is no explanation; memory is refused only for the text of a refusal that the words are
+-- why there is no explanation; out of memory only for the text of a refusal that is in the words
 abbrev pub IsUnexplained : List ℕ → ExplainError → Type 0
 IsUnexplained words NoSuchRefusal = IsFirstIn words all_refusals None
 IsUnexplained words Memory = (refusal : Refusal) × IsFirstIn words all_refusals (Some refusal)
@@ -79,6 +79,6 @@ IsUnexplained words Memory = (refusal : Refusal) × IsFirstIn words all_refusals
 abbrev pub line_of : Refusal → List ℕ
 line_of refusal = form_of refusal ++ codes "\n"
 
--- all refusals, a line each
+-- all refusals, each on a line
 unfoldable pub refusal_lines : List ℕ
 refusal_lines = flat_map line_of all_refusals

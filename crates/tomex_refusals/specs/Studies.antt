@@ -1,4 +1,4 @@
--- Studies that are refused.
+-- Refusals of studies.
 use Rattle.std.specs.Prelude.{ℕ, List, ◌++◌, codes}
 use Rattle.tomex_refusals.specs.declared.studies.StudyRefusal.{StudyRefusal}
 use Rattle.tomex_refusals.specs.declared.studies.StudyRefusal.TheVariants as those
@@ -13,7 +13,7 @@ words_of those.OutOfRange = codes "out of range"
 words_of those.TooMany = codes "study: too many configurations"
 words_of those.NumberOfFiles = codes "study: wrong number of files"
 
--- how they look, with names in place of what differs
+-- their forms, with names in place of the parts that vary
 abbrev pub form_of : StudyRefusal → List ℕ
 form_of those.UnknownKey = codes "study: PLACE: unknown key"
 form_of those.Missing = codes "study: PLACE: KEY missing"
@@ -77,7 +77,7 @@ number_of_files =
     codes "There aren't as many files as the study has programs. No command of this\n"
     ++ codes "program says it: it names each program's file itself.\n"
 
--- what is said of each
+-- the advice on each: its meaning, the usual causes, and what to do
 abbrev pub advice_of : StudyRefusal → List ℕ
 advice_of those.NotToml = not_toml
 advice_of those.UnknownKey = unknown_key

@@ -1,14 +1,14 @@
-//! What commands refuse themselves.
+//! Refusals by commands themselves.
 
 ghost use Rattle.std.specs.Prelude.{◌≡◌};
 ghost use Rattle.tomex_refusals.specs.Commands.{advice_of, form_of, words_of};
 
-/// What commands refuse themselves.
+/// A refusal by a command itself.
 #[derive(Clone, Copy)]
 pub enum CommandRefusal {
     /// A file can't be read.
     CannotRead,
-    /// Base and size are no window.
+    /// Base and size don't make a window.
     BadWindow,
     /// A run has more instructions than it may have.
     TooLong,
@@ -24,13 +24,13 @@ pub enum CommandRefusal {
     TableTooLarge,
     /// The run ends before that cycle.
     CyclePastEnd,
-    /// The output took no more.
+    /// The output failed before the end of the text.
     CannotWrite,
-    /// The system starts no further thread.
+    /// The system can't start another thread.
     ThreadRefused,
-    /// The system gives no more memory.
+    /// The system has no more memory.
     OutOfMemory,
-    /// The words are those of no refusal.
+    /// The words don't name a refusal.
     NoSuchRefusal,
 }
 
@@ -127,7 +127,7 @@ impl CommandRefusal {
         }
     }
 
-    /// How it looks, with names in place of what differs.
+    /// Its form, with names in place of the parts that vary.
     pub fn form(self) -> &'static str
         ensures { result.now ≡ form_of self }
     {
@@ -137,7 +137,7 @@ impl CommandRefusal {
         }
     }
 
-    /// What it means, the usual causes, and what to do.
+    /// The advice on it: its meaning, the usual causes, and what to do.
     pub fn advice(self) -> &'static str
         ensures { result.now ≡ advice_of self }
     {

@@ -1,4 +1,4 @@
-//! What is printed of refusals.
+//! Explanations of refusals.
 
 ghost use Rattle.std.specs.Prelude.{◌≡◌, ◌++◌, IfErr, IfOk, OnOk, string_bytes};
 ghost use Rattle.tomex_refusals.specs.Refusals.{IsExplained, IsUnexplained, explanation_of, line_of};
@@ -7,12 +7,12 @@ ghost use Rattle.tomex_refusals.specs.Refusals.{refusal_lines};
 use crate::refusal::{Refusal, refusal_in};
 use std::alloc::{AllocError, Allocator};
 
-/// Why nothing is explained.
+/// Why there is no explanation.
 #[derive(Clone, Copy)]
 pub enum ExplainError {
-    /// The words are those of no refusal.
+    /// The words don't name a refusal.
     NoSuchRefusal,
-    /// Memory was refused for the text.
+    /// Out of memory for the text.
     Memory,
 }
 
@@ -38,8 +38,9 @@ fn explanation_of<A: Allocator>(alloc: A, refusal: Refusal) -> Result<Vec<u8, A>
     Ok(text.into_bytes())
 }
 
-/// What the refusal in these words means, its usual causes, and what to do: how it looks, and then at most eleven
-/// lines. What stands before and after its own words doesn't matter.
+/// The explanation of the refusal in these words: how it looks, and then at most eleven lines on
+/// what it means, its usual causes, and what to do. Text before and after its own words doesn't
+/// matter.
 pub fn explain<A: Allocator>(alloc: A, words: &str) -> Result<Vec<u8, A>, ExplainError>
     ensures text { IfOk result (λ text. IsExplained words.now text.items) }
     ensures refused { IfErr result (λ error. IsUnexplained words.now error) }
@@ -50,7 +51,6 @@ pub fn explain<A: Allocator>(alloc: A, words: &str) -> Result<Vec<u8, A>, Explai
     }
 }
 
-/// Adds a refusal's line.
 fn push_line<A: Allocator>(text: &mut String<A>, refusal: Refusal) -> Result<(), AllocError>
     ensures { OnOk result (string_bytes text.new ≡ string_bytes text.old ++ line_of refusal) }
 {
@@ -58,7 +58,7 @@ fn push_line<A: Allocator>(text: &mut String<A>, refusal: Refusal) -> Result<(),
     text.push_str("\n")
 }
 
-/// All refusals, a line each.
+/// All refusals, each on a line.
 pub fn list_refusals<A: Allocator>(alloc: A) -> Result<Vec<u8, A>, AllocError>
     ensures { IfOk result (λ text. text.items ≡ refusal_lines) }
 {

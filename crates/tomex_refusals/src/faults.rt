@@ -1,16 +1,16 @@
-//! Faults of a program's run.
+//! Refusals of programs whose runs fault.
 
 ghost use Rattle.std.specs.Prelude.{◌≡◌};
 ghost use Rattle.tomex_refusals.specs.Faults.{advice_of, form_of, words_of};
 
-/// Faults of a program's run.
+/// A fault of a program's run.
 #[derive(Clone, Copy)]
 pub enum FaultRefusal {
     /// An instruction is fetched from outside memory.
     Fetch,
-    /// A word is no instruction of RV32IM.
+    /// A word is not an instruction of RV32IM.
     Illegal,
-    /// A jump to no multiple of four.
+    /// A jump to an address that is not a multiple of 4.
     MisalignedTarget,
     /// A load or store outside memory.
     Access,
@@ -52,7 +52,7 @@ impl FaultRefusal {
         }
     }
 
-    /// How it looks, with names in place of what differs.
+    /// Its form, with names in place of the parts that vary.
     pub fn form(self) -> &'static str
         ensures { result.now ≡ form_of self }
     {
@@ -64,7 +64,7 @@ impl FaultRefusal {
         }
     }
 
-    /// What it means, the usual causes, and what to do.
+    /// The advice on it: its meaning, the usual causes, and what to do.
     pub fn advice(self) -> &'static str
         ensures { result.now ≡ advice_of self }
     {

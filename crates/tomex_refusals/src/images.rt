@@ -1,12 +1,12 @@
-//! Images that are refused.
+//! Refusals of images.
 
 ghost use Rattle.std.specs.Prelude.{◌≡◌};
 ghost use Rattle.tomex_refusals.specs.Images.{advice_of, words_of};
 
-/// Images that are refused.
+/// A refusal of an image.
 #[derive(Clone, Copy)]
 pub enum ImageRefusal {
-    /// Nothing is there to load.
+    /// There is nothing to load.
     Empty,
     /// A flat file has more bytes than memory.
     TooLarge,
@@ -14,7 +14,7 @@ pub enum ImageRefusal {
     Truncated,
     /// Another machine's file, or one of 64 bits.
     NotRiscv,
-    /// It isn't linked to one place.
+    /// It isn't linked to a fixed address.
     NotExecutable,
     /// A header isn't as long as it must be.
     HeaderSize,
@@ -26,7 +26,7 @@ pub enum ImageRefusal {
     Segment,
     /// Two segments share a byte.
     Overlap,
-    /// The entry is at no place to begin.
+    /// No instruction can be at the entry.
     Entry,
 }
 
@@ -110,7 +110,7 @@ impl ImageRefusal {
         }
     }
 
-    /// What it means, the usual causes, and what to do.
+    /// The advice on it: its meaning, the usual causes, and what to do.
     pub fn advice(self) -> &'static str
         ensures { result.now ≡ advice_of self }
     {

@@ -1,4 +1,4 @@
-//! All refusals, and which of them a text is.
+//! All refusals, and how to find a text's.
 
 ghost use Rattle.std.specs.Prelude.{◌≡◌};
 ghost use Rattle.tomex_refusals.specs.Refusals.{IsFirstIn, advice_of, all_refusals, form_of, words_of};
@@ -18,7 +18,7 @@ pub enum Refusal {
 }
 
 impl Refusal {
-    /// All of them, in the order in which they are looked for: what has a name in it first.
+    /// All refusals, in the order in which they are looked for: those with a name in them first.
     pub const ALL: [Refusal; 35] = [
         Refusal::Command(CommandRefusal::CannotRead),
         Refusal::Command(CommandRefusal::BadWindow),
@@ -69,7 +69,7 @@ impl Refusal {
         }
     }
 
-    /// How it looks, with names in place of what differs.
+    /// Its form, with names in place of the parts that vary.
     pub fn form(self) -> &'static str
         ensures { result.now ≡ form_of self }
     {
@@ -81,7 +81,7 @@ impl Refusal {
         }
     }
 
-    /// What it means, the usual causes, and what to do.
+    /// The advice on it: its meaning, the usual causes, and what to do.
     pub fn advice(self) -> &'static str
         ensures { result.now ≡ advice_of self }
     {
@@ -94,7 +94,7 @@ impl Refusal {
     }
 }
 
-/// The refusal that a text is: the first whose words it has, if any.
+/// The refusal in a text: the first one whose words it has, if any.
 pub fn refusal_in(text: &str) -> Option<Refusal>
     ensures { IsFirstIn text.now all_refusals result }
 {

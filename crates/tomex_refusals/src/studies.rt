@@ -1,18 +1,18 @@
-//! Studies that are refused.
+//! Refusals of studies.
 
 ghost use Rattle.std.specs.Prelude.{◌≡◌};
 ghost use Rattle.tomex_refusals.specs.Studies.{advice_of, form_of, words_of};
 
-/// Studies that are refused.
+/// A refusal of a study.
 #[derive(Clone, Copy)]
 pub enum StudyRefusal {
-    /// The study's file is no TOML document.
+    /// The study's file is not a TOML document.
     NotToml,
     /// A table has a key that isn't known.
     UnknownKey,
-    /// A table lacks a key that it needs.
+    /// A table is missing a key that it needs.
     Missing,
-    /// A value isn't of the kind that is wanted.
+    /// A value has the wrong kind.
     WrongKind,
     /// A value is too small or too large.
     OutOfRange,
@@ -91,7 +91,7 @@ impl StudyRefusal {
         }
     }
 
-    /// How it looks, with names in place of what differs.
+    /// Its form, with names in place of the parts that vary.
     pub fn form(self) -> &'static str
         ensures { result.now ≡ form_of self }
     {
@@ -104,7 +104,7 @@ impl StudyRefusal {
         }
     }
 
-    /// What it means, the usual causes, and what to do.
+    /// The advice on it: its meaning, the usual causes, and what to do.
     pub fn advice(self) -> &'static str
         ensures { result.now ≡ advice_of self }
     {

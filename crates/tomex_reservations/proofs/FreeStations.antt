@@ -4,7 +4,7 @@ use Rattle.std.proofs.lemmas.Bool.{cases_order}
 use Rattle.tomex_rvdec.specs.declared.pool.PoolId.{PoolId}
 use Rattle.tomex_reservations.specs.Reservations.{IsFreeFirst, end_at}
 
--- of the first i stations none is free in the first cycle, and number n is the first that will be, in this cycle
+-- none of the first i stations is free in the cycle `from`, and number n is the first that will be, in this cycle
 pub record IsSoonest (ends : List ℕ) (pool : PoolId) (from i cycle n : ℕ) : Type 0 where
   pub passed : (k : ℕ) → k < i → from ≤ end_at ends pool k
   pub by : (k : ℕ) → k < i → cycle ≤ end_at ends pool k + 1
@@ -62,7 +62,7 @@ free_at_once ends pool count from i cycle n there free soonest = record {
   none = λ k t l m o. absurd (omega arith);
 }
 
--- and the one that is free first where none is
+-- and the one that is free first if none is
 pub free_soonest : (ends : List ℕ) (pool : PoolId) (count from cycle n : ℕ) → 1 ≤ count
     → IsSoonest ends pool from count cycle n → IsFreeFirst ends pool count from cycle n
 free_soonest ends pool count from cycle n some soonest = elim (soonest.at) [

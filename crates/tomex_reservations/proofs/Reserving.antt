@@ -1,4 +1,4 @@
--- The reservation table: what is let go of changes nothing ahead, and past its last cycle one of each line is left.
+-- The reservation table: dropping cycles changes nothing ahead, and past its last cycle one of each line is left.
 use Rattle.std.proofs.Common.{ℕ, ◌+◌, ◌-◌, ◌<◌, ◌≤◌, ◌≡◌, ◌∙◌, false, arith, ap, sym, inl, inr, List, [], length, take}
 use Rattle.std.specs.Prelude.{max, nat_lt, slice_index_or}
 use Rattle.std.specs.List.{CopiedTo}
@@ -7,7 +7,7 @@ use Rattle.std.proofs.lemmas.List.{get_or-take, get_or_past, length-take}
 use Rattle.tomex_reservations.specs.Reservations.{Reserved, is_left, taken_at}
 use Rattle.tomex_reservations.proofs.Searching.{IsSearching, goes_on}
 
--- what is moved down, and all behind it let go of
+-- the entries that are moved down, with all after them dropped
 pub moved : {X : Type 0} (xs ys : List X) (past rest q : ℕ) (d : X) → past + rest ≡ length xs
     → CopiedTo xs ys past 0 rest → slice_index_or (take rest ys) q d ≡ slice_index_or xs (past + q) d
 moved xs ys past rest q d long copied = elim (cases_Bool (nat_lt q rest)) [
@@ -35,7 +35,7 @@ past_end xs base cycle t d l m =
     let b : slice_index_or [] (t - cycle) d ≡ d = get_or_past [] (t - cycle) d (omega arith) in
     rw (a, b)
 
--- a search for a cycle with one left goes on where none is
+-- a search for a cycle with one left continues if none is
 pub left_on : (table : Reserved) (line most from t bound : ℕ) → 1 ≤ most
     → ((t : ℕ) → bound < t → taken_at table line t ≡ 0)
     → IsSearching (is_left table line most) from t (max from (bound + 1)) → is_left table line most t ≡ false

@@ -4,13 +4,13 @@ use Rattle.std.specs.Prelude.{nat_le}
 use Rattle.std.proofs.lemmas.Bool.{cases_Bool, cases_order, both_ways, lt-leb, le-leb, leb-true, and_from, and_right}
 use Rattle.tomex_reservations.specs.Reservations.{IsFirst}
 
--- a search for what passes: it began at `from`, has come to t with all behind it failing, and n passes
+-- a search for a number that passes: it began at `from`, has reached t after failures only, and n passes
 pub record IsSearching (p : ℕ → Bool) (from t n : ℕ) : Type 0 where
   pub begun : from ≤ t
   pub below : (s : ℕ) → from ≤ s → s < t → p s ≡ false
   pub by : t ≤ n
 
--- it goes on by one where t fails
+-- it continues by one if t fails
 pub goes_on : (p : ℕ → Bool) (from t n : ℕ) → p n ≡ true → IsSearching p from t n → p t ≡ false
     → IsSearching p from (t + 1) n
 goes_on p from t n passes searching fails = record {
@@ -27,7 +27,7 @@ goes_on p from t n passes searching fails = record {
   ];
 }
 
--- and has found the first where t passes
+-- and has found the first if t passes
 pub found : (p : ℕ → Bool) (from t n : ℕ) → IsSearching p from t n → p t ≡ true → IsFirst from p t
 found p from t n searching here = (
   and_from (nat_le from t) (p t) (le-leb from t searching.begun) here,
@@ -37,7 +37,7 @@ found p from t n searching here = (
   ],
 )
 
--- what passes at once is first
+-- a number that passes at once is the first
 pub first_here : (p : ℕ → Bool) (from : ℕ) → p from ≡ true → IsFirst from p from
 first_here p from e = (
   and_from (nat_le from from) (p from) (le-leb from from (omega arith)) e,

@@ -4,14 +4,14 @@ use Rattle.std.specs.Prelude.{if◌then◌else◌, List, slice_index, slice_inde
 use Rattle.tomex_rvdec.specs.Parts.{place_of_pool}
 use Rattle.tomex_rvdec.specs.declared.pool.PoolId.{PoolId}
 
--- t is the first number from this one on that passes
+-- t is the first number from `from` on that passes
 abbrev pub IsFirst : ℕ → (ℕ → Bool) → ℕ → Type 0
 IsFirst from p t = IsTrue (nat_le from t && p t) × ((s : ℕ) → s < t → (nat_le from s && p s) ≡ false)
 
 -- The reservation table.
 
--- the first cycle that it has, and of each from there on how many are taken of each line: of the five kinds of unit,
--- in their order, and of the buses
+-- its first cycle, and for each cycle from there on how many of each line are taken: of the five kinds of unit, in
+-- their order, and of the buses
 pub record Reserved : Type 0 where
   pub base : ℕ
   pub slots : List (List ℕ)
@@ -19,15 +19,15 @@ pub record Reserved : Type 0 where
 abbrev pub bus_line : ℕ
 bus_line = 5
 
--- a cycle in which nothing is taken; there is room for two lines more
+-- a cycle in which nothing is taken; there is room for two more lines
 abbrev pub free_slot : List ℕ
 free_slot = replicate 8 0
 
--- how many are taken of a line in a cycle; past the table's end none are
+-- how many of a line are taken in a cycle; none past the table's end
 abbrev pub taken_at : Reserved → ℕ → ℕ → ℕ
 taken_at table line t = slice_index (slice_index_or table.slots (t - table.base) free_slot) line
 
--- one of so many is left
+-- one of `most` is left
 abbrev pub is_left : Reserved → ℕ → ℕ → ℕ → Bool
 is_left table line most t = nat_lt (taken_at table line t) most
 
@@ -37,7 +37,7 @@ taken_with table line cycle l t = if l == line && t == cycle then taken_at table
 
 -- The stations.
 
--- where a pool's station stands
+-- the place of a pool's station in the list of ends
 abbrev pub station_place : PoolId → ℕ → ℕ
 station_place pool n = 16 * place_of_pool pool + n
 

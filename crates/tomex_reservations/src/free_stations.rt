@@ -1,25 +1,25 @@
-//! The reservation stations: which of a pool's is free first.
+//! The reservation stations: which one of a pool is free first.
 
 ghost use Rattle.std.specs.Prelude.{◌≡◌, ℕ, ◌+◌, ◌^◌, ◌<◌, ◌≤◌, replicate, slice_set};
 ghost use Rattle.tomex_reservations.specs.Reservations.{IsFreeFirst, end_at, station_place};
 
 use tomex_rvdec::PoolId;
 
-/// Of each reservation station the greatest end of the steps that had it, 0 where none had it: 16 of each pool, in
-/// the order of `PoolId::ALL`.
+/// For each reservation station, the greatest end of the steps that had it, 0 if none had it: 16
+/// for each pool, in the order of `PoolId::ALL`.
 #[derive(Clone, Copy)]
 pub struct Stations {
     pub ends: [u64; 96],
 }
 
-/// A cycle with a station left, and the least number of one that is.
+/// A cycle with a free station, and the least number of one.
 #[derive(Clone, Copy)]
 pub struct FreeStation {
     pub cycle: u64,
     pub number: u8,
 }
 
-/// The place of a pool's station.
+/// The place of a pool's station in `ends`.
 fn place_of(pool: PoolId, number: u8) -> usize
     requires { number < 16 }
     ensures place { result ≡ station_place pool number }
@@ -29,14 +29,14 @@ fn place_of(pool: PoolId, number: u8) -> usize
 }
 
 impl Stations {
-    /// None was taken yet.
+    /// The stations before any is taken.
     pub fn none() -> Stations
         ensures { result.ends ≡ replicate 96 0 }
     {
         Stations { ends: [0; 96] }
     }
 
-    /// The first cycle from `from` on in which one of a pool's `count` stations is left.
+    /// The first cycle from `from` on in which one of a pool's `count` stations is free.
     #[inline(always)]
     pub fn first(&self, pool: PoolId, count: u8, from: u64) -> FreeStation
         requires some { 1 ≤ count }
@@ -49,7 +49,7 @@ impl Stations {
             number: 0,
         };
         for number in 0..count {
-            // A station is given back after its step's end.
+            // A station is free from the cycle after its step's end.
             let cycle = self.ends[place_of(pool, number)] + 1;
             if cycle <= from {
                 return FreeStation {
@@ -64,7 +64,7 @@ impl Stations {
         soonest
     }
 
-    /// A step takes a pool's station up to its end.
+    /// Reserves a pool's station for a step, up to the step's end.
     pub fn take(&mut self, pool: PoolId, number: u8, end: u64)
         requires { number < 16 }
         ensures { self.new.ends ≡ slice_set self.old.ends (station_place pool number) end }

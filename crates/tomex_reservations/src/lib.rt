@@ -1,5 +1,5 @@
-//! What the steps of a run reserve of a machine: its reservation stations up to their ends, its units and common data
-//! buses in the cycles ahead.
+//! What the steps of a run reserve in a machine: its reservation stations up to their ends, its
+//! units and common data buses in the cycles ahead.
 #![tactic(auto)]
 
 mod free_stations;

@@ -6,22 +6,22 @@ ghost use Rattle.tomex_reservations.specs.Reservations.{Reserved, is_left, taken
 use std::alloc::{AllocError, Allocator};
 use std::marker::Model;
 
-/// The line of the buses. Those of the kinds of unit stand before it, in the order of `UnitId::ALL`.
+/// The line of the buses. Before it come those of the kinds of unit, in the order of `UnitId::ALL`.
 pub const BUSES: usize = 5;
 
-/// Room is made for so many cycles at once.
+/// The number of cycles by which the table grows.
 const STRIDE: usize = 64;
 
-/// And so many are let go of at once.
+/// The number of past cycles that are dropped at once.
 const PAST: u64 = 1024;
 
-/// How many are taken of each line in each cycle.
+/// How many of each line are taken in each cycle.
 #[derive(Drop)]
 pub struct ReservationTable<A: Allocator> {
-    /// The first cycle that it has.
+    /// The first cycle of the table.
     base: u64,
-    /// Of each cycle from there on. Past its end nothing is taken. Two of the eight lines are used by nothing: so a
-    /// cycle's place is found by a shift.
+    /// The lines of each cycle from `base` on. Nothing is taken past its end. Two of the eight
+    /// lines are unused, so that a cycle's place is found by a shift.
     slots: Vec<[u8; 8], A>,
 }
 
@@ -33,7 +33,7 @@ impl<A: Allocator> Model for ReservationTable<A> {
     ghost view = { λ t. record { base = t.base; slots = t.slots.items } };
 }
 
-/// A cycle in which one of a line is left, and how many are taken in it with that one.
+/// A cycle in which one of a line is left, and how many are taken in it, including that one.
 #[derive(Clone, Copy)]
 pub struct Room {
     pub cycle: u64,
@@ -41,7 +41,7 @@ pub struct Room {
 }
 
 impl<A: Allocator> ReservationTable<A> {
-    /// Nothing is taken yet.
+    /// A table in which nothing is taken.
     pub fn new(alloc: A) -> ReservationTable<A>
         ensures { result ≡ record { base = 0; slots = [] } }
     {
@@ -51,7 +51,7 @@ impl<A: Allocator> ReservationTable<A> {
         }
     }
 
-    /// How many are taken of a line in a cycle.
+    /// How many of a line are taken in a cycle.
     #[inline(always)]
     fn taken(&self, line: usize, cycle: u64) -> u8
         requires line { line < 6 }
@@ -64,9 +64,10 @@ impl<A: Allocator> ReservationTable<A> {
         }
     }
 
-    /// The first cycle from `from` on in which fewer are taken of a line than there are. Past the cycle `bound`
-    /// none are.
-    // Mostly it is `from` itself: the search is apart, so that the look before it is a few instructions.
+    /// The first cycle from `from` on in which fewer than `most` of a line are taken. None are
+    /// taken after the cycle `bound`.
+    // Usually it is `from` itself; the search is out of line, so that this test is only a few
+    // instructions.
     #[inline(always)]
     pub fn first(&self, line: usize, most: u8, from: u64, bound: u64) -> Room
         requires line { line < 6 }
@@ -91,7 +92,7 @@ impl<A: Allocator> ReservationTable<A> {
         }
     }
 
-    /// The same, by a search.
+    /// `first`, by a search.
     #[inline(never)]
     fn search(&self, line: usize, most: u8, from: u64, bound: u64) -> Room
         requires line { line < 6 }
@@ -118,7 +119,7 @@ impl<A: Allocator> ReservationTable<A> {
         }
     }
 
-    /// Makes room up to a place, and for it.
+    /// Makes room up to and including a place.
     #[inline(always)]
     fn grow(&mut self, place: usize) -> Result<(), AllocError>
         ensures base { self.new.base ≡ self.old.base }
@@ -132,7 +133,7 @@ impl<A: Allocator> ReservationTable<A> {
         }
     }
 
-    /// The same of a place past the end.
+    /// `grow`, for a place past the end.
     #[cold]
     #[inline(never)]
     fn extend(&mut self, place: usize) -> Result<(), AllocError>
@@ -162,8 +163,8 @@ impl<A: Allocator> ReservationTable<A> {
         Ok(())
     }
 
-    /// Takes one of a line in the first cycle from `from` on in which fewer are taken than there are. Past the cycle
-    /// `bound` none are.
+    /// Takes one of a line in the first cycle from `from` on in which fewer than `most` are taken.
+    /// None are taken after the cycle `bound`.
     #[inline(always)]
     pub fn reserve(
         &mut self,
@@ -188,7 +189,7 @@ impl<A: Allocator> ReservationTable<A> {
         ensures refused { OnErr result ((l t : ℕ) → taken_at self.new l t ≡ taken_at self.old l t) }
     {
         let place = (from - self.base) as usize;
-        // Mostly the cycle has room: then it is found and taken by one look.
+        // Usually this cycle has room, and one access finds and takes it.
         if place < self.slots.len() && self.slots[place][line] < most {
             let taken = self.slots[place][line];
             self.slots[place][line] = taken + 1;
@@ -200,7 +201,7 @@ impl<A: Allocator> ReservationTable<A> {
         self.reserve_later(line, most, from, bound)
     }
 
-    /// The same, by a search.
+    /// `reserve`, by a search.
     #[inline(never)]
     fn reserve_later(
         &mut self,
@@ -229,7 +230,7 @@ impl<A: Allocator> ReservationTable<A> {
         Ok(room)
     }
 
-    /// Lets go of the cycles before one, if they are many: nothing that is asked lies there any more.
+    /// Drops the cycles before `cycle`, if there are many: nothing asks for them any more.
     #[inline(always)]
     pub fn pass(&mut self, cycle: u64)
         requires later { self.old.base ≤ cycle }
@@ -241,7 +242,7 @@ impl<A: Allocator> ReservationTable<A> {
         }
     }
 
-    /// Lets go of the cycles before one.
+    /// Drops the cycles before `cycle`.
     #[cold]
     #[inline(never)]
     fn forget(&mut self, cycle: u64)

@@ -1,4 +1,4 @@
--- Totals that are known, and the plateaus that they are known by.
+-- Known totals, and the plateaus from which they are known.
 use Rattle.std.proofs.Common.{◌≡◌, ◌≢◌, ℕ, zero, suc, ◌+◌, ◌++◌, take, ◌<◌, arith, ap, sym, ◌∙◌, List, [], ◌∷◌, length}
 use Rattle.std.proofs.Common.{map, slice_get, Option, Some, None, get_or, subst, inl, inr, refl}
 use Rattle.std.specs.Prelude.{IfOk, IfSome, OnOk, Result, Ok, Err, slice_index_or, ◌≤◌}
@@ -17,8 +17,8 @@ use Rattle.tomex_plateaus.specs.Kept.{Kept, HasLearnt}
 use Rattle.tomex_plateaus.specs.Plateaus.{total_known}
 use Rattle.tomex_cycle.specs.Run.{total}
 use Rattle.tomex_row_runs.specs.Cycles.{totals_on}
-use Rattle.tomex_row_runs.specs.Knowledge.{AreLearnt, AreTotals, IsKnowledge, IsLearnt, IsLearntAt, IsTotalAt, KnowledgeOf}
-use Rattle.tomex_row_runs.specs.Knowledge.{OnlyAt, known_on, nothing_known}
+use Rattle.tomex_row_runs.specs.Knowledge.{AreLearnt, AreTotals, IsKnowledge, IsLearnt, IsLearntAt, IsTotalAt}
+use Rattle.tomex_row_runs.specs.Knowledge.{KnowledgeOf, OnlyAt, known_on, nothing_known}
 use Rattle.tomex_study.specs.Program.{Workload, IsProgram}
 use Rattle.tomex_row_runs.proofs.Totals.{total_within}
 
@@ -82,7 +82,7 @@ its_total : (config : Configuration) (o : Option ℕ) (p : Workload) (n : ℕ) �
 its_total config None p n is h = absurd (cc)
 its_total config (Some m) p n is h = let e : m ≡ n = cc in h ∙ e
 
--- one more is known, or is known not to be
+-- one more place is looked up, with or without a total
 pub one_known : (programs : List Workload) (config : Configuration) (totals : List (Option ℕ)) (place : ℕ)
     (o : Option ℕ) → AreTotals programs config totals
     → ((p : Workload) → slice_get programs place ≡ Some p → IfSome o (λ n. total config p.image ≡ n))
@@ -126,7 +126,7 @@ learnt_one programs lists place l k is here same =
     let e : k.steps ≡ (get_or lists place l).steps = same ∙ ap (λ (z : Kept). z.steps) here in
     record { few = is.few; ends = is.ends; steps = map-set_same (λ l. l.steps) lists place k l e ∙ is.steps }
 
--- a list for one program more
+-- a list for one more program
 abbrev fresh : Workload → Kept
 fresh p = record { steps = steps_of p; found = []; oldest = 0 }
 
@@ -189,7 +189,7 @@ learnt_there config place lists l k low at has = λ old new was is.
     let second : k ≡ new = some_same k new (sym (get_set_same lists place k low) ∙ is) in
     subst (λ (x : Kept). HasLearnt config old x) second (subst (λ (x : Kept). HasLearnt config x k) first has)
 
--- the same of what is answered, if it is Ok
+-- the same for the result, if it is Ok
 
 pub learnt_total : {E : Type 0} (programs : List Workload) (lists : List Kept) (config : Configuration) (place : ℕ)
     (l : Kept) (r : Result ℕ E) → IsKnowledge programs lists → slice_get lists place ≡ Some l
@@ -204,7 +204,7 @@ pub learnt_ok : {E : Type 0} (config : Configuration) (place : ℕ) (lists : Lis
 learnt_ok config place lists l k (Ok n) low at has = learnt_there config place lists l k low at has
 learnt_ok config place lists l k (Err e) low at has = tt
 
--- where the total was known, nothing is written
+-- if the total was known, nothing is written
 pub same_there : (config : Configuration) (place n : ℕ) (lists : List Kept)
     → IsLearntAt config place (Some n) lists lists
 same_there config place n lists = λ old new was is. some_same new old (sym is ∙ was)
@@ -249,7 +249,7 @@ learnt_here config known old now new place k here same learnt = λ l m was is.
     subst (λ (j : ℕ). IsLearnt config (slice_index_or known j None) l m) (sym here)
     (learnt l m (same ∙ (ap (slice_get old) (sym here) ∙ was)) (ap (slice_get new) (sym here) ∙ is))
 
--- what is learnt so far
+-- the knowledge that is learnt so far
 pub record IsLearning (all : List Workload) (config : Configuration) (known : List (Option ℕ))
     (old now : KnowledgeOf) (place : ℕ) (totals : List ℕ) : Type 0 where
   pub programs : now.programs ≡ all

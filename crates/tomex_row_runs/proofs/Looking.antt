@@ -1,4 +1,4 @@
--- What a row has made at a look, counted program by program.
+-- The cycles that a row has made at a look, counted program by program.
 use Rattle.std.proofs.Common.{◌≡◌, ℕ, ◌+◌, ◌-◌, ◌*◌, ◌<◌, ◌≤◌, arith, ap, sym, ◌∙◌, List, length, drop, get_or, All}
 use Rattle.std.proofs.Common.{min, subst, zero-add}
 use Rattle.std.proofs.Common.{Some, None, refl}

@@ -1,4 +1,4 @@
--- Machines that are asked to go on to a cycle.
+-- Machines that advance to a cycle.
 use Rattle.std.proofs.Common.{◌≡◌, ℕ, ◌≤◌, arith, ap, sym, ◌∙◌, min, max, Bool, true, nat_lt, subst, cond}
 use Rattle.std.proofs.lemmas.Bool.{le-ltb}
 use Rattle.tomex_image.specs.Image.{Loaded}
@@ -10,11 +10,11 @@ use Rattle.tomex_cycle.specs.Seen.{Seen, seen_after, is_end}
 use Rattle.tomex_study.specs.Program.{Workload, IsProgram}
 use Rattle.tomex_row_runs.proofs.Totals.{total_bound, ends_at_most}
 
--- what a machine promises that is asked to go on to a cycle
+-- what the contract of a machine that advances to a cycle says
 abbrev pub Advances : Seen → Seen → ℕ → Type 0
 Advances m n to = EndsWithin m.image 262144 → n ≡ seen_after m.image m.config (max m.cycle to)
 
--- what it does, of a program of a study
+-- what it does with a program of a study
 pub advanced_from : (p : Workload) (config : Configuration) (m n : Seen) (to : ℕ) → IsProgram p → m.image ≡ p.image
     → m.config ≡ config → m.cycle ≤ to → Advances m n to → n ≡ seen_after p.image config to
 advanced_from p config m n to program image mine low goes =
@@ -31,7 +31,7 @@ pub record HasEnded (config : Configuration) (p : Workload) (n : Seen) : Type 0 
   pub cycle : n.cycle ≡ total config p.image
   pub ended : is_end n.status ≡ true
 
--- one that is asked to go on past the end of any program
+-- a machine that advances past the end of any program
 pub to_end : (config : Configuration) (p : Workload) (m n : Seen) → IsWithinLimits config → IsProgram p
     → m ≡ record { image = p.image; config = config; cycle = 0; status = Running } → Advances m n 17563648
     → HasEnded config p n

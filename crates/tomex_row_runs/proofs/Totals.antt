@@ -1,4 +1,4 @@
--- How many cycles a run takes at most, and sums of the totals of the programs.
+-- The most cycles of a run, and sums of the programs' totals.
 use Rattle.std.proofs.Common.{◌≡◌, ℕ, zero, suc, ◌+◌, ◌-◌, ◌*◌, ◌≤◌, arith, ap, sym, ◌∙◌, List, [], ◌∷◌, length, take}
 use Rattle.std.proofs.Common.{get_or, Some, slice_get, refl, All, min, ◌<◌, drop}
 use Rattle.std.specs.Prelude.{sum}
@@ -56,7 +56,7 @@ pub total_bound : (config : Configuration) (image : Loaded) → IsWithinLimits c
 total_bound config image lawful = let a : total config image ≤ 67 * 262144 = bounded_on config image lawful in
     omega arith
 
--- one program more, plain and by its weight
+-- one more program, plain and weighted
 
 pub plain_more : (programs : List Workload) (place : ℕ) (p : Workload) (config : Configuration)
     → slice_get programs place ≡ Some p → plain_on (take (place + 1) programs) config ≡ plain_on (take place programs)
@@ -125,7 +125,7 @@ pub all_plain : (programs : List Workload) (place : ℕ) (config : Configuration
     → plain_on (take place programs) config ≡ plain_on programs config
 all_plain programs place config past = ap (λ (ps : List Workload). plain_on ps config) (take_all place programs past)
 
--- what has come of a configuration's cycles
+-- the weighted cycles that a configuration has made
 
 weighed_none : (programs : List Workload) (config : Configuration) → weighed programs config 0 ≡ 0
 unfolding weighed
@@ -136,7 +136,7 @@ weighed_none (p ∷ ps) config =
     let least : min 0 (total config p.image) ≡ 0 = omega arith in
     rw (least, few, rest) (omega arith)
 
--- is no more than all of them
+-- are no more than all of them
 pub weighed_within : (programs : List Workload) (config : Configuration) (n : ℕ)
     → weighed programs config n ≤ cycles_on programs config
 unfolding weighed cycles_on
@@ -148,7 +148,7 @@ weighed_within (p ∷ ps) config n =
     weighed_within ps config (n - total config p.image) in
     rw sum_by-cons (omega arith)
 
--- at the end of the runs it is all of them
+-- at the end of the runs they are all of them
 pub weighed_all : (programs : List Workload) (config : Configuration)
     → weighed programs config (plain_on programs config) ≡ cycles_on programs config
 unfolding weighed plain_on cycles_on
@@ -162,7 +162,7 @@ weighed_all (p ∷ ps) config =
     let left : plain_on (p ∷ ps) config - total config p.image ≡ plain_on ps config = omega (arith, all) in
     rw (least, left, weighed_all ps config) (sym weights)
 
--- and it grows with the cycles that are made
+-- and they grow with the cycles that are made
 weighed_grows : (programs : List Workload) (config : Configuration) (m n : ℕ) → m ≤ n
     → weighed programs config m ≤ weighed programs config n
 unfolding weighed
@@ -185,7 +185,7 @@ last_look_sees_most programs config look before = (
   weighed_within programs config (last_look (plain_on programs config)),
 )
 
--- one program's part of it
+-- one program's part of them
 pub weighed_step : (programs : List Workload) (i : ℕ) (p : Workload) (config : Configuration) (n : ℕ)
     → i < length programs → p ≡ get_or programs i p
     → weighed (drop i programs) config n
@@ -223,7 +223,7 @@ pub as_many_totals : (programs : List Workload) (config : Configuration) (totals
 unfolding totals_on
 as_many_totals programs config totals is = ap length is ∙ length-map _ _
 
--- one program's cycles more, which are small
+-- one more program's cycles, which are small
 pub next_cycles : (programs : List Workload) (i : ℕ) (p : Workload) (config : Configuration) (n cycles : ℕ)
     → IsWithinLimits config → All IsProgram programs → length programs ≤ 8 → i < length programs
     → p ≡ get_or programs i p → n ≡ total config p.image → cycles ≡ cycles_on (take i programs) config

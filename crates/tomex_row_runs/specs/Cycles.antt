@@ -9,7 +9,7 @@ use Rattle.tomex_study.specs.Study.{DesignSpace}
 unfoldable pub totals_on : List Workload → Configuration → List ℕ
 totals_on programs config = map (λ p. total config p.image) programs
 
--- the cycles of a configuration: the sum of the totals of the programs' runs on it, each as often as its weight says
+-- the cycles of a configuration: the sum of the totals of the programs' runs on it, each times its weight
 unfoldable pub cycles_on : List Workload → Configuration → ℕ
 cycles_on programs config = sum_by (λ p. p.weight * total config p.image) programs
 
@@ -17,7 +17,7 @@ cycles_on programs config = sum_by (λ p. p.weight * total config p.image) progr
 unfoldable pub plain_on : List Workload → Configuration → ℕ
 plain_on programs config = sum_by (λ p. total config p.image) programs
 
--- the first n cycles that these runs make, each as often as its program's weight says
+-- the first n cycles that these runs make, each times its program's weight
 unfoldable pub weighed : List Workload → Configuration → ℕ → ℕ
 weighed [] config n = 0
 weighed (p ∷ ps) config n = p.weight * min n (total config p.image) + weighed ps config (n - total config p.image)

@@ -1,4 +1,4 @@
--- What a worker knows of a study's programs: totals on configurations, from evaluations of their runs.
+-- What a worker knows about a study's programs: totals on configurations, from evaluations of their runs.
 use Rattle.std.specs.Prelude.{◌≡◌, ℕ, ◌≤◌, List, [], Option, Some, None, length, map, take, slice_get, slice_index_or}
 use Rattle.std.specs.Prelude.{All, IfSome}
 use Rattle.tomex_rvexec.specs.Run.{start_of}
@@ -11,28 +11,28 @@ use Rattle.tomex_study.specs.Program.{Workload, IsProgram}
 use Rattle.tomex_study.specs.Study.{DesignSpace}
 use Rattle.tomex_row_runs.specs.Cycles.{totals_on}
 
--- where a total is known at a program's place, it is the program's on the configuration
+-- if a total is known at a program's place, it is the program's on the configuration
 pub record AreTotals (programs : List Workload) (config : Configuration) (totals : List (Option ℕ)) : Type 0 where
   pub count : length totals ≡ 8
   pub known : (place : ℕ) (p : Workload) (n : ℕ) → slice_get programs place ≡ Some p
       → slice_get totals place ≡ Some (Some n) → total config p.image ≡ n
 
--- and of one program
+-- the same for one program
 abbrev pub IsTotalAt : List Workload → Configuration → ℕ → Option ℕ → Type 0
 IsTotalAt programs config place known =
     (p : Workload) → slice_get programs place ≡ Some p → IfSome known (λ n. total config p.image ≡ n)
 
--- the totals of all programs, in their order, on a study's configuration of that number
+-- the totals of all programs, in their order, on the study's configuration of this row
 abbrev pub AreTotalsOn : DesignSpace → ℕ → List ℕ → Type 0
 AreTotalsOn s row totals = (config : Configuration) → slice_get s.rows row ≡ Some config
     → take (length s.programs) totals ≡ totals_on s.programs config
 
--- a worker's knowledge as contracts see it: the programs, and the plateaus that are kept of each
+-- a worker's knowledge as contracts see it: the programs, and the plateaus that are kept for each
 pub record KnowledgeOf : Type 0 where
   pub programs : List Workload
   pub lists : List Kept
 
--- a list of plateaus for each program, of the steps of its run; the programs are few, and end
+-- a list of plateaus for each program, of the steps of its run; there are at most 8 programs, and each ends
 pub record IsKnowledge (programs : List Workload) (lists : List Kept) : Type 0 where
   pub few : length programs ≤ 8
   pub ends : All IsProgram programs
@@ -43,16 +43,16 @@ abbrev pub nothing_known : List Workload → List Kept
 nothing_known programs =
     map (λ p. record { steps = steps_from p.limit (start_of p.image); found = []; oldest = 0 }) programs
 
--- the totals that are known on a configuration, in the programs' order
+-- the known totals on a configuration, in the programs' order
 abbrev pub known_on : List Kept → Configuration → List (Option ℕ)
 known_on lists config = map (λ l. total_known config l.found) lists
 
--- Only the list at a place may be another one.
+-- Only the list at a place may differ.
 pub record OnlyAt (place : ℕ) (old new : List Kept) : Type 0 where
   pub count : length new ≡ length old
   pub others : (k : ℕ) → (k ≡ place → ⊥) → slice_get new k ≡ slice_get old k
 
--- the list of a program after its total was asked for: as it was if the total was known, else with one plateau more
+-- the list of a program after its total was asked for: unchanged if the total was known, else with one more plateau
 abbrev pub IsLearnt : Configuration → Option ℕ → Kept → Kept → Type 0
 IsLearnt config (Some n) old new = new ≡ old
 IsLearnt config None old new = HasLearnt config old new

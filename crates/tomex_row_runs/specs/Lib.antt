@@ -1,4 +1,5 @@
--- What contracts cite: the cycles that configurations take, looks at them, and what a worker knows of programs.
+-- Definitions that contracts cite: the cycles that configurations take, looks at them, and what a worker knows about
+-- programs.
 pub mod Cycles
 pub mod StudyFront
 pub mod Looks

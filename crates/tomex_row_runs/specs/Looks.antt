@@ -1,6 +1,6 @@
--- Looks at a configuration that is run. After each 1,024 cycles, while the run isn't over, a worker looks whether the
--- configuration can still be on the front: it can't if a finished one that costs no more took fewer cycles, by the
--- programs' weights, than this one has made.
+-- Looks at a running configuration. After each 1,024 cycles, while the run isn't over, a worker tests if the
+-- configuration can still be on the front: it can't if a finished one that costs no more took fewer weighted cycles
+-- than this one has made.
 use Rattle.std.specs.Prelude.{◌≡◌, ℕ, ◌-◌, ◌*◌, ◌/◌, ◌<◌, ◌≤◌, nat_lt, if◌then◌else◌, List, Option, Some, None}
 use Rattle.tomex_config.specs.Configuration.{Configuration}
 use Rattle.tomex_study.specs.Program.{Workload}
@@ -11,7 +11,7 @@ use Rattle.tomex_row_runs.specs.declared.known_row.KnownRow.{KnownRow}
 abbrev pub last_look : ℕ → ℕ
 last_look n = 1024 * ((n - 1) / 1024)
 
--- the cycles that a configuration has made then, none if it is over before the first look
+-- the cycles that a configuration has made then, none if its run is over before the first look
 abbrev pub made_at_last_look : List Workload → Configuration → Option ℕ
 made_at_last_look programs config =
     if nat_lt 1024 (plain_on programs config) then Some (weighed programs config (last_look (plain_on programs config)))
@@ -22,7 +22,7 @@ pub record IsKnownRow (programs : List Workload) (config : Configuration) (row :
   pub cycles : row.cycles ≡ cycles_on programs config
   pub at_last_look : row.at_last_look ≡ made_at_last_look programs config
 
--- at no look has a configuration made more cycles than at the last one, and there never more than all of its own
+-- at no look has a configuration made more cycles than at the last one, and at that one no more than all of its own
 abbrev pub LastLookSeesMost : Type 0
 LastLookSeesMost = (programs : List Workload) (config : Configuration) (look : ℕ)
     → 1024 * look < plain_on programs config

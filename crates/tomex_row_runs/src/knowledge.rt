@@ -1,9 +1,10 @@
-//! What a worker knows of a study's programs.
+//! What a worker knows about a study's programs.
 
 ghost use Rattle.std.specs.Prelude.{◌≡◌, ◌<◌, ◌≤◌, ℕ, length, take, slice_get, IfOk, OnOk, OnErr, All, Some, None};
 ghost use Rattle.tomex_cycle.specs.Run.{total};
 ghost use Rattle.tomex_row_runs.specs.Cycles.{totals_on};
-ghost use Rattle.tomex_row_runs.specs.Knowledge.{AreLearnt, AreTotals, IsLearntAt, IsTotalAt, OnlyAt, known_on, nothing_known};
+ghost use Rattle.tomex_row_runs.specs.Knowledge.{AreLearnt, AreTotals, IsLearntAt, IsTotalAt, OnlyAt, known_on};
+ghost use Rattle.tomex_row_runs.specs.Knowledge.{nothing_known};
 ghost use Rattle.tomex_study.specs.Program.{IsProgram, Workload};
 
 use std::alloc::{AllocError, Allocator};
@@ -12,13 +13,13 @@ use tomex_config::Config;
 use tomex_plateaus::Plateaus;
 use tomex_study::Program;
 
-/// For each of a study's programs plateaus on which its total is known: an evaluation of its run on a configuration
-/// that the worker reaches gives one.
+/// For each of a study's programs, plateaus on which its total is known, each learnt from an
+/// evaluation of its run on a configuration that this worker reached.
 #[derive(Drop)]
 pub struct Knowledge<'s, A: Allocator> {
     alloc: A,
     programs: &'s [Program<A>],
-    /// Those of each program, in the programs' order.
+    /// The plateaus of each program, in the programs' order.
     lists: Vec<Plateaus<'s, A>, A>,
 }
 
@@ -33,7 +34,7 @@ impl<'s, A: Allocator> Model for Knowledge<'s, A> {
 }
 
 impl<'s, A: Allocator + Clone> Knowledge<'s, A> {
-    /// Nothing is known yet of these programs.
+    /// The knowledge before anything is known about these programs.
     pub fn new(alloc: A, programs: &'s [Program<A>]) -> Result<Knowledge<'s, A>, AllocError>
         requires few { length programs.now ≤ 8 }
         requires ends { All IsProgram programs.now }
@@ -51,7 +52,7 @@ impl<'s, A: Allocator + Clone> Knowledge<'s, A> {
         })
     }
 
-    /// The totals that are known on a configuration, in the programs' order.
+    /// The known totals on a configuration, in the programs' order.
     pub fn known(&self, config: &Config) -> [Option<u64>; 8]
         ensures known { take (length self.now.programs) result ≡ known_on self.now.lists config.now }
         ensures totals { AreTotals self.now.programs config.now result }
@@ -63,8 +64,8 @@ impl<'s, A: Allocator + Clone> Knowledge<'s, A> {
         known
     }
 
-    /// The totals of all programs on a configuration, in their order, given those that are known: the others are
-    /// learnt. If memory is refused, what was learnt is kept.
+    /// The totals of all programs on a configuration, in their order, given the known ones: the
+    /// others are learnt. If out of memory, what was learnt is kept.
     pub fn learn(
         &mut self,
         config: &Config,

@@ -1,4 +1,4 @@
-//! A row whose totals are known, as it is judged.
+//! Rows whose totals are known, and how they are judged.
 
 ghost use Rattle.std.specs.Prelude.{◌≡◌, ◌<◌, ◌≤◌, ◌^◌, length, sum, All};
 ghost use Rattle.tomex_config.specs.Configuration.{Configuration, IsWithinLimits};
@@ -9,20 +9,22 @@ ghost use Rattle.tomex_study.specs.Program.{IsProgram};
 use std::alloc::Allocator;
 use tomex_study::Program;
 
-/// A row is looked at each time after this many cycles.
+/// The number of a row's cycles from one look to the next.
 const STRIDE: u64 = 1024;
 
-/// A row whose programs' totals are known. So nothing happens between two of its looks, and all of them see what the
-/// last one sees, but for the cycles that the row has made: these are the most at the last one.
+/// A row whose programs' totals are known. So nothing happens between two of its looks, and they
+/// differ only in the cycles that the row has made, which are the most at the last one.
 #[derive(Clone, Copy, Debug, PartialEq, Eq)]
 pub struct KnownRow {
-    /// Its cycles: each program's by its weight.
+    /// Its cycles: the weighted sum of its programs' cycles.
     pub cycles: u64,
-    /// The cycles that it has made at its last look, by the same weights. None if it is over before the first look.
+    /// The cycles that it has made at its last look, by the same weights. `None` if it is over
+    /// before the first look.
     pub at_last_look: Option<u64>,
 }
 
-/// The first `made` cycles of runs with these totals, one after another, each as often as its program's weight says.
+/// The first `made` cycles of runs with these totals, one after another, each times its program's
+/// weight.
 fn weighed<A: Allocator>(programs: &[Program<A>], totals: &[u64], made: u64) -> u64
     requires few { length programs.now ≤ 8 }
     requires ends { All IsProgram programs.now }
@@ -40,7 +42,6 @@ fn weighed<A: Allocator>(programs: &[Program<A>], totals: &[u64], made: u64) -> 
     cycles
 }
 
-/// The sum of totals.
 fn sum_of(totals: &[u64]) -> u64
     requires { sum totals.now < 2 ^ 64 }
     ensures { result ≡ sum totals.now }

@@ -18,8 +18,8 @@ pub fn limit_changes_no_total()
         ≡ total_of (times_in config (steps_from p.limit (start_of p.image))) }
 {}
 
-/// At each look a configuration has made no more cycles than at its last one. So if no cycle is made between looks, as
-/// none is when the totals are known, the last look decides for all of them.
+/// At each look a configuration has made no more cycles than at its last one. So if no cycle is
+/// made between looks, as when the totals are known, the last look decides for all of them.
 #[tactic(auto, using(crate::proofs::Totals::last_look_sees_most))]
 pub fn the_last_look_sees_most()
     ensures { LastLookSeesMost }

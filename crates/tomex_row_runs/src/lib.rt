@@ -1,4 +1,4 @@
-//! The cycles of configurations: by the cycle machine, or by what is known of a study's programs from evaluations on
+//! The cycles of configurations: by the cycle machine, or from evaluations of a study's programs on
 //! this and on other configurations.
 #![tactic(auto)]
 

@@ -12,10 +12,10 @@ use tomex_cycle::Machine;
 use tomex_image::Image;
 use tomex_study::Program;
 
-/// No program takes more cycles: 67 for each of 262,144 steps.
+/// The most cycles that a program can take: 67 for each of 262,144 steps.
 pub const MOST_CYCLES: u64 = 17_563_648;
 
-/// What is kept from one run to the next: the machine, in whose memory the next one is made.
+/// Runs that share memory: the machine of one run is kept, and the next one is made in its memory.
 #[derive(Drop)]
 pub struct Runs<'s, A: Allocator> {
     alloc: A,
@@ -23,7 +23,7 @@ pub struct Runs<'s, A: Allocator> {
 }
 
 impl<'s, A: Allocator + Clone> Runs<'s, A> {
-    /// Before the first run. Takes no memory.
+    /// Before the first run. Allocates nothing.
     pub fn new(alloc: A) -> Runs<'s, A>
         ensures alloc { result.alloc ≡ alloc }
         ensures none { result.machine ≡ None }
@@ -61,8 +61,8 @@ impl<'s, A: Allocator + Clone> Runs<'s, A> {
         Ok(total)
     }
 
-    /// A machine before its first cycle, in the memory of the last one, if that is enough. If more is refused, the last
-    /// one is kept.
+    /// A machine before its first cycle, in the memory of the last one if that is enough. If out of
+    /// memory, the last one is kept.
     fn machine_of(
         &mut self,
         image: &'s Image<A>,

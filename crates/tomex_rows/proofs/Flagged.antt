@@ -11,7 +11,7 @@ use Rattle.std.proofs.lemmas.List.FromFn.{fill_by_all}
 use Rattle.tomex_pareto.specs.declared.front_row.FrontRow.{FrontRow}
 use Rattle.tomex_rows.specs.RowsReport.{is_on_front}
 
--- a flag for each row: whether it is among these
+-- a flag for each row: true if it is among these
 pub record AreFlags (rows : ℕ) (front : List FrontRow) (flags : List Bool) : Type 0 where
   pub count : length flags ≡ rows
   pub each : (row : ℕ) → row < rows → get_or flags row false ≡ is_on_front front row

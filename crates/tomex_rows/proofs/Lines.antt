@@ -1,4 +1,4 @@
--- The rows of a study, and their lines one after the other.
+-- The rows of a study, and their lines one after another.
 use Rattle.std.proofs.Common.{◌≡◌, ℕ, zero, suc, ◌+◌, ◌<◌, arith, ap, sym, subst, refl, ◌∙◌, List, [], ◌∷◌, ◌++◌}
 use Rattle.std.proofs.Common.{Bool, append_assoc, false, get_or, length, map, take}
 use Rattle.std.specs.List.{range_with_len}
@@ -79,7 +79,7 @@ number_read s rows given k d same are low =
     let low_there : k < length (all_rows s) = subst (λ (rs : List FrontRow). k < length rs) (same ∙ are) low in
     ap (λ (rs : List FrontRow). (get_or rs k d).row) (same ∙ are) ∙ numbered s k d low_there
 
--- one program's column more
+-- one more program's column
 pub one_column : {X Y : Type 0} (f : X → Y) (xs : List X) (i : ℕ) (x : X) (f0 f1 f2 : List Y) → i < length xs
     → x ≡ get_or xs i x → f1 ≡ f0 ++ map f (take i xs) → f2 ≡ f1 ++ f x ∷ [] → f2 ≡ f0 ++ map f (take (i + 1) xs)
 one_column f xs i x f0 f1 f2 low at so_far grown =

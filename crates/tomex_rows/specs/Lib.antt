@@ -1,2 +1,2 @@
--- What contracts cite: the text of all rows of a study.
+-- Definitions that contracts cite: the text of all rows of a study.
 pub mod RowsReport

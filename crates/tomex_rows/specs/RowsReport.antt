@@ -16,19 +16,19 @@ use Rattle.tomex_texts.specs.FrontReport.{row_columns, row_fields}
 abbrev pub cycles_column : Workload → List ℕ
 cycles_column p = p.name ++ codes "_cycles"
 
--- the front report's columns of a configuration, one for each program, and whether the row is on the front
+-- the front report's columns of a configuration, one for each program, and the flag of rows on the front
 unfoldable pub columns_of : DesignSpace → List (List ℕ)
 columns_of s = row_columns s.wide ++ (map cycles_column s.programs ++ codes "front" ∷ [])
 
--- a row of that number is on the front
+-- the row of this number is on the front
 unfoldable pub is_on_front : List FrontRow → ℕ → Bool
 is_on_front front row = list_any (λ r. r.row == row) front
 
--- one if it is, else zero
+-- 1 if it is, else 0
 abbrev pub flag : Bool → ℕ
 flag on_front = if on_front then 1 else 0
 
--- what a row of the study has in these columns, whose front and whose totals these are
+-- the fields of a row of the study in these columns, given its totals and its flag
 abbrev pub fields_of_row : Bool → FrontRow → Configuration → List ℕ → Bool → List (List ℕ)
 fields_of_row wide r config totals on_front =
     row_fields wide r config ++ (map decimal totals ++ decimal (flag on_front) ∷ [])

@@ -1,4 +1,4 @@
-//! What stands in a row's record.
+//! The fields of a row's record.
 
 ghost use Rattle.std.specs.Prelude.{◌≡◌, ◌++◌, ◌∷◌, [], map, OnOk};
 ghost use Rattle.std.specs.Fmt.{decimal};
@@ -29,7 +29,7 @@ fn push_totals(
     Ok(())
 }
 
-/// Adds one for a row on the front, else zero.
+/// Adds 1 for a row on the front, else 0.
 fn push_flag(
     fields: &mut ByteRecord,
     scratch: &mut String,
@@ -43,7 +43,7 @@ fn push_flag(
     push_decimal(fields, scratch, flag)
 }
 
-/// Makes a record the one of a row, on which the programs have these totals.
+/// Fills a record with the fields of a row on which the programs have these totals.
 pub(crate) fn fill_record(
     fields: &mut ByteRecord,
     heap: Global,

@@ -7,7 +7,7 @@ ghost use Rattle.tomex_rows.specs.RowsReport.{is_on_front};
 use std::alloc::{AllocError, Allocator};
 use tomex_pareto::FrontRow;
 
-/// For each of a study's rows whether it is on the front.
+/// A flag for each of a study's rows: true if it is on the front.
 pub(crate) fn flags<A: Allocator>(
     alloc: A,
     rows: usize,

@@ -1,4 +1,5 @@
-//! All rows of a study as CSV: what each is made of, each program's cycles on it, and whether it is on the front.
+//! All rows of a study as CSV: the parts of each row, each program's cycles on it, and a flag for
+//! rows on the front.
 #![tactic(auto)]
 
 mod columns;

@@ -82,11 +82,11 @@ fn put_rows<A: Allocator>(
     Ok(())
 }
 
-/// All rows of a study as CSV, given its survey: a header, and a record for each row in the order of their numbers. The
-/// first columns are those of the front report; then come each program's cycles without its weight, and `front`, which
-/// is 1 if the row is on the front and else 0.
+/// All rows of a study as CSV, given its survey: a header, and a record for each row in the order
+/// of their numbers. The first columns are those of the front report; then come each program's
+/// cycles without its weight, and `front`, which is 1 if the row is on the front, else 0.
 ///
-/// What `csv` needs for its records it takes of `heap`.
+/// `csv` allocates its records in `heap`.
 #[tactic(auto, unfolding(crate::specs::RowsReport::rows_text_of))]
 pub fn rows_report<A: Allocator + Clone>(
     alloc: A,

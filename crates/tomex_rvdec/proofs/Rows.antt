@@ -1,4 +1,4 @@
--- The table computed on words whose meanings are known, and on words that mean nothing.
+-- The table, computed on words with known meanings and on words that mean nothing.
 use Rattle.std.proofs.Common.{ℕ, ◌≡◌, refl, List, [], ◌∷◌, Option, Some, None}
 use Rattle.tomex_rvdec.specs.declared.op.Op.TheVariants.{Lui, Jal, Jalr, Bne, Lb, Sw, Addi, Add, Mul, Fence, Ebreak}
 use Rattle.tomex_rvdec.specs.declared.op.Op.TheVariants.{Srai}

@@ -1,5 +1,5 @@
--- What each operation asks of a machine: its pool of stations, its kind of unit,
--- the registers that it reads and the one that it writes.
+-- The parts of a machine that each operation uses: its pool of stations, its kind of unit, the registers that it
+-- reads and the one that it writes.
 use Rattle.std.specs.Prelude.{ℕ, Option, Some, None, if◌then◌else◌, nat_eq}
 use Rattle.tomex_rvdec.specs.declared.op.Op.{Op}
 use Rattle.tomex_rvdec.specs.declared.op.Op.TheVariants.{Jalr, Beq, Bne, Blt, Bge, Bltu, Bgeu, Lb, Lh, Lw, Lbu, Lhu}
@@ -15,7 +15,7 @@ use Rattle.tomex_rvdec.specs.declared.instr.Sources.{Sources}
 use Rattle.tomex_rvdec.specs.Instruction.{Instruction}
 use Rattle.tomex_rvdec.specs.Meaning.{form_of}
 
--- where an operation waits for its operands; jumps by JAL are alu instructions, JALR a branch
+-- the pool in which an operation waits for its operands; JAL is an alu instruction, JALR a branch
 abbrev pub pool_of : Op → Option PoolId
 pool_of Mul = Some pools.Mul
 pool_of Mulh = Some pools.Mul

@@ -1,6 +1,5 @@
--- The text of an instruction, as assemblers write it: the mnemonic in lower case, a space,
--- and the operands joined by commas. Numbers are decimal and signed, but for the upper 20
--- bits of LUI and AUIPC and the amounts of shifts.
+-- The text of an instruction, as assemblers write it: the mnemonic in lower case, a space, and the operands joined by
+-- commas. Numbers are decimal and signed, except the upper 20 bits of LUI and AUIPC and the amounts of shifts.
 use Rattle.std.specs.Prelude.{ℕ, ◌/◌, ◌^◌, List, ◌++◌, codes}
 use Rattle.std.specs.Fmt.{decimal, signed_decimal}
 use Rattle.std.specs.Int.{cast_signed, w32}

@@ -214,7 +214,7 @@ fn from_table(word: u32) -> Option<Instr>
     Some(instr)
 }
 
-/// The instruction that the word means; None where it is no instruction of RV32IM.
+/// The instruction that the word means; `None` if it is not an instruction of RV32IM.
 ///
 /// Words of extensions C, A, F, D, Zicsr and Zifencei and of the privileged modes mean nothing.
 #[tactic(auto, using(crate::proofs::Meaning::means_meaning, crate::proofs::Meaning::meaning_none))]

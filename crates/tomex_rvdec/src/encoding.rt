@@ -77,7 +77,7 @@ fn six_fields(funct7: u32, rs2: u32, rs1: u32, funct3: u32, rd: u32, opcode: u32
     ensures { result
         ≡ funct7 * 2 ^ 25 + rs2 * 2 ^ 20 + rs1 * 2 ^ 15 + funct3 * 2 ^ 12 + rd * 2 ^ 7 + opcode }
 {
-    // From the low end up, a field at a time: so each step is known to be a sum.
+    // From the low end up, one field at a time, so that each step is known to be a sum.
     let low = rd << 7 | opcode;
     let middle = funct3 << 12 | low;
     let high = rs1 << 15 | middle;

@@ -1,4 +1,4 @@
-//! An instruction, and what it asks of a machine: a station, a unit, operands.
+//! An instruction, and the parts of a machine that it uses: a station, a unit, operands.
 
 ghost use Rattle.std.specs.Prelude.{◌≡◌, ◌<◌};
 
@@ -9,9 +9,8 @@ use std::marker::Model;
 
 /// An instruction that some word of 32 bits means.
 ///
-/// Registers are numbers from 0 to 31. The immediate is kept modulo 2^32, its sign
-/// extended; a shift's amount and FENCE's 12 bits stand in it too. What the operation
-/// doesn't use is zero.
+/// Registers are numbers from 0 to 31. The immediate is kept modulo 2^32, its sign extended; it
+/// also holds a shift's amount and FENCE's 12 bits. Fields that the operation doesn't use are zero.
 #[derive(Clone, Copy, Debug, PartialEq, Eq)]
 pub struct Instr {
     pub(crate) op: Op,
@@ -55,7 +54,7 @@ impl Instr {
         self.op
     }
 
-    /// The rd field: the register that is written, where the operation writes one.
+    /// The rd field: the register that is written, if the operation writes one.
     #[tactic(auto, unfolding(crate::specs::Meaning::IsMeant))]
     pub fn rd(&self) -> u8
         ensures value { result ≡ self.now.rd }

@@ -11,8 +11,8 @@ use crate::encoding::encode;
 use crate::instr::Instr;
 use crate::pool::{PoolId, UnitId};
 
-/// The table as a relation and as a function agree: a word means an instruction exactly
-/// where the function gives it.
+/// The table as a relation and as a function agree: a word means an instruction exactly if the
+/// function gives it.
 #[tactic(auto, using(crate::proofs::Meaning::means_meaning, crate::proofs::Meaning::meaning_means))]
 pub fn meaning_is_the_table()
     ensures function { (w : ℕ) (x : Instruction) → Means w x → meaning w ≡ Some x }
@@ -24,15 +24,14 @@ pub fn word_means_one_instruction()
     ensures { (w : ℕ) (x y : Instruction) → Means w x → Means w y → x ≡ y }
 {}
 
-/// No `Instr` is meant by two words. (An `Instr` is what some word means, by its type; of what no word
-/// means this says nothing, and there is nothing to say.)
+/// No `Instr` is meant by two words. (By its type, each `Instr` is meant by some word.)
 pub fn instruction_has_one_word(instr: &Instr)
     ensures { (v w : ℕ) → Means v instr.now → Means w instr.now → v ≡ w }
 {
     let _word = encode(instr);
 }
 
-/// `PoolId::ALL` and `UnitId::ALL` have each pool and each kind of unit at its place.
+/// Each pool and each kind of unit is at its own place in `PoolId::ALL` and `UnitId::ALL`.
 pub fn all_stand_at_their_places()
     ensures pools { (pool : PoolId) → slice_get PoolId.ALL (place_of_pool pool) ≡ Some pool }
     ensures units { (unit : UnitId) → slice_get UnitId.ALL (place_of_unit unit) ≡ Some unit }

@@ -1,4 +1,5 @@
-//! Instructions of RV32IM: the words that mean them, and what each of them asks of a machine.
+//! Instructions of RV32IM: the words that mean them, and the parts of a machine that each of them
+//! uses.
 //!
 //! Source: The RISC-V Instruction Set Manual, Volume I: Unprivileged ISA, version 20191213,
 //! chapters "RV32I Base Integer Instruction Set" 2.1 and "M Standard Extension" 2.0.

@@ -57,8 +57,8 @@ pub enum Op {
     Ebreak,
 }
 
-/// How a word holds an operation's operands: the manual's instruction formats, with
-/// the I format told apart by what its immediate stands for.
+/// The forms in which words hold operands: the manual's instruction formats, with the I format
+/// split by what its immediate means.
 #[derive(Clone, Copy, Debug, PartialEq, Eq)]
 pub enum Form {
     /// The R format: two source registers.
@@ -67,7 +67,7 @@ pub enum Form {
     Immediate,
     /// The I format of JALR and the loads: a base register and an offset in bytes.
     Offset,
-    /// The I format of the shifts by a constant: the amount stands in the rs2 field.
+    /// The I format of the shifts by a constant: the amount is in the rs2 field.
     Shift,
     /// The S format: a base register, an offset in bytes and a register to store.
     Store,
@@ -84,7 +84,7 @@ pub enum Form {
 }
 
 impl Op {
-    /// How a word holds the operation's operands.
+    /// The form in which a word holds the operation's operands.
     pub fn form(self) -> Form
         ensures { result ≡ form_of self }
     {

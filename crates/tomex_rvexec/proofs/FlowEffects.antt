@@ -1,4 +1,4 @@
--- What each operation does to the state: a lemma for each way of changing it, then the operations.
+-- The effect of each operation on the state: a lemma for each way of changing it, then the operations.
 use Rattle.std.proofs.Common.{◌≡◌, ℕ, ◌+◌, ◌-◌, ◌%◌, ◌<◌, ◌≤◌, List, Option, Some, None, Bool, true, false, refl, ap}
 use Rattle.std.proofs.Common.{subst, arith}
 use Rattle.std.specs.Prelude.{IsTrue, nat_eq, nat_le, if◌then◌else◌, slice_set}
@@ -21,7 +21,7 @@ use Rattle.tomex_steps.specs.Steps.{access_size, address_of}
 use Rattle.tomex_steps.specs.Words.{is_taken, sum}
 use Rattle.tomex_steps.proofs.Bytes.{bytes_written, byte_is, half_is, word_is, half_loaded, word_loaded}
 
--- how many bytes an operation writes
+-- the number of bytes that an operation writes
 abbrev pub stored_size : Op → ℕ
 stored_size Sb = 1
 stored_size Sh = 2
@@ -32,7 +32,8 @@ abbrev pub with_dest : Option ℕ → ℕ → List ℕ → List ℕ
 with_dest None v regs = regs
 with_dest (Some r) v regs = slice_set regs r v
 
--- from s to t: the next pc, the destination with its result, and the bytes of an access, of which so many are written
+-- from s to t: the next pc, the destination with its result, and the bytes of an access, of which `stored` are
+-- written
 pub record Effect (s : State) (next : ℕ) (dest : Option ℕ) (result from count stored value : ℕ) (t : State) : Type 0
   where
     pub image : t.image ≡ s.image

@@ -1,4 +1,4 @@
--- A run has one state after so many steps, one end, and one list of steps.
+-- A run has one state after a number of steps, one end, and one list of steps.
 use Rattle.std.proofs.Common.{◌≡◌, ℕ, zero, suc, ◌+◌, ◌-◌, ◌<◌, ◌≤◌, ◌⊎◌, inl, inr, List, [], ◌∷◌, ◌++◌, None, Some}
 use Rattle.std.proofs.Common.{refl, sym, ap, ◌∙◌, subst, arith, append_assoc, add-one}
 use Rattle.std.specs.Prelude.{IsSome, reverse}
@@ -30,7 +30,7 @@ leads_is i (suc k) s l =
     let there : step_of (state_after i k) ≡ Goes s = subst (λ (z : State). step_of z ≡ Goes s) mid l.2 in
     rw there refl
 
--- a state before others goes on
+-- a state before others continues
 pub record GoesOn (s : State) : Type 0 where
   pub next : State
   pub goes : step_of s ≡ Goes next
@@ -58,7 +58,7 @@ leads_before (suc k) i s j h l = at (cases_eq j (suc k)) (λ (less : j ≤ k). l
         subst (λ n. Leads (start_of i) n (state_after i n)) (sym e) here
     at (inr other) earlier = earlier (omega arith)
 
--- where two runs stop, they are one
+-- at their ends two runs are one
 record Same (k j : ℕ) (s t : State) : Type 0 where
   steps : k ≡ j
   state : s ≡ t
@@ -202,7 +202,7 @@ pub end_is : (i : Loaded) (n : ℕ) (s : State) (kind : EndKind) → IsLoaded i.
     → Leaves i (history i n) s
 end_is i n s kind loaded r = run_leaves i n s loaded r.leads
 
--- what doesn't end the program is allowed, also of the last step
+-- a step that doesn't end the program is allowed, including the last one
 pub step_allowed : (i : Loaded) (n k : ℕ) (s : State) (kind : EndKind) (x : Step) → IsLoaded i.window i.memory i.entry
     → RunEnds i n s kind → k ≤ n → step_after i k ≡ Some x → end_of x ≡ None → IsAllowed i x
 step_allowed i n k s kind x loaded r h c none = elim (cases_order k n) [

@@ -1,4 +1,4 @@
--- What comes after a history is one step.
+-- Only one step can follow a history.
 use Rattle.std.proofs.Common.{◌≡◌, ◌∙◌, ℕ, ◌-◌, List, Some, refl, ap, sym}
 use Rattle.std.specs.Prelude.{Ok}
 use Rattle.tomex_image.specs.Image.{Loaded}

@@ -1,4 +1,4 @@
--- What a history says of registers and memory as a whole, and of operands that aren't read.
+-- Registers and memory as a whole after a history, and operands that aren't read.
 use Rattle.std.proofs.Common.{◌≡◌, ℕ, ◌+◌, ◌-◌, ◌<◌, true, false, List, [], ◌∷◌, ◌++◌, length, Option, Some, None}
 use Rattle.std.proofs.Common.{refl, sym, ap, ◌∙◌, subst, arith}
 use Rattle.std.specs.Prelude.{IsSome, slice_index, option_map}

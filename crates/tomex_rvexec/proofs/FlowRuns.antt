@@ -1,4 +1,4 @@
--- The state after so many steps of a run is what the history of these steps leaves.
+-- The state after a number of steps of a run is what the history of these steps leaves.
 use Rattle.std.proofs.Common.{◌≡◌, ℕ, zero, suc, ◌+◌, ◌-◌, ◌<◌, ◌≤◌, List, [], ◌∷◌, Some, None, Bool, true, false, refl}
 use Rattle.std.proofs.Common.{sym, ap, ◌∙◌, subst, arith}
 use Rattle.std.specs.Prelude.{IsTrue, if◌then◌else◌, nat_eq, nat_le, nat_lt}
@@ -20,7 +20,7 @@ use Rattle.tomex_rvexec.proofs.FlowSteps.{changes, comes}
 use Rattle.tomex_rvexec.proofs.FlowStates.{allowed, fetch_inside, goes_by_step, reads_above, registers_small}
 use Rattle.tomex_rvexec.proofs.FlowStates.{start_state, state_kept}
 
--- a result depends on the bytes of the access alone
+-- a result depends only on the bytes of the access
 same_at : (op : Op) (x : Step) (f g : ℕ → ℕ)
     → ((a : ℕ) → address_of x ≤ a → a < address_of x + access_size op → f a ≡ g a) → result_at op x f ≡ result_at op x g
 same_at Lb x f g same = ap from_byte (same (address_of x) (omega arith) (omega arith))
@@ -108,7 +108,7 @@ follows i older s x l c =
     let o = comes s x (step_of s) c refl in
     subst (λ (z : Step). Follows i older z) o.step (follows_at i older s o.instr l o.means (fetch_inside s x c))
 
--- what is known of a state that a run reaches
+-- what is known about a state that a run reaches
 pub record Reached (i : Loaded) (k : ℕ) (s : State) : Type 0 where
   pub state : IsState s
   pub is : s ≡ state_after i k

@@ -1,4 +1,4 @@
--- What steps ask of a state, and what they keep of it.
+-- What steps need of a state, and what they keep of it.
 use Rattle.std.proofs.Common.{◌≡◌, ℕ, ◌+◌, ◌-◌, ◌%◌, ◌<◌, ◌≤◌, List, Option, Some, None, Bool, true, false, refl, sym}
 use Rattle.std.proofs.Common.{◌∙◌, subst, arith}
 use Rattle.std.specs.Prelude.{IsTrue, IfSome, IsSome, nat_eq, if◌then◌else◌, option_map}
@@ -32,7 +32,7 @@ use Rattle.tomex_steps.proofs.Bytes.{length-bytes}
 use Rattle.tomex_rvexec.proofs.FlowEffects.{Carried, carried, stored_size}
 use Rattle.tomex_rvexec.proofs.FlowSteps.{comes, inside, length-dest, never_zero, register_set}
 
--- where a step goes on or ends, it is the step of an instruction
+-- a step that continues or ends is the step of an instruction
 pub record Coming (s : State) : Type 0 where
   pub step : Step
   pub is : coming_of s ≡ Some step
@@ -227,7 +227,7 @@ by_end s x kind c e =
     let k : end_at o.instr.op ≡ Some kind = subst (λ (z : Step). end_of z ≡ Some kind) (sym o.step) e in
     sym o.outcome ∙ as_ends o.instr.op (step_at s o.instr) s kind k
 
--- what ends a program writes nothing
+-- an instruction that ends a program writes nothing
 no_dest : (op : Op) (rd : ℕ) (kind : EndKind) → end_at op ≡ Some kind → dest_at (form_of op) rd ≡ None
 no_dest Ecall rd kind e = refl
 no_dest Ebreak rd kind e = refl

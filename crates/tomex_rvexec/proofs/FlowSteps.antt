@@ -24,7 +24,7 @@ use Rattle.tomex_steps.specs.Steps.{access_size, address_of, is_in, step_dest, i
 use Rattle.tomex_steps.proofs.Bytes.{below_none, bytes_stored}
 use Rattle.tomex_rvexec.proofs.FlowEffects.{Carried, carried, stored_size, with_dest}
 
--- the instruction of the step that comes, and what it comes to
+-- the instruction of the next step, and the step's outcome
 pub record Comes (s : State) (x : Step) (o : Outcome) : Type 0 where
   pub instr : Instruction
   pub means : meaning (fetched s) ≡ Some instr

@@ -1,4 +1,4 @@
--- What the formatter pads to so many hexadecimal digits are the number's last so many.
+-- What the formatter pads to a number of hexadecimal digits is as many last digits of the number.
 use Rattle.std.proofs.Common.{◌≡◌, ◌≢◌, ℕ, zero, suc, ◌+◌, ◌-◌, ◌/◌, ◌%◌, ◌^◌, ◌<◌, ◌≤◌, true, false, ◌==◌, List, []}
 use Rattle.std.proofs.Common.{◌∷◌, ◌++◌, length, replicate, inl, inr, arith, refl, ap, sym, ◌∙◌, append_assoc}
 use Rattle.std.proofs.lemmas.Bool.{cases_eq, ne_eqb}
@@ -31,7 +31,7 @@ last k f n acc none =
           (sym (zeros k) ∙ ap (last_digits k) (sym none)));
     }
 
--- one digit behind others that count
+-- one digit after others that count
 further : (k f n : ℕ) (acc : List ℕ) → n / 16 ≢ 0
     → IsPadded k (n / 16) (digit_glyph false (n % 16) ∷ acc)
     (digits_onto f 16 false (n / 16) (digit_glyph false (n % 16) ∷ acc))

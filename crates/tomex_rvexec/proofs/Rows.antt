@@ -108,7 +108,7 @@ pub top4 : run_of 9 0 (start_of (image_at 4294967232 (0xffc02083 ∷ 0x00100073 
 unfolding selected step_of
 top4 = refl
 
--- jalr x0,7(x0): 6 is no multiple of 4; jalr x1,5(x0) goes to 4; jal x0,-4 leaves memory
+-- jalr x0,7(x0): 6 isn't a multiple of 4; jalr x1,5(x0) goes to 4; jal x0,-4 leaves memory
 pub jalr7 : run_of 9 0 (start_of (image_at 0 (0x00700067 ∷ []))) ≡ seen (faulted MisalignedTarget) 0 1 0 64 0 0
 unfolding selected step_of
 jalr7 = refl
@@ -121,7 +121,7 @@ pub away : run_of 9 0 (start_of (image_at 0 (0xffdff06f ∷ []))) ≡ seen (faul
 unfolding selected step_of
 away = refl
 
--- what `trace` may answer with Ok: a run that is too long, and one that faults
+-- the steps of a run that is too long, and of one that faults
 abbrev pub pcs : List Step → List ℕ
 pcs steps = map (λ (x : Step). x.pc) steps
 

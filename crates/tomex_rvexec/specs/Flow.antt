@@ -1,5 +1,5 @@
--- What a step changes in the machine: its pc, its registers and its memory. Each step of a run has
--- the values that its results say.
+-- The changes that a step makes to the machine's pc, registers and memory. Each step of a run has the values of the
+-- results before it.
 use Rattle.std.specs.Prelude.{◌≡◌, ℕ, ◌+◌, ◌%◌, ◌^◌, ◌<◌, ◌≤◌, false, if◌then◌else◌, Option, Some, None, IfSome}
 use Rattle.std.specs.Prelude.{length, slice_index}
 use Rattle.tomex_image.specs.Image.{Loaded}
@@ -25,8 +25,8 @@ end_at _ = None
 abbrev pub end_of : Step → Option EndKind
 end_of x = end_at x.instr.op
 
--- what holds of the machine at every step: 32 registers, x0 zero, the pc a multiple of 4, and a byte
--- of memory for each byte of the window
+-- what holds for the machine at every step: 32 registers, x0 zero, the pc a multiple of 4, and a byte of memory for
+-- each byte of the window
 pub record IsState (s : State) : Type 0 where
   pub registers : length s.regs ≡ 32
   pub zero : slice_index s.regs 0 ≡ 0
@@ -49,8 +49,8 @@ pub record Changes (s : State) (x : Step) (t : State) : Type 0 where
       ≡ (if overwrites x a then stored_byte x a else byte_in (memory_of s) a)
   pub memory : is_store x ≡ false → t.memory ≡ s.memory
 
--- what a step that goes on asks of its image: its target is a multiple of 4, the bytes of its access
--- lie in the window, and it doesn't end the program
+-- what a step that continues needs of its image: its target is a multiple of 4, the bytes of its access lie in the
+-- window, and it doesn't end the program
 pub record IsAllowed (i : Loaded) (x : Step) : Type 0 where
   pub target : next_pc_of x % 4 ≡ 0
   pub access : IfSome (bytes_of x) (λ b. (i.window.base ≤ b.from) × (b.to ≤ i.window.base + i.window.size))

@@ -19,12 +19,12 @@ moved (Goes t) s = t
 moved (Ends kind) s = s
 moved (Faults kind) s = s
 
--- the state after so many steps of a run
+-- the state after k steps of a run
 abbrev pub state_after : Loaded → ℕ → State
 state_after i zero = start_of i
 state_after i (suc k) = moved (step_of (state_after i k)) (state_after i k)
 
--- the step after so many others; none where fetch or decoding faults
+-- the step after k others; none if fetching or decoding faults
 abbrev pub step_after : Loaded → ℕ → Option Step
 step_after i k = coming_of (state_after i k)
 
@@ -71,7 +71,7 @@ pub record Follows (i : Loaded) (older : List Step) (x : Step) : Type 0 where
   pub vj : x.vj ≡ register_after i older x.instr.rs1
   pub vk : x.vk ≡ register_after i older x.instr.rs2
 
--- each of these steps, the youngest first, follows those older than it, and the program goes on after it
+-- each of these steps, the youngest first, follows those older than it, and the program continues after it
 abbrev pub IsFlow : Loaded → List Step → Type 0
 IsFlow i [] = ⊤
 IsFlow i (x ∷ older) = Follows i older x × IsAllowed i x × IsFlow i older

@@ -1,6 +1,6 @@
--- The in-order step: what one instruction of RV32IM does to pc, registers and memory
--- (the manual's chapters RV32I and M), in this project's environment: memory is one window,
--- instructions are fetched from the image as it was loaded, ECALL and EBREAK end the program.
+-- The in-order step: the effect of one instruction of RV32IM on pc, registers and memory (the manual's chapters RV32I
+-- and M), in this project's environment: memory is one window, instructions are fetched from the image as it was
+-- loaded, ECALL and EBREAK end the program.
 use Rattle.std.specs.Prelude.{ℕ, ◌*◌, ◌/◌, ◌%◌, ◌-◌, List, slice_index, slice_set, Bool}
 use Rattle.std.specs.Prelude.{nat_eq, if◌then◌else◌, Option, Some, None, option_map}
 use Rattle.tomex_rvdec.specs.declared.op.Op.{Op}
@@ -29,7 +29,7 @@ pub record State : Type 0 where
   pub regs : List ℕ
   pub memory : List ℕ
 
--- what a step comes to
+-- the outcome of a step
 pub data Outcome : Type 0 where
   Goes : State → Outcome
   Ends : EndKind → Outcome
@@ -38,7 +38,7 @@ pub data Outcome : Type 0 where
 abbrev pub base_of : State → ℕ
 base_of s = s.image.window.base
 
--- whether so many bytes from an address on lie in memory
+-- `count` bytes from an address on lie in memory
 abbrev pub holds : State → ℕ → ℕ → Bool
 holds s address count = is_inside s.image.window.base s.image.window.size address count
 
@@ -66,7 +66,7 @@ branches s taken target =
     then (if nat_eq (target % 4) 0 then Goes (record s { pc = target }) else Faults MisalignedTarget)
     else Goes (record s { pc = next_pc s })
 
--- a load of so many bytes, by a function of the memory and the place in it
+-- a load of `count` bytes, by a function of the memory and the place in it
 abbrev pub loads : State → ℕ → ℕ → ℕ → (List ℕ → ℕ → ℕ) → Outcome
 loads s r address count read =
     if holds s address count then writes s r (read s.memory (address - base_of s)) else Faults Access
@@ -77,7 +77,7 @@ stores s address count written =
     then Goes (record s { pc = next_pc s; memory = written s.memory (address - base_of s) })
     else Faults Access
 
--- what an operation does, given its step: a row for each of them
+-- the effect of each operation, given its step: a row for each
 abbrev pub executes : Op → Step → State → Outcome
 executes Lui x s = writes s x.instr.rd x.instr.imm
 executes Auipc x s = writes s x.instr.rd (sum s.pc x.instr.imm)
@@ -148,6 +148,6 @@ outcome_of (Some x) s = executes x.instr.op x s
 unfoldable pub step_of : State → Outcome
 step_of s = if holds s s.pc 4 then outcome_of (decoded s) s else Faults Fetch
 
--- the step that comes, whatever its outcome; none where fetch or decoding faults
+-- the next step, whatever its outcome; none if fetching or decoding faults
 abbrev pub coming_of : State → Option Step
 coming_of s = if holds s s.pc 4 then decoded s else None

@@ -16,7 +16,7 @@ use Rattle.tomex_rvexec.specs.Machine.{State, Outcome, Goes, Ends, Faults, step_
 abbrev pub initial_sp : Span → ℕ
 initial_sp window = (window.base + window.size) / 16 * 16 % 2 ^ 32
 
--- before the first step: all registers zero but the stack pointer
+-- before the first step: all registers zero except the stack pointer
 abbrev pub start_of : Loaded → State
 start_of i = record {
   image = i;
@@ -30,7 +30,7 @@ abbrev pub Leads : State → ℕ → State → Type 0
 Leads old zero new = new ≡ old
 Leads old (suc n) new = (mid : State) × Leads old n mid × (step_of mid ≡ Goes new)
 
--- what a step answers, and what it leaves
+-- what a step returns, and the state that it leaves
 abbrev pub Answers : Outcome → State → Result Stepped Fault → State → Type 0
 Answers (Goes s) old answer new = (answer ≡ Ok Next) × (new ≡ s)
 Answers (Ends k) old answer new = (answer ≡ Ok (Ended k)) × (new ≡ old)

@@ -16,7 +16,7 @@ hex8 n = padded_integral (format_spec 32 0 4 8 (2 ^ 64 - 1)) false [] (digits 16
 abbrev pub hex2 : ℕ → List ℕ
 hex2 n = padded_integral (format_spec 32 0 4 2 (2 ^ 64 - 1)) false [] (digits 16 false n)
 
--- the last so many digits of a number in base 16, the highest first
+-- the last digits of a number in base 16, the highest first
 abbrev pub last_digits : ℕ → ℕ → List ℕ
 last_digits zero n = []
 last_digits (suc k) n = last_digits k (n / 16) ++ digit_glyph false (n % 16) ∷ []

@@ -13,7 +13,7 @@ after (Goes s) next = next s
 after (Ends k) next = []
 after (Faults k) next = []
 
--- the steps from a state on, at most so many; the one that ends the program is the last
+-- a limited number of steps from a state on; the one that ends the program is the last
 abbrev pub steps_from : ℕ → State → List Step
 steps_from zero s = []
 steps_from (suc n) s = onto (coming_of s) (after (step_of s) (steps_from n))

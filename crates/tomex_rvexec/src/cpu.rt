@@ -1,4 +1,4 @@
-//! The in-order machine: registers, pc and memory of one program that runs.
+//! The in-order machine: registers, pc and memory of one running program.
 
 ghost use Rattle.std.specs.Prelude.{◌≡◌};
 ghost use Rattle.tomex_rvexec.specs.Run.{initial_sp};
@@ -14,7 +14,7 @@ use tomex_steps::{Memory, Step, alu, muldiv, taken};
 
 mod effects;
 
-/// A program that runs in order, a whole instruction at a time.
+/// A program that runs in order, one whole instruction at a time.
 ///
 /// Fetches read the image as it was loaded: a store never changes what is fetched.
 #[derive(Drop)]
@@ -52,8 +52,8 @@ impl<'a, A: Allocator> Cpu<'a, A> {
     ghost use Rattle.tomex_rvexec.specs.Machine.{step_of, coming_of, executes, holds};
     ghost use Rattle.tomex_rvexec.specs.Run.{start_of, Answers};
 
-    /// The machine before the first step: all registers zero but x2, the stack pointer; the pc at the image's
-    /// entry.
+    /// The machine before the first step: all registers zero except x2, the stack pointer; the pc
+    /// at the image's entry.
     pub fn new(alloc: A, image: &'a Image<A>) -> Result<Self, AllocError>
         ensures { IfOk result (λ c. c ≡ start_of image.now) }
     {
@@ -70,14 +70,14 @@ impl<'a, A: Allocator> Cpu<'a, A> {
         })
     }
 
-    /// The address of the instruction that comes next.
+    /// The address of the next instruction.
     pub fn pc(&self) -> u32
         ensures { result ≡ self.now.pc }
     {
         self.pc
     }
 
-    /// A fault of the instruction at the pc.
+    /// The fault of this kind, of the instruction at the pc.
     fn fault(&self, kind: FaultKind) -> Fault
         ensures { result ≡ record { kind = kind; pc = self.now.pc } }
     {
@@ -143,7 +143,7 @@ impl<'a, A: Allocator> Cpu<'a, A> {
         }
     }
 
-    /// One step. After a fault or an end nothing has changed, so the next step answers the same.
+    /// One step. A fault or an end changes nothing, so the next step returns the same.
     #[tactic(auto, unfolding(crate::specs::Machine::step_of))]
     #[inline(always)]
     pub fn step(&mut self) -> Result<Stepped, Fault>
@@ -165,7 +165,7 @@ impl<'a, A: Allocator> Cpu<'a, A> {
         Ok((step, stepped))
     }
 
-    /// The end of a run of so many steps.
+    /// The end of a run of `steps` steps.
     pub(crate) fn into_end(self, kind: EndKind, steps: u32) -> End<A>
         ensures { (result.kind ≡ kind) × (result.pc ≡ self.entry.pc) × (result.steps ≡ steps)
             × (result.regs ≡ self.entry.regs) × (result.memory.bytes ≡ self.entry.memory)

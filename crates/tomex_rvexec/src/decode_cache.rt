@@ -6,25 +6,25 @@ ghost use Rattle.tomex_rvexec.specs.Fetch.{instruction_at, kept_at, line_of, IsC
 
 use tomex_rvdec::Instr;
 
-/// How many instructions are kept.
+/// The number of lines, each for one instruction.
 const LINES: usize = 1024;
 
-/// An instruction, and the address that it stands at.
+/// An instruction and its address.
 #[derive(Clone, Copy)]
 pub struct Line {
     pub pc: u32,
     pub instr: Instr,
 }
 
-/// The instructions that were decoded of late, by address: a direct-mapped cache with a line for
-/// each word of 4 KiB, so that a loop is decoded once.
+/// Recently decoded instructions, by address: a direct-mapped cache with a line for each word of 4
+/// KiB, so that a loop is decoded once.
 #[derive(Drop)]
 pub struct DecodeCache {
     pub lines: [Option<Line>; LINES],
 }
 
 impl DecodeCache {
-    /// A cache in which nothing is kept.
+    /// An empty cache.
     pub fn new() -> Self
         ensures { (i : Loaded) → IsCacheOf i result }
     {
@@ -33,7 +33,7 @@ impl DecodeCache {
         }
     }
 
-    /// The instruction at an address, if it is kept.
+    /// The instruction at an address, if the cache has it.
     #[inline(always)]
     pub fn get(&self, pc: u32) -> Option<Instr>
         ensures value { result ≡ kept_at self.now pc }
@@ -47,7 +47,7 @@ impl DecodeCache {
         }
     }
 
-    /// Keeps an instruction in the place of the one that its line held.
+    /// Keeps an instruction, in place of the one in its line.
     pub fn keep(&mut self, pc: u32, instr: Instr)
         ensures line { self.new.lines
             ≡ slice_set self.old.lines (line_of pc) (Some (record { pc = pc; instr = instr })) }

@@ -1,4 +1,4 @@
-//! What a whole run comes to.
+//! The result of a whole run.
 
 ghost use Rattle.std.specs.Prelude.{◌≡◌};
 ghost use Rattle.tomex_rvexec.specs.declared.end.RunError.TheVariants.{Memory};
@@ -6,7 +6,7 @@ ghost use Rattle.tomex_rvexec.specs.declared.end.RunError.TheVariants.{Memory};
 use crate::outcome::{EndKind, Fault};
 use std::alloc::{AllocError, AllocFailed, Allocator, Global};
 
-/// How a program ended.
+/// The end of a program.
 ///
 /// `pc` is the address of the ECALL or EBREAK; `steps` counts it too.
 #[derive(Drop)]
@@ -23,9 +23,9 @@ pub struct End<A: Allocator = Global> {
 pub enum RunError {
     /// An instruction can't be carried out.
     Fault(Fault),
-    /// The program makes as many steps as the limit allows, and neither ends nor faults.
+    /// The program neither ends nor faults within the limit of steps.
     TooLong,
-    /// Memory for the run was refused.
+    /// Out of memory.
     Memory,
 }
 

@@ -1,4 +1,4 @@
-//! The fetch of instructions: which one stands at an address, decoded.
+//! The fetch of instructions: which one is at an address, decoded.
 
 ghost use Rattle.std.specs.Prelude.{◌≡◌};
 ghost use Rattle.tomex_rvexec.specs.Fetch.{instruction_at};
@@ -10,7 +10,7 @@ use std::marker::Model;
 use tomex_image::Image;
 use tomex_rvdec::{Instr, decode};
 
-/// The instruction at an address of the image as it was loaded, or why there is none.
+/// The instruction at an address of the image as it was loaded, or the fault of fetching it.
 pub fn instruction_at<A: Allocator>(image: &Image<A>, pc: u32) -> Result<Instr, FaultKind>
     ensures { result ≡ instruction_at image.now pc }
 {
@@ -31,8 +31,8 @@ pub fn instruction_at<A: Allocator>(image: &Image<A>, pc: u32) -> Result<Instr, 
 
 /// Fetches and decodes the instructions of an image.
 ///
-/// Recently decoded ones are kept. They can't grow stale: fetches read the image as it was loaded,
-/// and a store never changes it.
+/// Keeps recently decoded ones. They can't be stale: fetches read the image as it was loaded, and a
+/// store never changes it.
 #[derive(Drop)]
 pub struct Fetcher<'a, A: Allocator = Global> {
     image: &'a Image<A>,
@@ -54,7 +54,7 @@ impl<'a, A: Allocator> Fetcher<'a, A> {
     ghost use Rattle.std.specs.Prelude.{◌≡◌};
     ghost use Rattle.tomex_rvexec.specs.Fetch.{instruction_at};
 
-    /// The fetcher of this image, with nothing kept.
+    /// The fetcher of this image, with an empty cache.
     pub fn new(image: &'a Image<A>) -> Self
         ensures { result ≡ image.now }
     {
@@ -64,7 +64,7 @@ impl<'a, A: Allocator> Fetcher<'a, A> {
         }
     }
 
-    /// The instruction at an address, or why there is none.
+    /// The instruction at an address, or the fault of fetching it.
     #[inline(always)]
     pub fn fetch(&mut self, pc: u32) -> Result<Instr, FaultKind>
         ensures value { result ≡ instruction_at self.old pc }
@@ -76,7 +76,7 @@ impl<'a, A: Allocator> Fetcher<'a, A> {
         self.fetch_anew(pc)
     }
 
-    /// Decodes the instruction at an address, and keeps it. Most fetches find theirs kept.
+    /// Decodes the instruction at an address, and keeps it. Most fetches find theirs in the cache.
     #[cold]
     #[inline(never)]
     fn fetch_anew(&mut self, pc: u32) -> Result<Instr, FaultKind>

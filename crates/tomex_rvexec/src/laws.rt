@@ -25,7 +25,7 @@ ghost use Rattle.tomex_rvexec.specs.Texts.{hex2, hex8, last_digits};
 ghost use Rattle.tomex_rvexec.specs.Trace.{steps_from};
 
 /// A step changes the pc, its destination and the bytes of its store, and nothing else. Its target
-/// is a multiple of 4 and its bytes lie in memory. The result depends on no byte but those of the
+/// is a multiple of 4 and its bytes lie in memory. The result depends only on the bytes of the
 /// step's own access.
 pub fn step_changes_its_destination_and_bytes()
     ensures changes { (s t : State) (x : Step)
@@ -38,7 +38,7 @@ pub fn step_changes_its_destination_and_bytes()
         → ((a : ℕ) → covers x a ≡ true → f a ≡ g a) → result_of x f ≡ result_of x g }
 {}
 
-/// What goes on or ends is the step of an instruction; it ends the program exactly where the
+/// A step that doesn't fault is that of an instruction; it ends the program exactly if the
 /// instruction is ECALL or EBREAK, which write nothing.
 pub fn step_is_of_an_instruction()
     ensures goes { (s t : State) → step_of s ≡ Goes t → IsSome (coming_of s) }
@@ -51,9 +51,9 @@ pub fn step_is_of_an_instruction()
     ensures store { (x : Step) (kind : EndKind) → end_of x ≡ Some kind → is_store x ≡ false }
 {}
 
-/// The state after so many steps of a run is what their history leaves: each register holds the
-/// result of the youngest step that writes it, or the start's value, each byte of memory what the
-/// youngest store on it left, or the image's, and the step that comes has its operands from there.
+/// The state after `k` steps of a run is what their history leaves: each register holds the result
+/// of the youngest step that writes it, or the start's value, each byte of memory what the youngest
+/// store on it left, or the image's, and the next step has its operands from there.
 pub fn run_is_its_history()
     ensures leaves { (i : Loaded) (k : ℕ) (s : State)
         → IsLoaded i.window i.memory i.entry → Leads (start_of i) k s → Leaves i (history i k) s }
@@ -70,7 +70,7 @@ pub fn run_is_its_history()
 {}
 
 /// The youngest step that writes a register gives its value, and the youngest store on a byte the
-/// byte; where there is none, the register has the start's value, and the byte is the image's.
+/// byte; if there is none, the register has the start's value, and the byte is the image's.
 pub fn youngest_writer_gives_the_value()
     ensures writer { (i : Loaded) (newer older : List Step) (x : Step) (r : ℕ)
         → list_any (λ y. is_number (step_dest y) r) newer ≡ false → is_number (step_dest x) r ≡ true
@@ -86,9 +86,9 @@ pub fn youngest_writer_gives_the_value()
         → byte_after i steps a ≡ slice_index i.memory (a - i.window.base) }
 {}
 
-/// What a step says of itself agrees: it has a unit exactly where it has a pool, touches bytes
-/// exactly where it is a load or a store, then one byte at least, and what has no pool, and a store,
-/// writes no register.
+/// What follows from a step agrees: it has a unit exactly if it has a pool; it touches bytes, at
+/// least one, exactly if it is a load or a store; and a store, or a step without a pool, writes no
+/// register.
 pub fn step_says_one_thing_of_itself()
     ensures unit { (x : Step) → is_some (step_unit x) ≡ is_some (step_pool x) }
     ensures memory { (x : Step)
@@ -121,8 +121,8 @@ pub fn history_determines_the_next_step()
         → Follows i older x → Follows i older y → x ≡ y }
 {}
 
-/// A run has one state after so many steps, and a run that leads to one leads to each before it;
-/// its list of steps is its history, the oldest first.
+/// A run has one state after `k` steps, and a run that leads to one leads to each before it; its
+/// list of steps is its history, the oldest first.
 pub fn run_has_one_state_a_step()
     ensures once { (k : ℕ) (old s t : State) → Leads old k s → Leads old k t → s ≡ t }
     ensures after { (i : Loaded) (k : ℕ) (s : State) → Leads (start_of i) k s
@@ -156,7 +156,7 @@ pub fn limit_changes_no_run_that_ends()
         → steps_from limit (start_of i) ≡ reverse (history i (k + 1)) }
 {}
 
-/// Each step of a run that ends: it follows those before it, it joins the history, and it goes on
+/// Each step of a run that ends: it follows those before it, it joins the history, and it continues
 /// or, after all others, ends the run in the state that its history leaves.
 pub fn run_that_ends_is_a_flow_of_steps()
     ensures comes { (i : Loaded) (n k : ℕ) (s : State) (kind : EndKind)

@@ -10,10 +10,10 @@ use crate::outcome::Stepped;
 use std::alloc::Allocator;
 use tomex_image::Image;
 
-/// Runs the image in order, for at most so many steps. A program whose last allowed step ends
-/// it has ended; one that goes on after it is too long.
+/// Runs the image in order, for at most `limit` steps. A program that its last allowed step ends
+/// has ended; one that continues after that step is too long.
 ///
-/// Takes the memory's size once, and nothing at each step.
+/// Allocates the memory's size once, and nothing at each step.
 pub fn run<A: Allocator>(alloc: A, image: &Image<A>, limit: u32) -> Result<End<A>, RunError>
     ensures ok { IfOk result (λ e. IsEnd image.now limit e) }
     ensures err { IfErr result (λ e. IsRefusal image.now limit e) }

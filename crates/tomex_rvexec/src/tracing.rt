@@ -40,7 +40,7 @@ fn record<'a, A: Allocator>(
 
 /// The steps of a run that ends within the limit, in order; the ECALL or EBREAK is the last.
 ///
-/// Takes the memory's size once, and 20 bytes a step.
+/// Allocates the memory's size once, and 20 bytes a step.
 pub fn trace<A: Allocator + Clone>(
     alloc: A,
     image: &Image<A>,

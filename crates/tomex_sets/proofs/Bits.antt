@@ -17,7 +17,7 @@ has_one set x e = eq-eqb (bit_at set x) 1 e
 pub has_none : (set x : ℕ) → bit_at set x ≡ 0 → has set x ≡ false
 has_none set x e = ap (λ b. b == 1) e
 
--- a number that is no greater and has a bit less is less
+-- a number that is no greater and lacks one of the bits is less
 pub fewer : (set new x : ℕ) → new ≤ set → has set x ≡ true → has new x ≡ false → new < set
 fewer set new x l had lost = elim (cases_order new set) [
   | inl e ↦ absurd (both_ways (has set x) (ap (λ n. has n x) (sym e) ∙ lost) had)
@@ -63,7 +63,7 @@ no_bit_of set x e =
     zero_of zero l apart = refl
     zero_of (suc b) l apart = let e : b ≡ 0 = omega arith in absurd (apart (rw e refl))
 
--- less one a number has no more its lowest bit
+-- a number less one no longer has its lowest bit
 lost_less_one : (n k : ℕ) → bit_at n k ≡ 1 → ((j : ℕ) → j < k → bit_at n j ≡ 0) → bit_at (n - 1) k ≡ 0
 lost_less_one n zero one none =
     let odd : n % 2 ≡ 1 = sym (bit_at_lowest n) ∙ one in
@@ -75,7 +75,7 @@ lost_less_one n (suc k) one none =
     ∙ lost_less_one (n / 2) k (sym (bit_at-suc n k) ∙ one) (λ j l. sym (bit_at-suc n j)
     ∙ none (suc j) (omega arith)))
 
--- and those above as before
+-- and has those above as before
 kept_less_one : (n k i : ℕ) → bit_at n k ≡ 1 → ((j : ℕ) → j < k → bit_at n j ≡ 0) → k < i
     → bit_at (n - 1) i ≡ bit_at n i
 kept_less_one n k zero one none l = absurd (omega arith)
@@ -159,7 +159,7 @@ not_of (suc b) l = let e : b ≡ 0 = omega arith in rw e refl
 pub complement : (set i : ℕ) → set < 2 ^ 64 → i < 64 → has (bit_not w64 set) i ≡ not (has set i)
 complement set i fits l = ap (λ b. b == 1) (bit_at_not w64 set i fits l) ∙ not_of (bit_at set i) (bit_low set i)
 
--- what a complement has the set lacks, and the other way round
+-- the complement has the numbers that the set doesn't have, and the other way round
 pub lacked : (b : Bool) → not b ≡ true → b ≡ false
 lacked true e = sym e
 lacked false e = refl

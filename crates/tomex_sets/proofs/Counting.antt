@@ -1,4 +1,4 @@
--- How many members a set has.
+-- The number of members of a set.
 use Rattle.std.proofs.Common.{ℕ, zero, suc, ◌+◌, Bool, true, false, ◌≡◌, ◌≤◌, ◌<◌, ◌∙◌, arith, inl, inr, ap, refl, sym}
 use Rattle.std.specs.Prelude.{◌≢◌, if◌then◌else◌}
 use Rattle.std.proofs.lemmas.Bool.{cases_Bool, cases_order}
@@ -25,7 +25,7 @@ pub count_none : (f : ℕ → Bool) (n : ℕ) → ((x : ℕ) → x < n → f x �
 count_none f zero each = count_zero f
 count_none f (suc n) each = count_suc f n ∙ rw (each n (omega arith), count_none f n (λ x l. each x (omega arith))) refl
 
--- one number more
+-- one more number
 pub count_one : (f g : ℕ → Bool) (x n : ℕ) → x < n → f x ≡ false → g x ≡ true → ((y : ℕ) → y < n → y ≢ x → g y ≡ f y)
     → count_below g n ≡ count_below f n + 1
 count_one f g x zero l off on others = absurd (omega arith)

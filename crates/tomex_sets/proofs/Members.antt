@@ -12,7 +12,7 @@ use Rattle.tomex_sets.proofs.Bits.{has_none, has_one, none_in}
 pub none_rest : (rest x : ℕ) → rest ≡ 0 → has rest x ≡ false
 none_rest rest x e = rw e (none_in x)
 
--- what is left of a set is in it
+-- the rest of a set is in it
 pub inside_left : (set rest left x : ℕ) → ((y : ℕ) → y < 128 → has rest y ≡ true → has set y ≡ true)
     → IsWithout rest x left → (y : ℕ) → y < 128 → has left y ≡ true → has set y ≡ true
 inside_left set rest left x inside without y l e = elim (cases_Bool (x == y)) [
@@ -65,7 +65,7 @@ left_from set rest left k x so small member least without = record {
   ];
 }
 
--- what each number that is no member keeps is kept up to the next member
+-- a property that each number outside the set keeps is kept up to the next member
 pub up_to : (P : ℕ → Type 0) (set k n : ℕ) → ((j : ℕ) → k ≤ j → j < k + n → has set j ≡ false)
     → ((j : ℕ) → has set j ≡ false → P j → P (j + 1)) → P k → P (k + n)
 up_to P set k zero none skip so = let e : k + 0 ≡ k = omega arith in rw e so
@@ -80,7 +80,7 @@ skip_to P set k x l none skip so =
     let e : k + (x - k) ≡ x = omega arith in
     rw e at (up_to P set k (x - k) (λ j from to. none j from (omega arith)) skip so)
 
--- the least member of a set, and that no other is less
+-- the least member of a set: no other is less
 pub record IsLowest (set x : ℕ) : Type 0 where
   pub member : has set x ≡ true
   pub least : (i : ℕ) → i < x → has set i ≡ false
@@ -99,7 +99,7 @@ lowest_from set k (suc n) none some = elim (cases_Bool (has set k)) [
       ]) (rw f at some)
 ]
 
--- where the least member is all of a set, any two members are one
+-- if the least member is the whole set, any two members are one
 pub one_member : (set left : ℕ)
     → ((x : ℕ) → has set x ≡ true → ((i : ℕ) → i < x → has set i ≡ false) → IsWithout set x left) → left ≡ 0 → (a b : ℕ)
     → a < 128 → b < 128 → has set a ≡ true → has set b ≡ true → a ≡ b
@@ -114,14 +114,14 @@ one_member set left without empty a b l m ha hb =
       | inr e ↦ absurd (both_ways (has left y) (none_rest left y empty) (out.others y small (eqb-false y x e) ∙ member))
     ]
 
--- what isn't empty has a least member
+-- a set that isn't empty has a least member
 least_member : (set : ℕ) → 0 < set → set < 2 ^ 128 → (x : ℕ) × (x < 128) × (has set x ≡ true)
     × ((i : ℕ) → i < x → has set i ≡ false)
 least_member set some fits =
     let first = bit_at-trailing_zeros w128 set some fits in
     (trailing_zeros w128 set, first.0, has_one _ _ first.1, λ i l. has_none _ i (first.2 i l))
 
--- where one is left without the least, there are two
+-- if a member is left without the least, there are two
 pub two_members : (set left : ℕ) → 0 < set → set < 2 ^ 128 → 0 < left → left < 2 ^ 128
     → ((x : ℕ) → has set x ≡ true → ((i : ℕ) → i < x → has set i ≡ false) → IsWithout set x left) → IsSingle set → ⊥
 two_members set left some fits more fit without single =

@@ -21,11 +21,11 @@ halves_of set lower upper low high = record {
 pub joined : (set lower upper : ℕ) → set ≡ 2 ^ 64 * upper + lower → lower < 2 ^ 64 → AreHalves set lower upper
 joined set lower upper e fits = halves_of set lower upper (omega arith) (omega arith)
 
--- what stands from 64 on, by the upper half
+-- the members from 64 on, by the upper half
 pub far_at : (set lower upper x : ℕ) → AreHalves set lower upper → 64 ≤ x → has set x ≡ has upper (x - 64)
 far_at set lower upper x halves l = let e : 64 + (x - 64) ≡ x = omega arith in rw e at (halves.far (x - 64))
 
--- where the lower half has members, the least of all is one of them
+-- if the lower half has members, the least of all is one of them
 pub least_near : (set lower upper x : ℕ) → AreHalves set lower upper → lower < 2 ^ 64 → 0 < lower
     → ((i : ℕ) → i < x → has set i ≡ false) → x < 64
 least_near set lower upper x halves fits some least = elim (cases_Bool (nat_lt x 64)) [
@@ -42,7 +42,7 @@ least_near set lower upper x halves fits some least = elim (cases_Bool (nat_lt x
       | inr e ↦ has_none lower i (bit_at_above lower 64 i fits (ltb-false _ _ e))
     ]
 
--- where it has none, none is below 64
+-- if it has none, none is below 64
 pub none_near : (set upper x : ℕ) → AreHalves set 0 upper → x < 64 → has set x ≡ false
 none_near set upper x halves l = halves.near x l ∙ none_in x
 

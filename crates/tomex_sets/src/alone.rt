@@ -1,8 +1,8 @@
-//! The sets of one number each, from a table: a shift of 128 bits by a variable is eight operations.
+//! Sets of one number, from a table: shifting 128 bits by a variable takes eight operations.
 
 ghost use Rattle.std.specs.Prelude.{◌≡◌, ◌<◌, ◌^◌};
 
-/// By number, the set of it alone.
+/// For each number, the set of only this number.
 static ALONE: [u128; 128] = [
     1 << 0,
     1 << 1,
@@ -134,7 +134,7 @@ static ALONE: [u128; 128] = [
     1 << 127,
 ];
 
-/// The set of a number alone.
+/// The set of only this number.
 #[inline(always)]
 pub(crate) fn alone(number: usize) -> u128
     requires { number < 128 }

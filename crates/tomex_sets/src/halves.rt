@@ -1,4 +1,5 @@
-//! A set of numbers below 128 as two of 64 numbers each: what is one operation there is several on 128 bits.
+//! A set of numbers below 128 as two sets of 64 numbers each: an operation on 128 bits takes
+//! several instructions, one on 64 takes one.
 
 ghost use Rattle.std.specs.Prelude.{◌≡◌, ◌+◌, ◌*◌, ◌/◌, ◌%◌, ◌^◌};
 
@@ -10,7 +11,7 @@ pub(crate) fn lower(set: u128) -> u64
     (set % (1 << 64)) as u64
 }
 
-/// The members from 64 on, each less 64.
+/// The members from 64 on, each reduced by 64.
 #[inline(always)]
 pub(crate) fn upper(set: u128) -> u64
     ensures { result ≡ set / 2 ^ 64 }

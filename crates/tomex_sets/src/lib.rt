@@ -1,5 +1,6 @@
-//! Sets of numbers, a bit each: a machine's stations are numbered, and what waits, is ready or is due in a
-//! cycle is a set of them. So a cycle's work is what is in a set, not how many stations there are.
+//! Sets of numbers, a bit each: a machine's stations are numbered, and those that wait, are ready
+//! or are due in a cycle are a set of numbers. So a cycle's work grows with the members of a set,
+//! not with the number of stations.
 //!
 //! Here are sets of numbers below 128; sets of numbers below 64 are in `small`.
 #![tactic(auto)]

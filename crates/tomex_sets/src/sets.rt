@@ -16,7 +16,7 @@ pub fn with(set: u128, number: usize) -> u128
     set | alone(number)
 }
 
-/// The set, with the number too if it is to be a member. No branch is taken.
+/// The set, with the number added if `member`. Branch-free.
 #[inline(always)]
 pub fn with_if(set: u128, number: usize, member: bool) -> u128
     requires { number < 128 }
@@ -26,7 +26,7 @@ pub fn with_if(set: u128, number: usize, member: bool) -> u128
     set | u128::from(member) << number
 }
 
-/// The set but for the number.
+/// The set without the number.
 #[inline(always)]
 pub fn without(set: u128, number: usize) -> u128
     requires { number < 128 }
@@ -51,7 +51,7 @@ pub fn lowest(set: u128) -> usize
     64 + small::lowest(upper(set))
 }
 
-/// The set but for its least member, in fewer operations than `without` takes for any member.
+/// The set without its least member, in fewer operations than `without`.
 #[inline(always)]
 pub fn without_lowest(set: u128) -> u128
     requires { 0 < set }
@@ -66,7 +66,7 @@ pub fn without_lowest(set: u128) -> u128
     whole(0, small::without_lowest(upper(set)))
 }
 
-/// Whether there is at most one member.
+/// True if there is at most one member.
 #[inline(always)]
 pub fn is_single(set: u128) -> bool
     ensures { Decides result (IsSingle set) }

@@ -1,5 +1,5 @@
-//! Sets of numbers below 64, a bit each: the places of a ring, and the numbers of a pool. A shift of
-//! 64 bits is one operation, where one of 128 bits is several.
+//! Sets of numbers below 64, a bit each: the places of a ring, and the numbers of a pool. Shifting
+//! 64 bits takes one operation, shifting 128 bits several.
 
 ghost use Rattle.std.specs.Prelude.{ℕ, ◌≡◌, ◌<◌, ◌≤◌, ◌+◌, ◌*◌, true, false};
 ghost use Rattle.tomex_sets.specs.Sets.{has, IsWith, IsWithout};
@@ -15,7 +15,7 @@ pub fn with(set: u64, number: usize) -> u64
     set | 1 << number
 }
 
-/// The set but for the number.
+/// The set without the number.
 #[inline(always)]
 pub fn without(set: u64, number: usize) -> u64
     requires { number < 64 }
@@ -35,7 +35,7 @@ pub fn lowest(set: u64) -> usize
     set.trailing_zeros() as usize
 }
 
-/// The set but for its least member.
+/// The set without its least member.
 #[inline(always)]
 pub(crate) fn without_lowest(set: u64) -> u64
     requires { 0 < set }
@@ -46,7 +46,7 @@ pub(crate) fn without_lowest(set: u64) -> u64
     set & (set - 1)
 }
 
-/// The members of a wider set that are in one of its eight groups of 16, each by its number in there.
+/// The members of a wider set in one of its eight groups of 16, by their numbers in the group.
 #[inline(always)]
 pub fn in_group(set: u128, group: usize) -> u64
     requires { group < 8 }
@@ -56,7 +56,7 @@ pub fn in_group(set: u128, group: usize) -> u64
     half >> (16 * (group % 4))
 }
 
-/// The least number below 16 that isn't in the set, 16 where all are.
+/// The least number below 16 that isn't in the set; 16 if all are.
 #[inline(always)]
 pub fn least_absent(set: u64) -> usize
     ensures below { result ≤ 16 }

@@ -9,7 +9,7 @@ use Rattle.std.proofs.Math.ListN.{length-set}
 use Rattle.tomex_steps.specs.Results.{byte_in}
 use Rattle.tomex_steps.specs.Memory.{Bytes, half_read, word_read, byte_written, half_written, word_written}
 
--- so many bytes of v, from place i on
+-- the low bytes of v, written from place i on
 abbrev pub bytes_written : ℕ → List ℕ → ℕ → ℕ → List ℕ
 bytes_written zero m i v = m
 bytes_written (suc n) m i v = slice_set (bytes_written n m i v) (i + n) (v / 256 ^ n % 256)
@@ -77,7 +77,7 @@ below_none a b = elim (cases_lt b a) [
   | inr g ↦ and_right (nat_le a b) (nat_lt b (a + 0)) (le-ltb b (a + 0) (omega arith))
 ]
 
--- so many bytes of v, from an address on
+-- the low n bytes of v, stored from an address on
 pub bytes_stored : (n : ℕ) (memory : Bytes) (from v a : ℕ) → memory.base ≤ a
     → (0 < n → (memory.base ≤ from) × (from + n ≤ memory.base + length memory.bytes))
     → slice_index (bytes_written n memory.bytes (from - memory.base) v) (a - memory.base)

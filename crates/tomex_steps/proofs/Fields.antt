@@ -1,4 +1,4 @@
--- What a step says of itself agrees.
+-- What follows from a step agrees.
 use Rattle.std.proofs.Common.{◌≡◌, ℕ, ◌+◌, ◌<◌, Option, Some, None, Bool, true, false, refl, arith}
 use Rattle.std.specs.Prelude.{IfSome, is_some, nat_eq, ◌||◌, if◌then◌else◌}
 use Rattle.std.proofs.lemmas.Bool.{eqb-false}

@@ -1,4 +1,4 @@
--- What a store leaves in memory, byte by byte.
+-- Memory after a store, byte by byte.
 use Rattle.std.proofs.Common.{ℕ, ◌+◌, ◌-◌, ◌≡◌, ◌∙◌, List, length, false, refl, ap}
 use Rattle.std.specs.Prelude.{slice_index}
 use Rattle.std.proofs.lemmas.Bool.{le-leb, both_ways}
@@ -7,7 +7,7 @@ use Rattle.tomex_steps.specs.Results.{byte_in}
 use Rattle.tomex_steps.specs.Memory.{Bytes}
 use Rattle.tomex_steps.proofs.Bytes.{bytes_written, length-bytes, bytes_stored}
 
--- the bytes that are there are written
+-- the bytes that are inside are written
 pub bytes_made : (n from v place : ℕ) (old new : Bytes) (bytes : List ℕ)
     → new ≡ record { base = old.base; bytes = bytes } → bytes ≡ bytes_written n old.bytes place v
     → place ≡ from - old.base → HasWritten n from v old new
@@ -20,7 +20,7 @@ bytes_made n from v place old new bytes e f g = record {
       ∙ bytes_stored n old from v a l (λ z. (low, high)));
 }
 
--- and no others are
+-- and no others
 pub none_made : (n from v : ℕ) (old : Bytes) → has_bytes old from n ≡ false → HasWritten n from v old old
 none_made n from v old e = record {
   base = refl;

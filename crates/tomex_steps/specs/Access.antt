@@ -1,4 +1,4 @@
--- Accesses by address, on any memory: what a load gets, and what a store leaves.
+-- Accesses by address, on any memory: the value of a load, and the memory after a store.
 use Rattle.std.specs.Prelude.{◌≡◌, ℕ, ◌+◌, ◌-◌, ◌/◌, ◌%◌, ◌^◌, ◌≤◌, Bool, true, false, ◌&&◌, nat_le, nat_lt}
 use Rattle.std.specs.Prelude.{if◌then◌else◌, IfSome, IsTrue, List, Option, Some, None, length}
 use Rattle.tomex_steps.specs.declared.step.Step.{Step}
@@ -6,22 +6,22 @@ use Rattle.tomex_steps.specs.Results.{byte_in, overwrites, stored_byte}
 use Rattle.tomex_steps.specs.Memory.{Bytes, is_inside}
 use Rattle.tomex_steps.specs.Steps.{bytes_of}
 
--- whether so many bytes from an address on lie in a memory
+-- n bytes from an address on lie in a memory
 abbrev pub has_bytes : Bytes → ℕ → ℕ → Bool
 has_bytes m from n = is_inside m.base (length m.bytes) from n
 
--- what a load of so many bytes gets, by a function of the bytes and the place in them; none where a byte lies outside
+-- the value of a load of n bytes, by a function of the bytes and the place in them; none if a byte lies outside
 abbrev pub IsLoadedFrom : Bytes → ℕ → ℕ → (List ℕ → ℕ → ℕ) → Option ℕ → Type 0
 IsLoadedFrom m from n read None = has_bytes m from n ≡ false
 IsLoadedFrom m from n read (Some v) = IsTrue (has_bytes m from n) × (v ≡ read m.bytes (from - m.base))
 
--- what a store of so many bytes leaves, likewise; nothing changes where a byte lies outside
+-- the memory after a store of n bytes, likewise; nothing changes if a byte lies outside
 abbrev pub HasStoredAt : ℕ → ℕ → (List ℕ → ℕ → List ℕ) → Bytes → Bool → Bytes → Type 0
 HasStoredAt from n written old false new = (has_bytes old from n ≡ false) × (new ≡ old)
 HasStoredAt from n written old true new =
     IsTrue (has_bytes old from n) × (new ≡ record old { bytes = written old.bytes (from - old.base) })
 
--- a memory after so many bytes of a word are written from an address on, where they are inside
+-- a memory after n bytes of a word are written from an address on, if they are inside
 pub record HasWritten (n from v : ℕ) (old new : Bytes) : Type 0 where
   pub base : new.base ≡ old.base
   pub size : length new.bytes ≡ length old.bytes

@@ -8,7 +8,7 @@ pub record Bytes : Type 0 where
   pub base : ℕ
   pub bytes : List ℕ
 
--- whether so many bytes from an address on lie in a window; addresses don't wrap
+-- `count` bytes from an address on lie in a window; addresses don't wrap
 abbrev pub is_inside : ℕ → ℕ → ℕ → ℕ → Bool
 is_inside base size address count = nat_le base address && nat_le (address + count) (base + size)
 

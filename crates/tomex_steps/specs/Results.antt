@@ -1,6 +1,5 @@
--- What a step computes from its operands (RV32I, sections 2.4 to 2.6; M, chapter 7): its result, the
--- pc that follows it, and the bytes that a store leaves. All of it is a function of the step, and of
--- the bytes that a load reads.
+-- The results of a step from its operands (RV32I, sections 2.4 to 2.6; M, chapter 7): its result, the pc that follows
+-- it, and the bytes that a store leaves. All of it is a function of the step, and of the bytes that a load reads.
 use Rattle.std.specs.Prelude.{ℕ, ◌+◌, ◌-◌, ◌*◌, ◌/◌, ◌%◌, ◌^◌, Bool, false, ◌&&◌, nat_le, nat_lt, if◌then◌else◌}
 use Rattle.std.specs.Prelude.{Option, Some, None, slice_index}
 use Rattle.tomex_rvdec.specs.declared.op.Op.{Op}
@@ -22,7 +21,7 @@ abbrev pub second_at : Form → Step → ℕ
 second_at forms.Register x = x.vk
 second_at _ x = x.instr.imm
 
--- what a load makes of the bytes from an address on
+-- the value of a load, from the bytes at its address
 abbrev pub loaded : Op → (ℕ → ℕ) → ℕ → ℕ
 loaded Lb byte a = from_byte (byte a)
 loaded Lh byte a = from_half (byte a + 256 * byte (a + 1))
@@ -31,7 +30,7 @@ loaded Lbu byte a = byte a
 loaded Lhu byte a = byte a + 256 * byte (a + 1)
 loaded _ byte a = 0
 
--- what the unit of a pool computes
+-- the result of the unit of a pool
 abbrev pub computed : Option PoolId → Op → Step → (ℕ → ℕ) → ℕ
 computed (Some pools.Alu) op x byte = alu_of op x.vj (second_at (form_of op) x)
 computed (Some pools.Mul) op x byte = muldiv_of op x.vj x.vk
@@ -46,8 +45,8 @@ result_at Jal x byte = sum x.pc 4
 result_at Jalr x byte = sum x.pc 4
 result_at op x byte = computed (pool_of op) op x byte
 
--- the result of a step: what its destination gets. A load's is made of the bytes that it reads, by
--- address; no other depends on memory
+-- the result of a step, for its destination. A load's depends on the bytes that it reads, by address; no other
+-- depends on memory
 abbrev pub result_of : Step → (ℕ → ℕ) → ℕ
 result_of x byte = result_at x.instr.op x byte
 
@@ -65,11 +64,11 @@ abbrev pub is_among : Option ByteRange → ℕ → Bool
 is_among None a = false
 is_among (Some bytes) a = nat_le bytes.from a && nat_lt a bytes.to
 
--- whether a load or store touches the byte at an address
+-- a load or store touches the byte at an address
 abbrev pub covers : Step → ℕ → Bool
 covers x a = is_among (bytes_of x) a
 
--- whether a step writes the byte at an address
+-- a step writes the byte at an address
 abbrev pub overwrites : Step → ℕ → Bool
 overwrites x a = is_store x && covers x a
 

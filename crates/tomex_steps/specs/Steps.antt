@@ -1,4 +1,4 @@
--- What a step of a run says of itself: its operands, its destination, the bytes that it touches.
+-- What follows from a step of a run: its operands, its destination, the bytes that it touches.
 use Rattle.std.specs.Prelude.{ℕ, ◌+◌, ◌==◌, Option, Some, None, if◌then◌else◌, nat_eq, Bool, false, option_map}
 use Rattle.tomex_rvdec.specs.declared.op.Op.{Op}
 use Rattle.tomex_rvdec.specs.declared.op.Op.TheVariants.{Lb, Lh, Lw, Lbu, Lhu, Sb, Sh, Sw}
@@ -12,7 +12,7 @@ use Rattle.tomex_steps.specs.declared.step.Operand.{Operand}
 use Rattle.tomex_steps.specs.declared.step.ByteRange.{ByteRange}
 use Rattle.tomex_steps.specs.Words.{sum}
 
--- how many bytes an operation reads or writes
+-- the number of bytes that an operation reads or writes
 abbrev pub access_size : Op → ℕ
 access_size Lb = 1
 access_size Lh = 2
@@ -42,7 +42,7 @@ bytes_of x = bytes_at x.instr.op (address_of x)
 abbrev pub operand : ℕ → ℕ → Operand
 operand value register = record { register = register; value = value }
 
--- the operands, where the instruction reads them; x0 is an operand like any other
+-- the operands, if the instruction reads them; x0 is an operand like any other
 abbrev pub j_of : Step → Option Operand
 j_of x = option_map (operand x.vj) (sources_of x.instr).j
 
@@ -58,12 +58,12 @@ step_unit x = unit_of x.instr.op
 abbrev pub step_dest : Step → Option ℕ
 step_dest x = dest_of x.instr
 
--- what takes a station takes one of this pool
+-- an instruction that takes a station takes one of this pool
 abbrev pub is_in : PoolId → Option PoolId → Bool
 is_in pool None = false
 is_in pool (Some other) = place_of_pool other == place_of_pool pool
 
--- a number that is there, and is this one
+-- there is a number, and it is n
 abbrev pub is_number : Option ℕ → ℕ → Bool
 is_number None n = false
 is_number (Some m) n = m == n

@@ -1,6 +1,6 @@
--- What the operations compute on words of 32 bits, signed values in two's complement
--- (RV32I, sections 2.4 "Integer Computational Instructions" and 2.5 "Control Transfer
--- Instructions"; M, sections 7.1 "Multiplication Operations" and 7.2 "Division Operations").
+-- The results of operations on words of 32 bits, signed values in two's complement (RV32I, sections 2.4 "Integer
+-- Computational Instructions" and 2.5 "Control Transfer Instructions"; M, sections 7.1 "Multiplication Operations"
+-- and 7.2 "Division Operations").
 use Rattle.std.specs.Prelude.{ℕ, ◌+◌, ◌-◌, ◌*◌, ◌/◌, ◌%◌, ◌^◌, ℤ, pos, ◌*ℤ◌, int_lt, int_div, int_rem, bit_and}
 use Rattle.std.specs.Prelude.{bit_or, bit_xor, if◌then◌else◌, nat_lt, nat_eq, Bool, false, not}
 use Rattle.std.specs.Int.{cast_signed, cast_unsigned, int_shr, w32, w64}
@@ -21,7 +21,7 @@ sum a b = (a + b) % 2 ^ 32
 abbrev pub difference : ℕ → ℕ → ℕ
 difference a b = (a + (2 ^ 32 - b)) % 2 ^ 32
 
--- 1 where the test is true, else 0
+-- 1 if the test is true, else 0
 abbrev pub flag : Bool → ℕ
 flag t = if t then 1 else 0
 
@@ -40,11 +40,11 @@ shifted_signed a b = cast_unsigned w32 (int_shr (signed a) (b % 32))
 abbrev pub high_half : ℤ → ℕ
 high_half z = cast_unsigned w64 z / 2 ^ 32
 
--- rounded toward zero; all ones by zero
+-- the quotient, rounded toward zero; all ones if the divisor is 0
 abbrev pub quotient : ℕ → ℕ → ℕ
 quotient a b = if nat_eq b 0 then 2 ^ 32 - 1 else cast_unsigned w32 (int_div (signed a) (signed b))
 
--- of the dividend's sign; the dividend by zero
+-- the remainder, with the dividend's sign; the dividend if the divisor is 0
 abbrev pub remainder : ℕ → ℕ → ℕ
 remainder a b = if nat_eq b 0 then a else cast_unsigned w32 (int_rem (signed a) (signed b))
 
@@ -89,7 +89,7 @@ muldiv_of Rem a b = remainder a b
 muldiv_of Remu a b = remainder_unsigned a b
 muldiv_of _ a b = 0
 
--- whether the branch's comparison holds
+-- the branch's comparison holds
 abbrev pub is_taken : Op → ℕ → ℕ → Bool
 is_taken Beq a b = nat_eq a b
 is_taken Bne a b = not (nat_eq a b)

@@ -1,4 +1,4 @@
-//! Loads and stores by address: what an access reads or writes, where all of its bytes lie in memory.
+//! Loads and stores by address: what an access reads or writes if all of its bytes are in memory.
 
 ghost use Rattle.std.specs.Prelude.{◌≡◌};
 ghost use Rattle.tomex_steps.specs.Memory.{from_byte, from_half};
@@ -36,7 +36,7 @@ impl<A: Allocator> Memory<A> {
     ghost use Rattle.tomex_steps.specs.Memory.{from_byte, from_half, byte_read, half_read, word_read, byte_written};
     ghost use Rattle.tomex_steps.specs.Memory.{half_written, word_written};
 
-    /// The byte at an address, its sign extended; `None` where it lies outside memory.
+    /// The byte at an address, its sign extended; `None` if it lies outside memory.
     #[inline(always)]
     pub fn load_byte(&self, address: u32) -> Option<u32>
         ensures { IsLoadedFrom self.now address 1 (λ m i. from_byte (byte_read m i)) result }
@@ -81,7 +81,7 @@ impl<A: Allocator> Memory<A> {
         Some(u32::from(self.half(place)))
     }
 
-    /// Writes the low byte of a word at an address, and answers whether it lies in memory.
+    /// Writes the low byte of a word at an address; true if the address lies in memory.
     #[inline(always)]
     pub fn store_byte(&mut self, address: u32, value: u32) -> bool
         ensures place { HasStoredAt address 1

@@ -1,4 +1,4 @@
-//! One step of RV32IM: what an instruction with its operands says of itself, computes and stores.
+//! One step of RV32IM: what an instruction with its operands reads, computes and stores.
 //!
 //! Source: The RISC-V Instruction Set Manual, Volume I: Unprivileged ISA, version 20191213,
 //! chapters "RV32I Base Integer Instruction Set" 2.1 and "M Standard Extension" 2.0.

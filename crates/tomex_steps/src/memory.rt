@@ -9,8 +9,8 @@ use std::marker::Model;
 
 /// The bytes of a window, little-endian. The byte at place k is the one at address `base + k`.
 ///
-/// An access finds its place first, by the one test of what is inside; the reads and writes
-/// behind it need no further test.
+/// An access first finds its place, by the only bounds test; the reads and writes after that need
+/// none.
 #[derive(Debug, Drop)]
 pub struct Memory<A: Allocator = Global> {
     base: u32,
@@ -26,7 +26,7 @@ impl<A: Allocator> Model for Memory<A> {
 }
 
 impl<A: Allocator> Memory<A> {
-    /// The memory of these bytes, the first of them at `base`. Takes no memory.
+    /// The memory of these bytes, the first of them at `base`. Allocates nothing.
     pub fn new(base: u32, bytes: Vec<u8, A>) -> Self
         requires { base + length bytes.items ≤ 2 ^ 32 }
         ensures { result ≡ record { base = base; bytes = bytes.items } }
@@ -34,15 +34,15 @@ impl<A: Allocator> Memory<A> {
         Memory { base, bytes }
     }
 
-    /// Holds these bytes from here on, the first of them at `base`, in the memory that it has where
-    /// that is enough.
+    /// Replaces the contents by these bytes, the first of them at `base`, in the memory that it
+    /// already has if that is enough.
     pub fn reload(&mut self, base: u32, bytes: &[u8]) -> Result<(), AllocError>
         requires { base + length bytes.now ≤ 2 ^ 32 }
         ensures ok { OnOk result (self.new ≡ record { base = base; bytes = bytes.now }) }
         ensures err { OnErr result (self.new ≡ self.old) }
         ensures fits { length bytes.now ≤ length self.old.bytes → IsOk result }
     {
-        // All that may be refused comes first, while the old bytes are still there.
+        // The allocation comes first, while the old bytes are still there.
         let more = bytes.len().saturating_sub(self.bytes.len());
         self.bytes.reserve_exact(more)?;
         self.bytes.clear();
@@ -66,8 +66,8 @@ impl<A: Allocator> Memory<A> {
         self.bytes.as_slice()
     }
 
-    /// The place of an address, where so many bytes from it on are inside. Addresses don't
-    /// wrap: four bytes at fffffffe are never inside.
+    /// The place of an address, if `count` bytes from it on are inside. Addresses don't wrap: four
+    /// bytes at fffffffe are never inside.
     pub fn place(&self, address: u32, count: u32) -> Option<usize>
         ensures some { IfSome result
             (λ i. IsTrue (is_inside self.now.base (length self.now.bytes) address count)

@@ -1,5 +1,5 @@
-//! What the operation of one step computes and does, once its operands are there: its result, its
-//! store, and the pc that follows it. For machines that carry values apart from registers.
+//! The operation of one step, once its operands are there: its result, its store, and the next pc.
+//! For machines that carry values outside registers.
 
 ghost use Rattle.std.specs.Prelude.{ℕ, ◌≡◌, IfSome, IsSome, IsTrue, Some, true};
 ghost use Rattle.tomex_rvdec.specs.Meaning.{form_of};
@@ -15,7 +15,7 @@ use crate::words::{alu, muldiv, taken};
 use std::alloc::Allocator;
 use tomex_rvdec::{Form, Op, PoolId};
 
-/// What a load gets; `None` where a byte of it lies outside memory.
+/// The value of a load; `None` if one of its bytes lies outside memory.
 #[tactic(auto, using(crate::proofs::Bytes::half_loaded, crate::proofs::Bytes::word_loaded))]
 fn loaded<A: Allocator>(op: Op, address: u32, memory: &Memory<A>) -> Option<u32>
     requires { is_in pools.Load (pool_of op) ≡ true }
@@ -43,7 +43,7 @@ fn second(step: &Step) -> u32
     }
 }
 
-/// What the operation of an arithmetic unit computes from its operands, its immediate and its pc.
+/// The result of an arithmetic unit's operation on its operands, its immediate and its pc.
 fn computed(step: &Step) -> u32
     requires { pool_of step.now.instr.op ≡ Some pools.Alu }
     ensures { (byte : ℕ → ℕ) → result ≡ result_of step.now byte }
@@ -58,9 +58,9 @@ fn computed(step: &Step) -> u32
     }
 }
 
-/// The result of a step, what its destination gets; 0 where the step writes no register.
+/// The result of a step, for its destination; 0 if the step writes no register.
 ///
-/// `None` only where a byte of its access lies outside memory.
+/// `None` only if a byte of its access lies outside memory.
 pub fn result<A: Allocator>(step: &Step, memory: &Memory<A>) -> Option<u32>
     ensures value { IfSome result (λ v. v ≡ result_of step.now (byte_in memory.now)) }
     ensures inside { IsInside memory.now step.now → IsSome result }
@@ -72,8 +72,8 @@ pub fn result<A: Allocator>(step: &Step, memory: &Memory<A>) -> Option<u32>
     }
 }
 
-/// The result of a step whose operation runs in this pool, for callers that know which: its own dispatch is
-/// over the operations of one pool alone.
+/// The result of a step whose operation runs in this pool, for callers that know which: it chooses
+/// only among the operations of one pool.
 #[inline(always)]
 pub fn result_in<A: Allocator>(pool: PoolId, step: &Step, memory: &Memory<A>) -> Option<u32>
     requires { pool_of step.now.instr.op ≡ Some pool }
@@ -102,8 +102,8 @@ pub fn result_in<A: Allocator>(pool: PoolId, step: &Step, memory: &Memory<A>) ->
     }
 }
 
-/// Writes the bytes of a step's store. Every other step, and a store with a byte outside memory,
-/// leaves memory as it was.
+/// Writes the bytes of a step's store. Any other step, and a store with a byte outside memory,
+/// leaves memory unchanged.
 pub fn store<A: Allocator>(step: &Step, memory: &mut Memory<A>)
     ensures stored { HasStored step.now memory.old memory.new }
     ensures outside { (IsInside memory.old step.now → ⊥) → memory.new ≡ memory.old }
@@ -123,7 +123,7 @@ pub fn store<A: Allocator>(step: &Step, memory: &mut Memory<A>)
     }
 }
 
-/// The pc after a step. Whether it is a multiple of 4 and in memory is for others to say.
+/// The pc after a step. Others test that it is a multiple of 4 and in memory.
 pub fn next_pc(step: &Step) -> u32
     ensures { result ≡ next_pc_of step.now }
 {

@@ -1,25 +1,25 @@
-//! One step of a run, and what it says of itself.
+//! One step of a run, and what follows from it.
 
 ghost use Rattle.std.specs.Prelude.{◌≡◌, ◌≤◌};
 ghost use Rattle.tomex_steps.specs.Steps.{access_size, bytes_at};
 
 use tomex_rvdec::{Instr, Op, PoolId, UnitId};
 
-/// A source register that an instruction reads, with the value that it holds then.
+/// A source register that an instruction reads, with its value at that step.
 #[derive(Clone, Copy, Debug, PartialEq, Eq)]
 pub struct Operand {
     pub register: u8,
     pub value: u32,
 }
 
-/// The bytes of an access: addresses from `from` up to, and without, `to`. They don't wrap.
+/// The bytes of an access: addresses from `from` to `to`, exclusive. They don't wrap.
 #[derive(Clone, Copy, Debug, PartialEq, Eq)]
 pub struct ByteRange {
     pub from: u64,
     pub to: u64,
 }
 
-/// How many bytes an operation reads or writes, 0 where it touches no memory.
+/// The number of bytes that an operation reads or writes; 0 if it touches no memory.
 fn access_size(op: Op) -> u64
     ensures value { result ≡ access_size op }
     ensures word { result ≤ 4 }
@@ -33,7 +33,7 @@ fn access_size(op: Op) -> u64
 }
 
 impl ByteRange {
-    /// The bytes that a load or store touches at its address; None for every other operation.
+    /// The bytes that a load or store touches at its address; `None` for every other operation.
     pub fn at(op: Op, address: u32) -> Option<ByteRange>
         ensures { result ≡ bytes_at op address }
     {
@@ -51,18 +51,18 @@ impl ByteRange {
 
 /// One step: an instruction at an address, and the values of its source registers.
 ///
-/// Everything else that a timing model asks of a step follows from these, so no list of
-/// steps can say two things of one instruction.
+/// Everything else that a timing model needs of a step follows from these, so no list of steps can
+/// contradict itself about an instruction.
 #[derive(Clone, Copy, Debug, PartialEq, Eq)]
 pub struct Step {
-    // First, so that the machine's hot loop reads its fields in the words that it wrote.
+    // First, so that the machine's hot loop reads its fields as the words that it wrote.
     pub instr: Instr,
     /// The address of the instruction.
     pub pc: u32,
-    /// The value of the register that the rs1 field names. Zero where the operation has no such
-    /// field; FENCE has one, which it keeps and doesn't read.
+    /// The value of the register that the rs1 field names. Zero if the operation has no such field;
+    /// FENCE has one, which it keeps and doesn't read.
     pub vj: u32,
-    /// The value of the register that the rs2 field names, and zero where there is no such field.
+    /// The value of the register that the rs2 field names, zero if there is no such field.
     pub vk: u32,
 }
 
@@ -94,7 +94,7 @@ impl Step {
         self.instr.dest()
     }
 
-    /// The operand rs1, where the instruction reads it.
+    /// The operand rs1, if the instruction reads it.
     pub fn j(&self) -> Option<Operand>
         ensures value { result ≡ j_of self.now }
         ensures register { IfSome result (λ o. o.register < 32) }
@@ -108,7 +108,7 @@ impl Step {
         }
     }
 
-    /// The operand rs2, where the instruction reads it.
+    /// The operand rs2, if the instruction reads it.
     pub fn k(&self) -> Option<Operand>
         ensures value { result ≡ k_of self.now }
         ensures register { IfSome result (λ o. o.register < 32) }
@@ -122,7 +122,7 @@ impl Step {
         }
     }
 
-    /// The bytes that a load or store touches; None for every other instruction.
+    /// The bytes that a load or store touches; `None` for every other instruction.
     pub fn bytes(&self) -> Option<ByteRange>
         ensures { result ≡ bytes_of self.now }
     {
@@ -130,14 +130,14 @@ impl Step {
         ByteRange::at(self.instr.op(), address)
     }
 
-    /// Whether what follows the step depends on it: a conditional branch or JALR.
+    /// True if the next instruction depends on it: a conditional branch or JALR.
     pub fn is_branch(&self) -> bool
         ensures { result ≡ is_branch self.now }
     {
         matches!(self.pool(), Some(PoolId::Bru))
     }
 
-    /// Whether the step writes memory.
+    /// True if the step writes memory.
     pub fn is_store(&self) -> bool
         ensures { result ≡ is_store self.now }
     {

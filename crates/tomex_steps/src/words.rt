@@ -1,4 +1,4 @@
-//! What the operations compute on words of 32 bits.
+//! The results of operations on words of 32 bits.
 
 ghost use Rattle.std.specs.Prelude.{◌≡◌, ◌/◌, ◌^◌, ◌*ℤ◌, pos, FitsSigned};
 ghost use Rattle.std.specs.Int.{w32};
@@ -82,7 +82,7 @@ fn rest(a: u32, b: u32) -> u32
 
 /// The result of an operation of M on its two operands; 0 for every other operation.
 ///
-/// Division by zero and the one overflow have the manual's answers: they are no faults.
+/// Division by zero and the one overflow have the manual's answers: they don't fault.
 #[inline(never)]
 pub fn muldiv(op: Op, a: u32, b: u32) -> u32
     ensures { result ≡ muldiv_of op a b }
@@ -100,8 +100,7 @@ pub fn muldiv(op: Op, a: u32, b: u32) -> u32
     }
 }
 
-/// Whether a conditional branch is taken, given its two operands; false for every other
-/// operation.
+/// True if a conditional branch with these two operands is taken; false for every other operation.
 #[inline(always)]
 pub fn taken(op: Op, a: u32, b: u32) -> bool
     ensures { result ≡ is_taken op a b }

@@ -1,4 +1,4 @@
--- What files tell of a name.
+-- What is known about a file, by its name.
 use Rattle.std.specs.Prelude.{◌≡◌, ℕ, List, Option, Some, None}
 use Rattle.std.specs.Borrow.{Bor}
 
@@ -6,24 +6,24 @@ use Rattle.std.specs.Borrow.{Bor}
 abbrev pub most_bytes : ℕ
 most_bytes = 268435456
 
--- nothing; or that no file of the name can be read; or the bytes of the file
+-- nothing is known; or no file of the name can be read; or the bytes of the file
 pub data Told : Type 0 where
   Nothing : Told
   NoFile : Told
   Bytes : List ℕ → Told
 
--- what is told of a name by the entry that holds its bytes, or by none
+-- what is known about a name, by the entry that holds its bytes, if there is one
 abbrev pub told_of : Option (Bor (List ℕ) × Bor (List ℕ)) → Told
 told_of None = NoFile
 told_of (Some entry) = Bytes entry.1.now
 
--- these bytes may be read where that is told
+-- these bytes may be read if that is known
 abbrev pub IsRead : Told → List ℕ → Type 0
 IsRead Nothing bytes = Unit {0}
 IsRead NoFile bytes = ⊥
 IsRead (Bytes held) bytes = bytes ≡ held
 
--- reading may fail where that is told
+-- reading may fail if that is known
 abbrev pub IsMissing : Told → Type 0
 IsMissing Nothing = Unit {0}
 IsMissing NoFile = Unit {0}

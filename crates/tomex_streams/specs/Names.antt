@@ -1,4 +1,4 @@
--- How a file's name is shown in a line of text.
+-- The text of a file's name in a line.
 use Rattle.std.specs.Prelude.{ℕ, ◌==◌, false, List, ◌++◌, codes, if◌then◌else◌}
 use Rattle.std.specs.Char.{encode_utf8, is_control}
 use Rattle.std.specs.Fmt.{digits}

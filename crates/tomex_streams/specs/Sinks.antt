@@ -1,4 +1,4 @@
--- What a put does to a sink's count of faults, and a write to a sink.
+-- The effect of a put on a sink's count of faults, and of a write on a sink.
 use Rattle.std.specs.Prelude.{◌≡◌, ◌⊎◌, ℕ, ◌-◌, ◌^◌, ◌<◌, List, length, take, Option}
 use Rattle.std.specs.Io.KnownBytes.{Appends}
 
@@ -6,7 +6,7 @@ use Rattle.std.specs.Io.KnownBytes.{Appends}
 abbrev pub Rises : ℕ → ℕ → Type 0
 Rises old new = old < 2 ^ 64 - 1 → old < new
 
--- a sink as contracts see it: the bytes that it took, where it tells them, and its count of faults
+-- a sink as contracts see it: the bytes that it took, if they are known, and its count of faults
 pub record Seen : Type 0 where
   pub taken : Option (List ℕ)
   pub faults : ℕ
@@ -22,6 +22,6 @@ pub record IsCut (text : List ℕ) (old new : Seen) : Type 0 where
   pub taken : Appends old.taken new.taken (take count text)
   pub fault : Rises old.faults new.faults
 
--- the text was written, as far as the sink took it
+-- the text was written as far as the sink took it
 abbrev pub IsWritten : List ℕ → Seen → Seen → Type 0
 IsWritten text old new = IsWhole text old new ⊎ IsCut text old new

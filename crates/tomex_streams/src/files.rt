@@ -1,4 +1,4 @@
-//! Where images and studies are read from.
+//! The files from which images and studies are read.
 ghost use Rattle.std.specs.Prelude.{◌≡◌, ℕ, ◌≤◌, List, length, IfOk, IfSome, IsErrOf};
 ghost use Rattle.tomex_streams.specs.Files.{Told, Nothing, IsRead, IsMissing, most_bytes};
 
@@ -6,18 +6,18 @@ use std::alloc::Allocator;
 use std::fs::File;
 use std::io::{ErrorKind, Read};
 
-/// A file was not read.
+/// Why a file was not read.
 #[derive(Clone, Copy, Debug, PartialEq, Eq)]
 pub enum ReadFault {
-    /// There is no such file, or it is a folder, too long, or may not or could not be read.
+    /// There is no such file, or it is a folder, too long, or can't be read.
     NoFile,
-    /// There was no memory for its bytes.
+    /// Out of memory for its bytes.
     Memory,
 }
 
-/// Where files are read, by their names as written.
+/// A place to read files by their names, as written.
 pub trait Files {
-    /// What is known of the file of a name.
+    /// What is known about the file with a name.
     ghost file: { Self → List ℕ → Told };
 
     /// All bytes of a file.
@@ -29,8 +29,8 @@ pub trait Files {
 /// The most bytes of a file that is read: 256 MiB, far above any image or study.
 const MOST_BYTES: u32 = 268_435_456;
 
-/// All bytes of a reader, if they are at most `most`. Of a longer one, such as a device without an end,
-/// only one byte more is read.
+/// All bytes of a reader, if they are at most `most`. From a longer one, such as a device without
+/// an end, it reads only one more byte.
 pub fn bytes_within<R: Read + Drop, A: Allocator>(
     alloc: A,
     reader: R,
@@ -55,7 +55,8 @@ fn host_bytes<R: Read + Drop, A: Allocator>(alloc: A, file: R) -> Result<Vec<u8,
     bytes_within(alloc, file, MOST_BYTES)
 }
 
-/// The files of the system, below the current folder where a name is relative. What they hold is not known.
+/// The files of the system, below the current folder if a name is relative. Their contents are not
+/// known.
 #[derive(Drop)]
 pub struct HostFiles<'a, R> {
     pub rt: &'a R,

@@ -1,5 +1,5 @@
-//! What the program reads from and writes to: files, read whole, sinks, which may take less than they are
-//! given, and the names of files as they are shown.
+//! The program's input and output: files, which are read whole; sinks, which may take less than
+//! they are given; and the names of files, as they are shown.
 #![tactic(auto)]
 
 mod files;

@@ -1,4 +1,4 @@
-//! How far long work is, shown while it goes on.
+//! Progress meters for long work.
 
 ghost use Rattle.std.specs.Prelude.{◌≡◌, IfSome};
 
@@ -6,19 +6,19 @@ use std::io::{IsTerminal, Stderr, Write};
 use std::sync::atomic::{AtomicU64, Ordering};
 use std::time::Clock;
 
-/// Milliseconds between two lines, at least.
+/// The least time between two lines, in milliseconds.
 const PAUSE: u64 = 100;
 
-/// Where it is shown how far long work is. Several threads may call it at a time.
+/// Shows progress. Several threads may call it at once.
 pub trait Meter {
-    /// So many of so many configurations are over.
+    /// Shows that `done` of `of` configurations are finished.
     fn show(&self, done: u64, of: u64);
 
-    /// The work is over, and what was shown goes.
+    /// Removes what is shown; the work is finished.
     fn clear(&self);
 }
 
-/// Shows nothing.
+/// A meter that shows nothing.
 #[derive(Clone, Copy, Debug)]
 pub struct NoMeter;
 
@@ -28,19 +28,19 @@ impl Meter for NoMeter {
     fn clear(&self) {}
 }
 
-/// A line of the terminal that standard error is, written over at most ten times a second. Where
-/// standard error is no terminal nothing is written. A line that can't be written is left out.
+/// A line on the terminal of standard error, overwritten at most ten times a second. If standard
+/// error is not a terminal, nothing is written. A line that can't be written is skipped.
 #[derive(Drop)]
 pub struct TerminalMeter<'a, R: Clock> {
     clock: &'a R,
     terminal: Option<Stderr>,
-    /// When a line was written last, or when the meter was made: the clock's milliseconds.
+    /// When the last line was written, or the meter was made, in milliseconds of the clock.
     last: AtomicU64,
-    /// How many lines were written.
+    /// The number of lines that were written.
     lines: AtomicU64,
 }
 
-/// The clock's milliseconds, 0 where it can't be read.
+/// The clock's time in milliseconds; 0 if it can't be read.
 fn milliseconds(clock: &impl Clock) -> u64 {
     match clock.monotonic() {
         Ok(time) => time
@@ -70,7 +70,8 @@ impl<'a, R: Clock> TerminalMeter<'a, R> {
         }
     }
 
-    /// Whether it is time for another line. Of several threads that ask at once one is told so.
+    /// True if it is time for another line. If several threads ask at once, it is true for only
+    /// one.
     fn is_due(&self) -> bool {
         let now = milliseconds(self.clock);
         let last = self.last.load(Ordering::SeqCst);

@@ -22,8 +22,8 @@ pub fn push_shown<A: Allocator>(text: &mut String<A>, letter: char) -> Result<()
     }
 }
 
-/// A name as it is shown in a line of text: no control character in it reaches the terminal, so that
-/// one line stays one.
+/// A name as it is shown in a line of text: none of its control characters reaches the terminal, so
+/// that one line stays one.
 pub fn shown(heap: Global, name: &str) -> Result<String, AllocError>
     ensures { IfOk result (λ text. string_bytes text ≡ shown_name name.now) }
 {

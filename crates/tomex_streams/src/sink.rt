@@ -1,4 +1,4 @@
-//! Where a text goes: a sink takes bytes a piece at a time, and may take less than it is given or fail.
+//! Output: a sink takes bytes piece by piece, and may take less than it is given or fail.
 ghost use Rattle.std.specs.Prelude.{◌≡◌, ◌<◌, ◌≤◌, length, take, IfOk, IfErr, OnOk, OnErr};
 ghost use Rattle.std.specs.Io.KnownBytes.{Appends, Keeps};
 ghost use Rattle.tomex_streams.specs.Sinks.{Rises, Seen};
@@ -9,18 +9,18 @@ use std::io::Write;
 #[derive(Clone, Copy, Debug, PartialEq, Eq)]
 pub struct PutFault;
 
-/// What takes bytes.
+/// A sink of bytes.
 ///
-/// A contract sees a sink as the bytes that it took, if it tells them, and as a count of its faults:
-/// the puts that failed, or that took nothing of a piece that was not empty. The count is a number of 64
-/// bits in the sink itself, so it stops at its greatest value. Hence `Rises` has a premise: the count went
-/// up unless it stood at that value. No sink can get there, since a put takes longer than a nanosecond
-/// and 2^64 of them would take centuries.
+/// Contracts see a sink as the bytes that it took, if those are known, and a count of its faults:
+/// the puts that failed, or that took nothing of a piece that was not empty. The count is a number
+/// of 64 bits in the sink itself, so it stops at its greatest value. Hence `Rises` has a premise:
+/// the count went up unless it was at that value. No sink can get there, since a put takes longer
+/// than a nanosecond and 2^64 of them would take centuries.
 pub trait Sink {
-    /// The bytes that it took so far, if it tells them, and how many puts were faults.
+    /// The bytes that it took so far, if they are known, and the number of puts that were faults.
     ghost seen: { Self → Seen };
 
-    /// Takes a first part of the piece, and answers how many bytes of it.
+    /// Takes a first part of the piece, and returns its length in bytes.
     fn put(&mut self, piece: &[u8]) -> Result<usize, PutFault>
         ensures within { IfOk result (λ count. count ≤ length piece.now) }
         ensures ok { IfOk result
@@ -35,7 +35,7 @@ pub trait Sink {
             → (seen self.new).faults ≡ (seen self.old).faults) };
 }
 
-/// A write stopped: the sink took this many first bytes, and no more.
+/// A write stopped: the sink took only this number of first bytes.
 #[derive(Clone, Copy, Debug, PartialEq, Eq)]
 pub struct WriteFault {
     pub written: usize,
@@ -48,7 +48,7 @@ pub fn write_all_of<W: Sink>(sink: &mut W, bytes: &[u8]) -> Result<(), WriteFaul
         (λ fault. Appends (W.seen sink.old).taken (W.seen sink.new).taken (take fault.written bytes.now)) }
     ensures short { IfErr result (λ fault. fault.written < length bytes.now) }
 
-    // It fails by a fault of the sink, and by nothing else.
+    // It fails only by a fault of the sink.
     ensures fault { OnErr result (Rises (W.seen sink.old).faults (W.seen sink.new).faults) }
     ensures no_fault { OnOk result ((W.seen sink.new).faults ≡ (W.seen sink.old).faults) }
 {
@@ -63,12 +63,13 @@ pub fn write_all_of<W: Sink>(sink: &mut W, bytes: &[u8]) -> Result<(), WriteFaul
     Ok(())
 }
 
-/// A writer of the standard library as a sink, as the standard output is one. A write that a signal
-/// interrupts is a fault like any other: the program installs no handler, so none is.
+/// A writer of the standard library as a sink, for example standard output. A write that a signal
+/// interrupts is a fault like any other; none is interrupted, since the program installs no
+/// handler.
 #[derive(Drop)]
 pub struct Stream<W: Write + Drop> {
     pub writer: W,
-    /// How many puts were faults.
+    /// The number of puts that were faults.
     pub faults: u64,
 }
 

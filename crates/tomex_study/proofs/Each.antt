@@ -1,4 +1,4 @@
--- What is known of the elements so far, with one more, and with all.
+-- What is known about the elements so far, with one more, and about all.
 use Rattle.std.proofs.Common.{◌≡◌, ◌+◌, ◌++◌, ◌<◌, ◌≤◌, ◌∙◌, ◌∷◌, [], ℕ, List, All, ap, length, map, sym, take, get_or}
 use Rattle.std.proofs.lemmas.List.{map_more, take_all}
 use Rattle.std.proofs.lemmas.List.Elements.{All-more}

@@ -1,4 +1,4 @@
--- What contracts cite: watched ranges, programs that end, and studies.
+-- Definitions that contracts cite: watched ranges, programs that end, and studies.
 pub mod Watch
 pub mod Program
 pub mod Study

@@ -11,8 +11,8 @@ use Rattle.tomex_study.specs.declared.watch.WatchRange.{WatchRange}
 use Rattle.tomex_study.specs.declared.program.ProgramError.{ProgramError}
 use Rattle.tomex_study.specs.declared.program.ProgramError.TheVariants.{Fault, TooLong, Memory}
 
--- what a study has of a program: the bytes of its name, its image, the most steps that it may make,
--- the ranges of its memory that a report shows, and how often its cycles count
+-- what a study knows about a program: the bytes of its name, its image, the most steps that it may make, the ranges
+-- of its memory that a report shows, and the factor by which its cycles count
 pub record Workload : Type 0 where
   pub name : List ℕ
   pub image : Loaded
@@ -34,12 +34,12 @@ pub record IsProgram (p : Workload) : Type 0 where
   pub some_weight : 1 ≤ p.weight
   pub most_weight : p.weight ≤ 1000
 
--- the steps of an image's run within a limit, which are few
+-- the steps of an image's run within a limit, and a bound on their number
 pub record AreSteps (image : Loaded) (limit : ℕ) (steps : List Step) : Type 0 where
   pub run : steps ≡ steps_from limit (start_of image)
   pub few : length steps ≤ 262144
 
--- what the run was refused for
+-- why the run was refused
 abbrev pub refusal_of : ProgramError → RunError
 refusal_of (Fault fault) = errors.Fault fault
 refusal_of TooLong = errors.TooLong

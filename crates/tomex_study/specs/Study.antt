@@ -1,4 +1,4 @@
--- A study: its programs, its configurations, and what each of these costs.
+-- A study: its programs, its configurations, and the cost of each configuration.
 use Rattle.std.specs.Prelude.{◌≡◌, ℕ, ◌≤◌, Bool, List, length, map, Option, All}
 use Rattle.std.specs.List.{find}
 use Rattle.std.specs.Str.{bytes_eq}
@@ -19,12 +19,12 @@ abbrev pub design_space : List Workload → List Configuration → List ℕ → 
 design_space programs rows costs prices wide =
     record { programs = programs; rows = rows; costs = costs; prices = prices; wide = wide }
 
--- what each configuration costs at these prices
+-- the cost of each configuration at these prices
 abbrev pub costs_of : PriceList → List Configuration → List ℕ
 costs_of prices rows = map (λ config. cost_of config prices) rows
 
--- 1 to 8 programs, which end, 1 to 16,384 configurations and the prices within the limits, and what each configuration
--- costs
+-- 1 to 8 programs, which end, 1 to 16,384 configurations and the prices within the limits, and the cost of each
+-- configuration
 pub record IsStudy (s : DesignSpace) : Type 0 where
   pub some_programs : 1 ≤ length s.programs
   pub few_programs : length s.programs ≤ 8

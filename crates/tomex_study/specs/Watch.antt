@@ -12,7 +12,7 @@ is_watchable window range = nat_le 1 range.length && is_inside window.base windo
 abbrev pub watched_bytes : List WatchRange → ℕ
 watched_bytes ranges = sum_by (λ range. range.length) ranges
 
--- few ranges of few bytes, each in the window
+-- at most 8 ranges, each in the window, with at most 4,096 bytes together
 pub record IsWatch (window : Span) (ranges : List WatchRange) : Type 0 where
   pub few : length ranges ≤ 8
   pub inside : All (λ range. is_watchable window range ≡ true) ranges

@@ -1,7 +1,7 @@
-//! Studies: programs that are known to end, the configurations that they are run on, what each of
-//! these costs, and the ranges of memory that a report shows.
+//! Studies: programs that are known to end, the configurations on which they run, the cost of each,
+//! and the ranges of memory that a report shows.
 //!
-//! Nothing here reads a file or runs a machine: a study is made of its parts by whoever has them.
+//! Nothing here reads a file or runs a machine: callers make a study of parts that they have.
 #![tactic(auto)]
 
 mod program;

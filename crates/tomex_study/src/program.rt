@@ -15,9 +15,9 @@ use tomex_image::Image;
 use tomex_rvexec::{Fault, RunError, Step, trace};
 use tomex_timing::Run;
 
-/// A program, which ends within its limit of 1 to 262,144 steps, by a run in order of its image.
-/// At most 8 ranges of its memory are watched, each inside it, together of at most 4,096 bytes. Its
-/// cycles count 1 to 1,000 times.
+/// A program whose run in order ends within its limit of 1 to 262,144 steps. At most 8 ranges of
+/// its memory are watched, each inside it, with at most 4,096 bytes together. Its cycles are
+/// weighted 1 to 1,000.
 #[derive(Debug, Drop)]
 pub struct Program<A: Allocator = Global> {
     name: String<A>,
@@ -43,16 +43,16 @@ impl<A: Allocator> Model for Program<A> {
         × AreSteps p.image p.limit p.run };
 }
 
-/// Why an image is no program of a study.
+/// Why an image can't be a program of a study.
 #[derive(Clone, Copy, Debug, Drop, Error, PartialEq, Eq)]
 pub enum ProgramError {
     /// An instruction of its run can't be carried out.
     #[error("fault: {0}")]
     Fault(Fault),
-    /// Its run makes as many steps as the limit allows, and neither ends nor faults.
+    /// Its run neither ends nor faults within the limit.
     #[error("too long")]
     TooLong,
-    /// Memory for its run was refused.
+    /// Out of memory for its run.
     #[error("out of memory")]
     Memory,
 }
@@ -78,7 +78,7 @@ impl From<AllocError> for ProgramError {
 }
 
 impl<A: Allocator + Clone> Program<A> {
-    /// The program of this image, which is run to find whether it ends. The run takes as much
+    /// The program of this image, which is run to test that it ends. The run allocates as much
     /// memory as the image has, and 68 bytes a step, which the program keeps.
     pub fn new(
         alloc: A,
@@ -119,7 +119,7 @@ impl<A: Allocator> Program<A> {
         let _limit = self.limit;
     }
 
-    /// The name by which the study calls it.
+    /// Its name in the study.
     pub fn name(&self) -> &str
         ensures value { result.now ≡ self.now.name }
     {
@@ -147,7 +147,7 @@ impl<A: Allocator> Program<A> {
         self.watch.as_slice()
     }
 
-    /// How often its cycles count.
+    /// The factor by which its cycles count.
     pub fn weight(&self) -> u32
         ensures value { result ≡ self.now.weight }
         ensures range { (1 ≤ result) × (result ≤ 1000) }

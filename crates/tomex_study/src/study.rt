@@ -1,4 +1,4 @@
-//! A study: what an exploration is made of.
+//! A study: the input of an exploration.
 
 ghost use Rattle.std.specs.Prelude.{◌≡◌, ◌≤◌, length, slice_get, option_copied, All, IfOk, IfSome};
 ghost use Rattle.tomex_config.specs.Configuration.{IsWithinLimits};
@@ -10,9 +10,9 @@ use std::alloc::{AllocError, Allocator, Global};
 use std::marker::Model;
 use tomex_config::{Config, Prices, cost};
 
-/// A study: 1 to 8 programs, 1 to 16,384 configurations in any order, the cost of each, the prices that
-/// the costs are made of, and whether reports show widths and weights. A configuration's row is its
-/// place among them, counted from 0.
+/// A study: 1 to 8 programs, 1 to 16,384 configurations in any order, the cost of each, the prices
+/// that the costs are computed from, and whether reports show widths and weights. A configuration's
+/// row is its place among them, counted from 0.
 #[derive(Debug, Drop)]
 pub struct Study<A: Allocator = Global> {
     programs: Vec<Program<A>, A>,
@@ -32,7 +32,7 @@ impl<A: Allocator> Model for Study<A> {
     ghost invariant = { λ s. IsStudy (design_space s.programs.items s.rows.items s.costs.items s.prices s.wide) };
 }
 
-/// Each program says of itself that it ends.
+/// Takes from each program's law that it ends.
 fn each_ends<A: Allocator>(programs: &[Program<A>])
     ensures { All IsProgram programs.now }
 {
@@ -41,7 +41,7 @@ fn each_ends<A: Allocator>(programs: &[Program<A>])
     }
 }
 
-/// What each configuration costs. Each says of itself that it is within the limits.
+/// The cost of each configuration. Each configuration's law says that it is within the limits.
 fn costs_of<A: Allocator>(
     alloc: A,
     rows: &[Config],
@@ -59,7 +59,7 @@ fn costs_of<A: Allocator>(
 }
 
 impl<A: Allocator> Study<A> {
-    /// The study of these programs and configurations, with what each of these costs.
+    /// The study of these programs and configurations, with the cost of each configuration.
     pub fn new(
         alloc: A,
         programs: Vec<Program<A>, A>,
@@ -109,7 +109,7 @@ impl<A: Allocator> Study<A> {
         self.rows.as_slice()
     }
 
-    /// What each configuration costs, in the order of their rows.
+    /// The cost of each configuration, in the order of the rows.
     pub fn costs(&self) -> &[u64]
         ensures value { result.now ≡ self.now.costs }
     {
@@ -123,7 +123,7 @@ impl<A: Allocator> Study<A> {
         self.prices
     }
 
-    /// Whether reports show the widths of configurations and the weights of programs.
+    /// True if reports show the widths of configurations and the weights of programs.
     pub fn wide(&self) -> bool
         ensures value { result ≡ self.now.wide }
     {

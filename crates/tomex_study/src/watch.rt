@@ -5,7 +5,7 @@ ghost use Rattle.tomex_study.specs.Watch.{is_watchable, watched_bytes, IsWatch};
 
 use tomex_image::Window;
 
-/// So many bytes of memory, from an address on.
+/// `length` bytes of memory, from `address` on.
 #[derive(Clone, Copy, Debug, PartialEq, Eq)]
 pub struct WatchRange {
     pub address: u32,
@@ -13,7 +13,7 @@ pub struct WatchRange {
 }
 
 impl WatchRange {
-    /// Whether there is at least one byte, and all lie in the window. Addresses don't wrap.
+    /// True if there is at least one byte and all lie in the window. Addresses don't wrap.
     pub fn is_inside(self, window: Window) -> bool
         ensures { result ≡ is_watchable window self }
     {
@@ -22,7 +22,7 @@ impl WatchRange {
     }
 }
 
-/// How many bytes all ranges have together.
+/// The number of bytes in all ranges together.
 pub fn watched_bytes(ranges: &[WatchRange]) -> u64
     requires { length ranges.now ≤ 8 }
     ensures { result ≡ watched_bytes ranges.now }
@@ -34,7 +34,7 @@ pub fn watched_bytes(ranges: &[WatchRange]) -> u64
     bytes
 }
 
-/// Whether a program in that window may have these ranges: there are at most 8, each lies in the
+/// True if a program in that window may have these ranges: there are at most 8, each lies in the
 /// window, and together they have at most 4,096 bytes.
 pub fn can_watch(window: Window, ranges: &[WatchRange]) -> bool
     ensures { IsTrue result ↔ IsWatch window ranges.now }

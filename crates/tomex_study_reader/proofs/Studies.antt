@@ -15,8 +15,8 @@ use Rattle.tomex_study.specs.declared.program.ProgramError.{ProgramError}
 use Rattle.tomex_study.specs.declared.program.ProgramError.TheVariants as programs
 use Rattle.tomex_study.specs.Study.{DesignSpace, costs_of}
 use Rattle.tomex_document.specs.Program.{ProgramEntry}
-use Rattle.tomex_study_reader.specs.Study.{AreProgramsOf, FailsToEnd, IsFileRefusal, IsFirstRefusal, IsProgramOf, IsStudyRefusal}
-use Rattle.tomex_study_reader.specs.Study.{IsRefusalOfFiles, IsStudyOf}
+use Rattle.tomex_study_reader.specs.Study.{AreProgramsOf, FailsToEnd, IsFileRefusal, IsFirstRefusal, IsProgramOf}
+use Rattle.tomex_study_reader.specs.Study.{IsStudyRefusal, IsRefusalOfFiles, IsStudyOf}
 use Rattle.tomex_study_reader.specs.declared.error.StudyError.{StudyError}
 use Rattle.tomex_study_reader.specs.declared.error.StudyError.TheVariants.{Memory}
 use Rattle.tomex_values.specs.declared.error.DocumentError.{DocumentError}
@@ -32,7 +32,7 @@ in_window file window image here = at (is_elf file) here
     at true here = here.0
     at false here = here.0
 
--- one program more
+-- one more program
 pub one_more : (place : ℕ) (entries : List ProgramEntry) (files : List (List ℕ)) (programs : List Workload)
     (entry : ProgramEntry) (file : List ℕ) (program : Workload)
     → slice_get entries place ≡ Some entry → slice_get files place ≡ Some file
@@ -51,7 +51,7 @@ one_more place [] files programs entry file program entry_is file_is older is =
 one_more place (e ∷ es) [] programs entry file program entry_is file_is older is =
     absurd (let none : None ≡ Some file = file_is in cc)
 
--- the first program that is refused, if memory was not
+-- the first program that is refused, unless out of memory
 pub first_refusal : (place : ℕ) (entries : List ProgramEntry) (files : List (List ℕ)) (programs : List Workload)
     (entry : ProgramEntry) (file : List ℕ) (error : StudyError)
     → slice_get entries place ≡ Some entry → slice_get files place ≡ Some file
@@ -70,7 +70,7 @@ first_refusal place entries files programs entry file error entry_is file_is old
       refusal = refusal;
     })
 
--- the same of what stands at a place of the files, and of the programs after a push
+-- the same for the file at a place, and for the programs after a push
 pub pushed : (place : ℕ) (entries : List ProgramEntry) (files : List (List ℕ)) (programs after : List Workload)
     (entry : ProgramEntry) (file : List ℕ) (program : Workload)
     → slice_get entries place ≡ Some entry → slice_get files place ≡ Some file
@@ -80,7 +80,7 @@ pub pushed : (place : ℕ) (entries : List ProgramEntry) (files : List (List ℕ
 pushed place entries files programs after entry file program entry_is file_is older is grown =
     rw (add-one, grown) (one_more place entries files programs entry file program entry_is file_is older is)
 
--- a program whose run is refused is told so by its name, if there was memory for that
+-- a program whose run is refused is reported with its name, if there was memory for it
 pub unfit_refused : (entry : ProgramEntry) (file : List ℕ) (name : Result (String Global) AllocError)
     (error : ProgramError) (refusal : StudyError) → IfOk name (λ n. string_bytes n ≡ entry.name)
     → IfOk name (λ n. refusal ≡ unfit_as n error) → OnErr name (refusal ≡ Memory)
@@ -102,7 +102,7 @@ all_programs seen place entries files programs long past here =
     let count = length-map files seen in
     rw (take_all place entries past, take_all place (map seen files) (omega arith)) at here
 
--- what is read at a place
+-- the item that is read at a place
 pub item_is : {X : Type 0} (xs : List X) (place : ℕ) (x : X) → place < length xs → x ≡ get_or xs place x
     → slice_get xs place ≡ Some x
 item_is xs place x within read = slice_get_read xs (length xs) place x refl within read
@@ -114,7 +114,7 @@ seen_is seen xs n place x y count within read is =
     let there : place < length xs = omega (arith, count, within) in
     slice_get-map seen xs place ∙ rw (item_is xs place x there read) (ap Some (sym is))
 
--- a refused document: memory was refused, or its test is told
+-- a refused document: out of memory, or the refusal says which test failed
 pub names_refused : (bytes : List ℕ) (fault : DocumentError) (error : StudyError) → error ≡ told_as fault
     → (fault ≢ documents.Memory → document_of bytes ≡ Err fault) → (error ≡ Memory) ⊎ IsDocumentRefusal bytes error
 names_refused bytes documents.Memory error told given = inl told
@@ -142,7 +142,7 @@ files_refused : (bytes : List ℕ) (files : List (List ℕ)) (document : Documen
 files_refused bytes files document error read (inl memory) = inl memory
 files_refused bytes files document error read (inr refusal) = inr (inr (document, read, refusal))
 
--- what was made of the document and the files is their study
+-- the result of the document and the files is their study
 pub study_made : (bytes : List ℕ) (files : List (List ℕ)) (document : Document) (result : Result DesignSpace StudyError)
     → document_of bytes ≡ Ok document
     → IfOk result (λ s. AreProgramsOf document.programs files s.programs × (grid_of document.axes ≡ Ok s.rows)

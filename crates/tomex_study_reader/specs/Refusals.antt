@@ -1,4 +1,4 @@
--- What the errors of documents, images and programs are told as.
+-- The refusals that report errors of documents, images and programs.
 use Rattle.std.specs.Prelude.{◌≡◌, ℕ, List, Err, String}
 use Rattle.std.specs.Global.{Global}
 use Rattle.tomex_image.specs.declared.error.ImageError.{ImageError}
@@ -21,11 +21,11 @@ told_as (documents.Range place key) = Range place key
 told_as documents.TooMany = TooMany
 told_as documents.Memory = Memory
 
--- a test of the document fails, and the refusal tells which
+-- a test of the document fails, and the refusal says which
 abbrev pub IsDocumentRefusal : List ℕ → StudyError → Type 0
 IsDocumentRefusal bytes error = (fault : DocumentError) × (document_of bytes ≡ Err fault) × (error ≡ told_as fault)
 
--- what the refusal of a file that is no image is, by the program's name
+-- the refusal of a file that can't be loaded, with the program's name
 abbrev pub unloaded_as : String Global → ImageError → StudyError
 unloaded_as name images.Memory = Memory
 unloaded_as name error = Image name error

@@ -1,4 +1,4 @@
--- What the bytes of a study and of its programs' files stand for, or the first test that they fail.
+-- The study of its bytes and its programs' files, or the first test that they fail.
 use Rattle.std.specs.Prelude.{◌≡◌, ◌≢◌, ◌⊎◌, ℕ, List, [], ◌∷◌, length, take, slice_get}
 use Rattle.std.specs.Prelude.{Some, None, Ok, string_bytes, ⊤}
 use Rattle.tomex_image.specs.Image.{Loaded}
@@ -33,7 +33,7 @@ AreProgramsOf (entry ∷ entries) (file ∷ files) (program ∷ programs) =
     IsProgramOf entry file program × AreProgramsOf entries files programs
 AreProgramsOf _ _ _ = ⊥
 
--- the study that the bytes and the files stand for
+-- the study of the bytes and the files
 pub record IsStudyOf (bytes : List ℕ) (files : List (List ℕ)) (study : DesignSpace) : Type 0 where
   pub document : Document
   pub read : document_of bytes ≡ Ok document
@@ -43,7 +43,7 @@ pub record IsStudyOf (bytes : List ℕ) (files : List (List ℕ)) (study : Desig
   pub costs : study.costs ≡ costs_of study.prices study.rows
   pub wide : study.wide ≡ document.wide
 
--- the file is an image of the entry's window, whose run is refused so
+-- the file is an image of the entry's window, whose run is refused with this error
 abbrev pub FailsToEnd : ProgramEntry → List ℕ → RunError → Type 0
 FailsToEnd entry file error =
     (i : Loaded) × placed file entry.window i × (refused file entry.window ≡ None) × IsRefusal i entry.limit error
@@ -57,7 +57,7 @@ IsFileRefusal entry file (Fault name fault) =
 IsFileRefusal entry file (TooLong name) = (string_bytes name ≡ entry.name) × FailsToEnd entry file runs.TooLong
 IsFileRefusal entry file _ = ⊥
 
--- the first file that is not what its entry asks for: all before it are
+-- the first file that is not what its entry asks for; all before it are
 pub record IsFirstRefusal (entries : List ProgramEntry) (files : List (List ℕ)) (error : StudyError) : Type 0 where
   pub place : ℕ
   pub programs : List Workload
@@ -74,7 +74,7 @@ IsRefusalOfFiles document files error =
     ((error ≡ Files) × (length files ≢ length document.programs))
     ⊎ ((length files ≡ length document.programs) × IsFirstRefusal document.programs files error)
 
--- memory was refused, or a test of the document fails, or the document stands and one of its files' tests fails
+-- out of memory, or a test of the document fails, or the document is valid and one of its files' tests fails
 abbrev pub IsStudyRefusal : List ℕ → List (List ℕ) → StudyError → Type 0
 IsStudyRefusal bytes files error =
     (error ≡ Memory)

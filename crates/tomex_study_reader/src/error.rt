@@ -1,4 +1,4 @@
-//! Why the bytes of a study, or the files that it names, are refused.
+//! Why a study's bytes, or the files that it names, are refused.
 
 ghost use Rattle.std.specs.Prelude.{◌≡◌};
 ghost use Rattle.tomex_study_reader.specs.Refusals.{told_as};
@@ -10,23 +10,24 @@ use tomex_image::ImageError;
 use tomex_rvexec::Fault;
 use tomex_values::{DocumentError, Key, Place};
 
-/// The first test that a study fails, or that memory was refused. The tests up to `TooMany` are of the
-/// document alone, those from `Files` to `TooLong` of its programs' files; the last three name the program.
+/// The first test that a study fails, or out of memory. The tests up to `TooMany` are of the
+/// document only, those from `Files` to `TooLong` of its programs' files; the last three name the
+/// program.
 #[derive(Debug, Drop, Error)]
 pub enum StudyError {
-    /// The bytes are no TOML document.
+    /// The bytes aren't a TOML document.
     #[error("study: not TOML")]
     Syntax,
     /// The place has a key that no study has there.
     #[error("study: {0}: unknown key")]
     UnknownKey(Place),
-    /// The place lacks a key that every study has there.
+    /// The place is missing a key that every study has there.
     #[error("study: {0}: {1} missing")]
     MissingKey(Place, Key),
     /// The value of the key is of another kind than a study has there.
     #[error("study: {0}: {1} of wrong kind")]
     Kind(Place, Key),
-    /// The value of the key is of its kind and outside its limits.
+    /// The value of the key has its kind, but is outside its limits.
     #[error("study: {0}: {1} out of range")]
     Range(Place, Key),
     /// The axes span more than 16,384 configurations.
@@ -35,7 +36,7 @@ pub enum StudyError {
     /// There are more or fewer files than programs.
     #[error("study: wrong number of files")]
     Files,
-    /// The file of the named program is no image of its window. Never `ImageError::Memory`.
+    /// The file of the named program can't be loaded into its window. Never `ImageError::Memory`.
     #[error("program {0}: image: {1}")]
     Image(String, ImageError),
     /// The named program faults within its limit.
@@ -44,7 +45,7 @@ pub enum StudyError {
     /// The named program doesn't end within its limit.
     #[error("program {0}: too long")]
     TooLong(String),
-    /// Memory was refused. It says nothing of the study.
+    /// Out of memory. This says nothing about the study.
     #[error("out of memory")]
     Memory,
 }

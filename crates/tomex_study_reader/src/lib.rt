@@ -1,4 +1,4 @@
-//! Studies, read: what the bytes of a study and of the files that it names stand for, or the first test that
+//! Reading a study: from its bytes and those of the files that it names, or the first test that
 //! they fail.
 #![tactic(auto)]
 

@@ -15,8 +15,8 @@ use tomex_document::{Entry, Outline, document_of};
 use tomex_image::{Image, ImageError, load};
 use tomex_study::{Program, ProgramError, Study};
 
-/// The refusal of a file that is no image, by the program's name. Out of memory only if loading ran out of it, or if
-/// there was none for the name.
+/// The refusal of a file that can't be loaded, with the program's name. Out of memory only if
+/// loading ran out of it, or if there was none for the name.
 fn unloaded(name: Result<String, AllocError>, error: ImageError) -> StudyError
     ensures told { IfOk name (λ name. result ≡ unloaded_as name error) }
     ensures untold { OnErr name (result ≡ StudyError.Memory) }
@@ -30,7 +30,7 @@ fn unloaded(name: Result<String, AllocError>, error: ImageError) -> StudyError
     }
 }
 
-/// The image that the file is in the entry's window. The name that a refusal tells is made in `heap`.
+/// The image of the file in the entry's window. A refusal's name is allocated in `heap`.
 fn image_of<A: Allocator + Clone>(
     alloc: A,
     heap: Global,
@@ -48,8 +48,8 @@ fn image_of<A: Allocator + Clone>(
     }
 }
 
-/// The refusal of a program whose run faults or doesn't end within its limit, by its name. Out of memory only if the
-/// run ran out of it, or if there was none for the name.
+/// The refusal of a program whose run faults or doesn't end within its limit, with its name. Out of
+/// memory only if the run ran out of it, or if there was none for the name.
 fn unfit(name: Result<String, AllocError>, error: ProgramError) -> StudyError
     ensures told { IfOk name (λ name. result ≡ unfit_as name error) }
     ensures untold { OnErr name (result ≡ StudyError.Memory) }
@@ -64,8 +64,8 @@ fn unfit(name: Result<String, AllocError>, error: ProgramError) -> StudyError
     }
 }
 
-/// The program of an entry and its file, which is loaded and run. The name that a refusal tells is
-/// made in `heap`.
+/// The program of an entry and its file, which is loaded and run. A refusal's name is allocated in
+/// `heap`.
 fn program_of<A: Allocator + Clone>(
     alloc: A,
     heap: Global,
@@ -110,8 +110,8 @@ fn programs_of<A: Allocator + Clone>(
     Ok(programs)
 }
 
-/// The study of this outline and the files of its programs, or the first test of the files that they fail.
-/// The names that refusals tell are made in `heap`.
+/// The study of this outline and the files of its programs, or the first test of the files that
+/// they fail. The names in refusals are allocated in `heap`.
 fn study_from<A: Allocator + Clone>(
     alloc: A,
     heap: Global,
@@ -134,18 +134,18 @@ fn study_from<A: Allocator + Clone>(
     }
     let entries = outline.programs.as_slice();
     let programs = programs_of(alloc.clone()?, heap, entries, files)?;
-    // The axes of a document span a grid, so only memory can be wanting.
+    // The axes of a document span a grid, so this can fail only by running out of memory.
     let Ok(rows) = grid(alloc.clone()?, &outline.axes) else {
         return Err(StudyError::Memory);
     };
     Ok(Study::new(alloc, programs, rows, outline.prices, outline.wide)?)
 }
 
-/// The study that the bytes and the programs' files stand for, or the first test that they fail:
-/// those of the document, then that there is a file for each program, then program by program
-/// that its file is an image and that its run ends.
+/// The study of the bytes and the programs' files, or the first test that they fail: those of the
+/// document, then that there is a file for each program, then for each program that its file can be
+/// loaded and that its run ends.
 ///
-/// The document is read, and the names that refusals tell are made, in `heap`; all else in `alloc`.
+/// The document and the names in refusals are allocated in `heap`, everything else in `alloc`.
 pub fn read_study<A: Allocator + Clone>(
     alloc: A,
     heap: Global,

@@ -1,4 +1,4 @@
--- Stretches of neighbours, one after the other, and all together.
+-- Stretches of neighbours, one after another, and all together.
 use Rattle.std.proofs.Common.{◌≡◌, ℕ, zero, suc, ◌+◌, ◌-◌, ◌*◌, ◌/◌, ◌<◌}
 use Rattle.std.proofs.Common.{◌≤◌, List, [], ◌∷◌, ◌++◌, length, map, take, drop}
 use Rattle.std.proofs.Common.{get_or, get_or-drop, length-drop}
@@ -69,7 +69,7 @@ all_stretches xs w some =
     ap (λ (n : ℕ). n * length xs / w) (let e : 0 + w ≡ w = omega arith in e) ∙ mul-div_cancel_left (length xs) some in
     from_worker xs (length xs) w 0 w some ∙ rw (last, first) (take_all (length xs - 0) xs (omega arith))
 
--- one worker's stretch more
+-- one more worker's stretch
 pub one_stretch : (rows workers k : ℕ) (before after : List Stretch) (s : Stretch) → k < workers
     → after ≡ before ++ s ∷ [] → s ≡ stretch_of rows workers k
     → before ++ map (stretch_of rows workers) (range_with_len k (workers - k)) ≡ stretches_of rows workers
@@ -97,7 +97,7 @@ last_stretch rows workers k before past so_far =
     sym (append-nil before)
     ∙ (ap (λ (n : ℕ). before ++ map (stretch_of rows workers) (range_with_len k n)) (sym e) ∙ so_far)
 
--- what the parts say of their stretches, of all
+-- the parts' results for their stretches, for all of them
 pub put_together : {S P X Y Z : Type 0} (f : X → Z) (g : Y → Z) (items : P → List X) (part : S → List Y)
     (ss : List S) (ps : List P) → AllZip (λ s p. map f (items p) ≡ map g (part s)) ss ps
     → map f (flat_map items ps) ≡ map g (flat_map part ss)
@@ -110,7 +110,7 @@ put_together f g items part (s ∷ ss) (p ∷ ps) all =
     ∙ (ap (λ (zs : List _). map g (part s) ++ zs) (put_together f g items part ss ps all.1)
     ∙ sym (map-append g (part s) (flat_map part ss))))
 
--- one row more of a stretch
+-- one more row of a stretch
 pub one_in_stretch : {X Y Z : Type 0} (f : X → Z) (g : Y → Z) (ys : List Y) (before after : List X) (first row : ℕ)
     (x : X) (d : Y) → first ≤ row → row < length ys → after ≡ before ++ x ∷ [] → f x ≡ g (get_or ys row d)
     → map f before ≡ map g (take (row - first) (drop first ys))
@@ -133,7 +133,7 @@ one_in_stretch f g ys before after first row x d low high grown made so_far =
     ∙ (ap (λ (zs : List _). zs ++ f x ∷ []) so_far
     ∙ (ap (λ (z : _). map g (take (row - first) (drop first ys)) ++ z ∷ []) made ∙ sym more)))
 
--- what is mapped alike is alike at each place
+-- two lists with equal images have equal images at each place
 pub same_at : {X Y Z : Type 0} (f : X → Z) (g : Y → Z) (xs : List X) (ys : List Y) (k : ℕ) (x : X) (y : Y)
     → map f xs ≡ map g ys → k < length xs → f (get_or xs k x) ≡ g (get_or ys k y)
 same_at f g xs ys k x y same low =

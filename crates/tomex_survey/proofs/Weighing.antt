@@ -1,4 +1,4 @@
--- Rows with their costs and cycles, of totals by weight, and the front of finished rows.
+-- Rows with their costs and weighted cycles, and the front of finished rows.
 use Rattle.std.proofs.Common.{◌≡◌, ℕ, zero, suc, ◌+◌, ◌*◌, ◌<◌, ◌≤◌, arith}
 use Rattle.std.proofs.Common.{ap, sym, refl, ◌∙◌, subst, List, [], ◌∷◌, ◌++◌}
 use Rattle.std.proofs.Common.{All, append_assoc, drop, get_or, length, map, take}
@@ -55,7 +55,7 @@ rows_at n (c ∷ cs) [] k low within = absurd (omega arith)
 rows_at n (c ∷ cs) (y ∷ ys) zero low within = refl
 rows_at n (c ∷ cs) (y ∷ ys) (suc k) low within = rows_at n cs ys k (omega arith) (omega arith)
 
--- one row more
+-- one more row
 pub one_row : (s : DesignSpace) (k : ℕ) (before after : List FrontRow) (cost cycles : ℕ) → IsStudy s
     → k < length s.rows → after ≡ before ++ record { row = k; cost = cost; cycles = cycles } ∷ []
     → cost ≡ get_or s.costs k 0 → cycles ≡ cycles_on s.programs (get_or s.rows k plain)
@@ -115,7 +115,7 @@ finished_rows n (c ∷ cs) (y ∷ ys) same =
     ap (λ (rs : List FrontRow). let r : FrontRow = record { row = n; cost = c; cycles = y } in r ∷ rs)
     (finished_rows (suc n) cs ys (omega arith))
 
--- marks that are read as they were made, of rows that were read so
+-- marks that are read back as they were made, for rows that are read back likewise
 pub same_marks : (slice marks : List Mark) (given rows : List FrontRow) → slice ≡ marks
     → marks ≡ map (λ r. Finished r.cycles) given → given ≡ rows → slice ≡ map (λ r. Finished r.cycles) rows
 same_marks slice marks given rows same are is = same ∙ (are ∙ ap (map (λ (r : FrontRow). Finished r.cycles)) is)
@@ -144,7 +144,7 @@ as_many_marks s marks rows costs is rows_are marks_are costs_are =
     ap length marks_are
     ∙ (length-map _ _ ∙ (ap length rows_are ∙ (long_rows 0 s.costs (cycles_of s) same ∙ ap length (sym costs_are))))
 
--- cycles by weight, program by program
+-- weighted cycles, program by program
 
 pub one_weighed : (programs : List Workload) (totals : List ℕ) (i cycles t : ℕ) (p : Workload)
     (config : Configuration) → i < length programs → p ≡ get_or programs i p → t ≡ get_or totals i 0

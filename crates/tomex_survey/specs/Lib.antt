@@ -1,4 +1,5 @@
--- What contracts cite: each program's cycles on each row, all rows, and the stretches in which they are gone through.
+-- Definitions that contracts cite: each program's cycles on each row, all rows, and the stretches in which workers
+-- handle them.
 pub mod Totals
 pub mod Stretches
 pub mod Survey

@@ -5,7 +5,7 @@ use Rattle.tomex_row_runs.specs.Cycles.{totals_on}
 use Rattle.tomex_study.specs.Study.{DesignSpace}
 use Rattle.tomex_survey.specs.declared.stretches.Stretch.{Stretch}
 
--- the rows of the k-th worker, if these are the numbers of rows and of workers
+-- the rows of the k-th worker, given the numbers of rows and of workers
 abbrev pub stretch_of : ℕ → ℕ → ℕ → Stretch
 stretch_of rows workers k =
     record { worker = k; first = k * rows / workers; end = (k + 1) * rows / workers }
@@ -14,7 +14,7 @@ stretch_of rows workers k =
 unfoldable pub stretches_of : ℕ → ℕ → List Stretch
 stretches_of rows workers = map (stretch_of rows workers) (range_with_len 0 workers)
 
--- the items of a list that stand in a stretch
+-- the items of a list that are in a stretch
 abbrev pub in_stretch : {X : Type 0} → List X → Stretch → List X
 in_stretch xs stretch = slice_range xs stretch.first stretch.end
 

@@ -1,5 +1,5 @@
-//! A survey: each program's cycles on each row of a study. Most are known from other rows; the others are evaluated,
-//! by workers that each go through a stretch of neighbouring rows.
+//! A survey: each program's cycles on each row of a study. Most are known from other rows; the
+//! others are evaluated, by workers that each handle a stretch of neighbouring rows.
 #![tactic(auto)]
 
 mod rows;

@@ -5,7 +5,7 @@ ghost use Rattle.tomex_survey.specs.Stretches.{IsWithin, stretches_of};
 
 use std::alloc::{AllocError, Allocator};
 
-/// Neighbouring rows, through which one worker goes.
+/// Neighbouring rows, which one worker handles.
 #[derive(Clone, Copy, Debug, Drop)]
 pub(crate) struct Stretch {
     /// The worker's number, from 0.
@@ -16,7 +16,7 @@ pub(crate) struct Stretch {
     pub end: usize,
 }
 
-/// The rows, cut into a stretch for each worker. Two of them differ by at most one row in their length.
+/// The rows, cut into a stretch for each worker. Their lengths differ by at most one row.
 pub(crate) fn stretches<A: Allocator>(
     alloc: A,
     rows: usize,

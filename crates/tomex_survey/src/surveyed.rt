@@ -1,4 +1,4 @@
-//! What a survey comes to.
+//! The result of a survey.
 
 ghost use Rattle.std.specs.Prelude.{◌≡◌, ◌<◌, length, slice_index_or, []};
 
@@ -9,9 +9,9 @@ use tomex_pareto::FrontRow;
 /// Each program's cycles on each row of a study, all rows with their costs and cycles, and the front.
 #[derive(Debug, Drop)]
 pub struct Survey<A: Allocator = Global> {
-    /// How many programs the study has.
+    /// The number of programs in the study.
     pub(crate) programs: usize,
-    /// For each row the programs' totals, in their order; what stands after them doesn't count.
+    /// For each row the programs' totals, in their order; the entries after them are unused.
     pub(crate) totals: Vec<[u64; 8], A>,
     pub(crate) rows: Vec<FrontRow, A>,
     pub(crate) front: Vec<FrontRow, A>,

@@ -14,8 +14,9 @@ use tomex_pareto::front;
 use tomex_study::Study;
 use tomex_workers::Gate;
 
-/// Finds out each program's cycles on each row of a study. Rows are shared out among as many workers as are asked for,
-/// in stretches of neighbours; each worker keeps what it has learnt to itself. With one worker no thread is begun.
+/// Computes each program's cycles on each row of a study. Rows are divided among `workers` workers,
+/// in stretches of neighbours; each worker keeps what it has learnt to itself. With one worker no
+/// thread is started.
 pub fn survey<R: Threads + Sync, A: Allocator + Clone + Send + Sync + Drop, G: Gate + Sync>(
     rt: &R,
     alloc: A,

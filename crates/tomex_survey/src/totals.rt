@@ -14,7 +14,7 @@ use tomex_row_runs::Knowledge;
 use tomex_study::Study;
 use tomex_workers::Gate;
 
-/// For how many of the programs no total is known.
+/// The number of programs whose total isn't known.
 fn count_unknown(programs: usize, totals: &[Option<u64>; 8]) -> usize
     ensures { result ≡ count_by (λ t. not (is_some t)) (take programs totals.now) }
 {
@@ -64,7 +64,7 @@ fn totals_in_stretch<A: Allocator + Clone, G: Gate>(
     Ok(totals)
 }
 
-/// The totals of all parts, one after the other.
+/// The totals of all parts, one after another.
 fn joined<A: Allocator>(
     alloc: A,
     parts: Vec<Vec<[u64; 8], A>, A>,
@@ -78,8 +78,8 @@ fn joined<A: Allocator>(
     Ok(all)
 }
 
-/// The programs' totals on the rows of each stretch, found out by threads. One stretch is gone through by the calling
-/// thread.
+/// The programs' totals on the rows of each stretch, computed by threads. The calling thread
+/// handles one stretch.
 fn parts<R: Threads + Sync, A: Allocator + Clone + Send + Sync + Drop, G: Gate + Sync>(
     rt: &R,
     alloc: A,
@@ -104,7 +104,7 @@ fn parts<R: Threads + Sync, A: Allocator + Clone + Send + Sync + Drop, G: Gate +
     outer?
 }
 
-/// The programs' totals on each row of a study, found out by as many workers as are asked for.
+/// The programs' totals on each row of a study, computed by `workers` workers.
 pub(crate) fn all_totals<
     R: Threads + Sync,
     A: Allocator + Clone + Send + Sync + Drop,

@@ -77,7 +77,7 @@ mapped_back P f [] all = All-nil (λ x. P (f x))
 mapped_back P f (x ∷ xs) all = All-cons (λ y. P (f y)) x xs (All-head P (f x) (map f xs) all)
     (mapped_back P f xs (All-tail P (f x) (map f xs) all))
 
--- what is the same for what was given and what was owed
+-- what is the same for what was returned and what was due
 same_lists : (h : Owed → List ℕ) (parts : List Returned) (workers : List Equipped)
     → map given_by parts ≡ map owed_by workers → flat_map (λ p. h (given_by p)) parts ≡ flat_map (λ w. h (owed_by w))
     workers

@@ -59,7 +59,7 @@ lawful_set costs cycles ms i y m is at left its =
           (get_set_other ms i j (Finished y) apart ∙ d.0, d.1, d.2));
     }
 
--- the rows so far are closed; those that weren't before are counted; the others are as they were
+-- the rows so far are closed; those that weren't before are counted; the others are unchanged
 pub record IsGathering (s : DesignSpace) (old now : List Mark) (row gathered : ℕ) : Type 0 where
   pub count : length now ≡ length old
   pub closed : All (λ m. is_closed m ≡ true) (take row now)
@@ -162,7 +162,7 @@ all_gathered s old now row gathered is long past = (
   is.same,
 )
 
--- where all are closed, none is left
+-- if all are closed, none is left
 pub none_left : (ms : List Mark) → All (λ m. is_closed m ≡ true) ms → rows_left ms ≡ 0
 none_left [] all = refl
 none_left (m ∷ ms) all =
@@ -186,7 +186,7 @@ run_cycles s programs rows item row y is same_programs same_rows low at ran =
     ∙ read in
     ran ∙ (ap (λ (ps : List Workload). cycles_on ps item) same_programs ∙ sym (cycles_at s row item here))
 
--- where all are closed, there is nothing to do
+-- if all are closed, there is nothing to do
 pub nothing_to_gather : (costs cycles : List ℕ) (ms : List Mark) → length ms ≡ length costs → AreLawful costs cycles ms
     → All (λ m. is_closed m ≡ true) ms → AreJudged costs cycles ms
 nothing_to_gather costs cycles ms count lawful all = record { count = count; closed = all; lawful = lawful }

@@ -1,4 +1,4 @@
--- Where all rows are judged lawfully, the front of the finished ones is the front of all.
+-- If all rows are judged lawfully, the front of the finished ones is the front of all.
 use Rattle.std.proofs.Common.{◌≡◌, ℕ, ◌<◌, ◌≤◌, ◌⊎◌, ⊎_elim, inl, inr, arith, sym, subst, ◌∙◌, List, length}
 use Rattle.std.proofs.Common.{true, get_or, Some, slice_get}
 use Rattle.std.proofs.lemmas.Option.{slice_get-get_or, slice_get_within}
@@ -25,7 +25,7 @@ finished_row costs cycles marks lawful same r h =
     at_row 0 costs cycles w.k r l (let z : w.k < length cycles = omega arith in
     z) w.number w.cost (lawful.finished w.k r.cycles w.mark)
 
--- what is judged of a row: it is finished, or a finished one beats it
+-- a judged row is finished, or a finished one beats it
 judged_row : (costs cycles : List ℕ) (marks : List Mark) → AreJudged costs cycles marks
     → (r : FrontRow) (w : IsAt 0 costs cycles r) (m : Mark) → slice_get marks w.k ≡ Some m → is_closed m ≡ true
     → Has (finished_from 0 costs marks) r ⊎ ((q : FrontRow) × Has (finished_from 0 costs marks) q × Dominates q r)

@@ -2,7 +2,7 @@
 use Rattle.std.proofs.Common.{◌≡◌, List, [], ◌∷◌, ◌++◌, map, ap, ◌∙◌, sym, append_assoc, length, arith}
 use Rattle.std.proofs.lemmas.List.{map-append, append-nil}
 
--- one item more on the one side, and one fewer on the other
+-- one more item on one side, and one fewer on the other
 pub moved : {X Y Z : Type 0} (f : X → Z) (g : Y → Z) (xs all : List X) (x : X) (ys rest : List Y) (y : Y)
     (goal : List Z) → all ≡ xs ++ x ∷ [] → rest ≡ y ∷ ys → f x ≡ g y → map f xs ++ map g rest ≡ goal → map f all
     ++ map g ys ≡ goal
@@ -19,7 +19,7 @@ pub ended : {Y Z : Type 0} (g : Y → Z) (xs : List Z) (rest : List Y) (goal : L
 ended g xs [] goal none h = sym (append-nil xs) ∙ h
 ended g xs (y ∷ ys) goal none h = absurd (omega arith)
 
--- nothing is on the one side yet
+-- nothing is on one side yet
 pub begun : {X Y Z : Type 0} (f : X → Z) (g : Y → Z) (xs : List X) (rest all : List Y) → xs ≡ [] → rest ≡ all
     → map f xs ++ map g rest ≡ map g all
 begun f g xs rest all none same = ap (λ l. map f l ++ map g rest) none ∙ ap (map g) same

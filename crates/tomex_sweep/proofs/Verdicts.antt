@@ -59,7 +59,7 @@ pub all_finished : (s : DesignSpace) (rows : List Configuration) (ms : List Mark
 all_finished s rows ms e is = is ∙ (ap (λ (rs : List Configuration). map Finished (map (cycles_on s.programs) rs)) e
     ∙ ap (λ (ys : List ℕ). map Finished ys) (cycles_map s))
 
--- one configuration more is finished
+-- one more configuration is finished
 pub one_finished : (programs : List Workload) (rows : List Configuration) (i y : ℕ) (config : Configuration)
     (before after : List Mark) → after ≡ before ++ Finished y ∷ [] → i < length rows → config ≡ get_or rows i config
     → y ≡ cycles_on programs config → before ≡ map Finished (map (cycles_on programs) (take i rows))

@@ -1,4 +1,4 @@
--- What an exploration gives.
+-- The result of an exploration.
 use Rattle.std.specs.Prelude.{◌≡◌, ℕ, List}
 use Rattle.tomex_board.specs.declared.mark.Mark.{Mark}
 use Rattle.tomex_pareto.specs.declared.front_row.FrontRow.{FrontRow}
@@ -7,7 +7,7 @@ use Rattle.tomex_row_runs.specs.StudyFront.{front_of_study}
 use Rattle.tomex_study.specs.Study.{DesignSpace}
 use Rattle.tomex_sweep.specs.Marks.{AreJudged}
 
--- a mark for each row, the front of all rows, and how many rows were run after the workers: none
+-- a mark for each row, the front of all rows, and the number of rows that were run after the workers: 0
 pub record IsExploration (s : DesignSpace) (given : List Mark) (found : List FrontRow) (late : ℕ) : Type 0 where
   pub marks : AreJudged s.costs (cycles_of s) given
   pub front : found ≡ front_of_study s

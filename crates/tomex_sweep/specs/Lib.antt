@@ -1,4 +1,4 @@
--- What contracts cite: workers and what they owe, marks of rows, and explorations.
+-- Definitions that contracts cite: workers and what they must return, marks of rows, and explorations.
 pub mod Crews
 pub mod Marks
 pub mod Exploration

@@ -16,7 +16,8 @@ use tomex_lanes::{Part, Worker};
 use tomex_study::Study;
 use tomex_workers::{Gate, work};
 
-/// What a thread promises: a part with the worker's rows, and a seat of its board with its numbers.
+/// A thread's contract: it returns a part with the worker's rows, and a seat of its board with its
+/// numbers.
 #[derive(Drop)]
 pub(crate) struct PartOf<J: Plan, A: Allocator>(Snapshot<Worker<J, A>>);
 
@@ -29,8 +30,8 @@ impl<J: Plan, A: Allocator> Promise<Result<Part<J, A>, AllocError>> for PartOf<J
 
 type Running<J, A> = PromisedHandle<Result<Part<J, A>, AllocError>, PartOf<J, A>>;
 
-/// What all workers share: the study, the board, whom they report their runs to, and how large their threads'
-/// stacks are.
+/// The things that all workers share: the study, the board, the gate to which they report their
+/// runs, and the sizes of their threads' stacks.
 #[derive(Drop)]
 struct Workshop<'s, J: Plan, A: Allocator, G: Gate, S: Stacks> {
     study: &'s Study<A>,
@@ -72,14 +73,15 @@ fn start<
     }
 }
 
-/// Waits for threads, and lets go what they give.
+/// Waits for threads, and drops what they return.
 fn drain<R: Threads, J: Plan, A: Allocator>(rt: &R, handles: Vec<Running<J, A>, A>) {
     for handle in handles {
         let _ = handle.join(rt);
     }
 }
 
-/// Starts a thread for each worker, in their order. Where one is refused, all that were started are waited for.
+/// Starts a thread for each worker, in their order. If one is refused, waits for all that were
+/// started.
 fn start_all<
     's,
     E,
@@ -118,7 +120,7 @@ fn start_all<
     Ok(handles)
 }
 
-/// Waits for all threads, in their order, and adds what each gives to the parts, of which there are none yet.
+/// Waits for all threads, in their order, and appends what each returns to `parts`, which is empty.
 fn join_all<R: Threads, J: Plan, A: Allocator>(
     rt: &R,
     handles: Vec<Running<J, A>, A>,
@@ -143,7 +145,7 @@ fn join_all<R: Threads, J: Plan, A: Allocator>(
     Ok(parts)
 }
 
-/// Starts a thread for each worker, and waits for all that were started, also where one was refused.
+/// Starts a thread for each worker, and waits for all that were started, even if one was refused.
 fn run_in<
     's,
     E,
@@ -166,7 +168,7 @@ fn run_in<
     join_all(rt, handles, Vec::new(alloc))
 }
 
-/// What the workers give back, in their order, each from a thread of its own.
+/// The parts that the workers return, in their order, each from a thread of its own.
 pub(crate) fn run_workers<
     R: Threads + Wait + Sync,
     J: Plan + Send + Sync,

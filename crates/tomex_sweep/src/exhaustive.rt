@@ -33,7 +33,7 @@ fn all_marks<A: Allocator + Clone, G: Gate>(
     Ok(marks)
 }
 
-/// `run_all` with a gate, which is told of worker 0 alone.
+/// `run_all` with a gate, which is called only for worker 0.
 pub fn run_all_under<A: Allocator + Clone, G: Gate>(
     alloc: A,
     study: &Study<A>,

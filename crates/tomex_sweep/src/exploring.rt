@@ -40,7 +40,7 @@ fn marks_of_workers<
     requires plan { IsPlanOf study.now J.costs J.cycles }
     ensures { IfOk result (λ marks. AreJudged study.now.costs (cycles_of study.now) marks.items) }
 {
-    // Laws: the board wants cycles that fit its words, which those of lawful rows and programs do.
+    // Laws: the board requires cycles that fit its words, as those of lawful rows and programs do.
     study.keeps_limits();
     let costs = study.costs();
     let lanes = deal(alloc.clone()?, workers, costs.len())?;
@@ -50,7 +50,7 @@ fn marks_of_workers<
     Ok(settle(board, parts))
 }
 
-/// `explore` with threads whose stacks are as the caller says.
+/// `explore` with threads whose stacks the caller chooses.
 pub fn explore_on<
     R: Threads + Wait + Sync,
     A: Allocator + Clone + Send + Sync + Drop,
@@ -89,13 +89,13 @@ pub fn explore_on<
 }
 
 /// Runs each row until it is over, or until a finished row is known that costs no more and takes
-/// strictly fewer cycles, and gives the front.
+/// strictly fewer cycles, and returns the front.
 ///
-/// The rows are dealt to `workers` workers, a thread each. A worker whose own rows are all taken steals
-/// from the others; they share nothing but the study and a board of single words, so none waits for
+/// The rows are dealt to `workers` workers, each in a thread. A worker whose own rows are all taken
+/// steals from the others; they share only the study and a board of single words, so none waits for
 /// another. Which rows are dropped depends on who was faster. The front doesn't.
 ///
-/// If a thread or memory is refused, what was started is waited for first.
+/// If a thread can't be started, or out of memory, waits for the started threads first.
 pub fn explore<R: Threads + Wait + Sync, A: Allocator + Clone + Send + Sync + Drop, G: Gate + Sync>(
     rt: &R,
     alloc: A,

@@ -28,7 +28,8 @@ fn are_closed(marks: &[Mark]) -> bool
     marks.iter().all(|mark| is_closed(*mark))
 }
 
-/// Runs each row to its end that is still open or taken: the number of these. The others stay as they are.
+/// Runs to its end each row that is still open or taken, and returns the number of these. The
+/// others are unchanged.
 fn gather<A: Allocator + Clone>(
     alloc: A,
     study: &Study<A>,

@@ -1,5 +1,6 @@
-//! Explorations of studies: workers take configurations, run them and mark them on a board that they share, and the
-//! front is that of the marks. What is known, or can't change the front, isn't run.
+//! Explorations of studies: workers take configurations, run them and mark them on a board that
+//! they share, and the front is that of the marks. Runs whose cycles are known, or that can't
+//! change the front, are skipped.
 #![tactic(auto)]
 
 mod crew;

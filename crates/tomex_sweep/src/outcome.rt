@@ -1,4 +1,4 @@
-//! What an exploration comes to.
+//! The result of an exploration.
 
 ghost use Rattle.std.specs.Prelude.{◌≡◌};
 ghost use Rattle.tomex_sweep.specs.declared.outcome.SweepError.TheVariants.{Memory};
@@ -11,21 +11,22 @@ use tomex_pareto::FrontRow;
 /// The marks and the front of a study's rows.
 #[derive(Debug, Drop)]
 pub struct Outcome<A: Allocator = Global> {
-    /// One mark a row, in the order of the rows. Each is `Finished` or `Dropped`.
+    /// A mark for each row, in the order of the rows. Each is `Finished` or `Dropped`.
     pub marks: Vec<Mark, A>,
     /// The rows that no other row dominates, by cost, then number.
     pub front: Vec<FrontRow, A>,
-    /// How many rows no worker had closed, and were run after the workers: 0 of an exploration and of a whole run.
+    /// The number of rows that no worker had closed, and that were run after the workers: proved to
+    /// be 0.
     pub gathered: usize,
 }
 
 /// Why an exploration has no outcome.
 #[derive(Clone, Copy, Debug, Drop, Error, PartialEq, Eq)]
 pub enum SweepError {
-    /// Memory was refused.
+    /// Out of memory.
     #[error("out of memory")]
     Memory,
-    /// The start of a worker's thread was refused.
+    /// A worker's thread can't be started.
     #[error("thread refused")]
     Worker,
 }

@@ -1,8 +1,8 @@
-//! How large a thread's stack is.
+//! The sizes of threads' stacks.
 
 use core::thread::Stack;
 
-/// The stack of each worker's thread. One that is too large is refused, and so is its thread.
+/// The stack of each worker's thread. If one is too large, its thread can't be started.
 pub trait Stacks {
     /// The stack of this worker's thread, from 0.
     fn stack_of(&self, worker: usize) -> Stack;

@@ -1,7 +1,7 @@
 -- The symbol that goes before all others, among lists and their parts.
 use Rattle.std.proofs.Common.{◌≡◌, ◌≢◌, ℕ, ◌<◌, ◌⊎◌, ⊎_elim, inl, inr, arith, refl, sym, ap, subst, ◌∙◌}
-use Rattle.std.proofs.Common.{Bool, true, false, cond, not, ◌&&◌, ◌==◌, nat_eq, nat_le, List, [], ◌∷◌, ◌++◌, length, get_or, All}
-use Rattle.std.proofs.Common.{Option, Some, None, ◌+◌, map, take}
+use Rattle.std.proofs.Common.{Bool, true, false, cond, not, ◌&&◌, ◌==◌, nat_eq, nat_le, List, [], ◌∷◌, ◌++◌, length}
+use Rattle.std.proofs.Common.{get_or, All, Option, Some, None, ◌+◌, map, take}
 use Rattle.std.specs.List.{Contains}
 use Rattle.std.specs.List.Sorted.{IsPermutation}
 use Rattle.std.proofs.lemmas.Bool.{cases_Bool, cases_eq, cases_order, eq-eqb, ne_eqb, true≢false}
@@ -48,7 +48,7 @@ IsBest p ss (Some s) = IsLast p ss s
 unpassed : (p : Symbol → Bool) (t u : Symbol) → p t ≡ false → p t ≡ true → IsUpTo t u
 unpassed p t u f e = absurd (true≢false (sym e ∙ f))
 
--- one symbol more in front
+-- one more symbol in front
 
 skipped : (p : Symbol → Bool) (s : Symbol) (ss : List Symbol) (o : Option Symbol) → p s ≡ false → IsBest p ss o
     → IsBest p (s ∷ ss) o
@@ -147,7 +147,7 @@ only_one p ss (Some s) (Some t) h u v =
     ap (λ (z : Symbol). Some z) (same_symbol ss s t h u.one v.one
     (up_both s t (v.most s u.one u.passes) (u.most t v.one v.passes)))
 
--- more symbols, none of which passes
+-- further symbols, none of which passes
 pub extended : (p : Symbol → Bool) (ss ts : List Symbol) (o : Option Symbol) → IsBest p ss o
     → ((t : Symbol) → Contains ts t → p t ≡ false) → IsBest p (ss ++ ts) o
 extended p ss ts None h f = λ t c. ⊎_elim (λ (d : Contains ss t). h t d) (λ (d : Contains ts t). f t d)
@@ -197,7 +197,7 @@ function_moved ss ts pc n m =
     (λ s. ap (λ (b : Bool). nat_eq s.size 0 && nat_le s.address pc && not b)
     (sym (list_any-IsPermutation (λ t. begins_after s.address pc t) ss ts m))))
 
--- the function of one address more
+-- the function of one more address
 pub functions_more : (ss ts : List Symbol) (xs : List ℕ) (i : ℕ) (os : List (Option Symbol)) (o : Option Symbol)
     → AreNumbered ts → IsPermutation ss ts → i < length xs → os ≡ map (function_at ss) (take i xs)
     → o ≡ function_at ts (get_or xs i 0) → os ++ o ∷ [] ≡ map (function_at ss) (take (i + 1) xs)

@@ -31,8 +31,8 @@ names = 0 ∷ 0x6d ∷ 0x61 ∷ 0x69 ∷ 0x6e ∷ 0 ∷ 0x6c ∷ 0x6f ∷ 0x6f �
 abbrev entry : ℕ → ℕ → ℕ → ℕ → ℕ → List ℕ
 entry name value size info section = words (name ∷ value ∷ size ∷ (info + 65536 * section) ∷ [])
 
--- a global function, a local label, a mapping symbol, a compiler's label, an undefined function, an object, a label that
--- isn't in code
+-- a global function, a local label, a mapping symbol, a compiler's label, an undefined function, an object, and a
+-- label outside code
 abbrev entries : List ℕ
 entries = entry 1 0x100 16 0x12 1 ++ entry 6 0x108 0 0x00 1 ++ entry 11 0x100 0 0x00 1 ++ entry 14 0x104 0 0x00 1
     ++ entry 1 0 0 0x12 0 ++ entry 1 0x100 4 0x11 1 ++ entry 6 0x108 0 0x00 2
@@ -64,7 +64,7 @@ size_of = refl
 pub both_count : symbols_of elf ≡ symbol 0 0x100 16 Function Global 53 ∷ symbol 1 0x108 0 Label Other 58 ∷ []
 both_count = refl
 
--- headers of another size; more of them than the file has
+-- headers of another size; more headers than the file holds
 pub other_headers : symbols_of (slice_set elf 46 41) ≡ []
 other_headers = refl
 
@@ -117,7 +117,7 @@ pub placed_at : map (number_at placed) (0xff ∷ 0x100 ∷ 0x104 ∷ 0x108 ∷ 0
     ≡ None ∷ Some 0 ∷ Some 0 ∷ Some 1 ∷ Some 1 ∷ Some 0 ∷ Some 0 ∷ None ∷ Some 2 ∷ Some 2 ∷ Some 4 ∷ Some 4 ∷ None ∷ []
 placed_at = refl
 
--- of one address: functions before labels, global before weak before others, then the first
+-- of symbols at one address: functions before labels, global before weak before others, then the first
 pub first_of_equals : number_at (symbol 0 8 4 Label Global 0 ∷ symbol 1 8 4 Function Other 0
     ∷ symbol 2 8 4 Function Weak 0 ∷ symbol 3 8 4 Function Weak 0 ∷ []) 8 ≡ Some 2
 first_of_equals = refl

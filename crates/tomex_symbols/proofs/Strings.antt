@@ -13,7 +13,7 @@ first_bytes (suc m) (b ∷ bs) =
     ⊎_elim (λ (e : nat_eq b 0 ≡ true). rw e refl)
     (λ (e : nat_eq b 0 ≡ false). rw e (ap (λ (z : List ℕ). b ∷ z) (first_bytes m bs))) (cases_Bool (nat_eq b 0))
 
--- a part of a list that is cut where the list ends
+-- a part of a list, cut at the list's end
 part_within : (a b e s : ℕ) (bs : List ℕ) → e ≡ min b (length bs) → s ≡ min a e → a ≤ e
     → take (e - s) (drop s bs) ≡ take (b - a) (drop a bs)
 part_within a b e s bs f g l =

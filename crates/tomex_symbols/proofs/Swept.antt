@@ -13,10 +13,11 @@ use Rattle.std.proofs.lemmas.List.Folds.{list_any_at, list_any_none}
 use Rattle.tomex_symbols.specs.declared.symbol.Symbol.{Symbol}
 use Rattle.tomex_symbols.specs.Functions.{AreNumbered, begins_after, best, function_at, holds, or_else, reaches}
 use Rattle.tomex_symbols.specs.Sweep.{InOrder, IsSwept, IsUpTo, if_at, is_unsized, last_address, last_of}
-use Rattle.tomex_symbols.proofs.Best.{IsBest, IsLast, best_is, cons_cases, extended, here, last_is, nothing, only_one, there}
+use Rattle.tomex_symbols.proofs.Best.{IsBest, IsLast, best_is, cons_cases, extended, here, last_is, nothing, only_one}
+use Rattle.tomex_symbols.proofs.Best.{there}
 use Rattle.tomex_symbols.proofs.Rising.{Rises, rises, rises_take}
 
--- one symbol more
+-- one more symbol
 
 or_cond : (b : Bool) (s : Symbol) (o c : Option Symbol) → or_else (cond b (Some s) o) c ≡ cond b (Some s) (or_else o c)
 or_cond true s o c = refl
@@ -33,7 +34,7 @@ last_address_push [] s = refl
 last_address_push (t ∷ []) s = refl
 last_address_push (t ∷ u ∷ ss) s = last_address_push (u ∷ ss) s
 
--- what a symbol holds, in numbers
+-- the addresses that a symbol holds, in numbers
 
 ended : (a n p q : ℕ) → a ≤ p → p ≤ q → (nat_le a p && nat_lt p (a + n)) ≡ false → (nat_le a q && nat_lt q (a + n)) ≡ false
 ended a n p q l m e = grind (arith, nat_tests)
@@ -124,7 +125,7 @@ swept_next sorted k nested label latest pc s d h l e m =
       last_begins = rw (t, last_address_push (take k sorted) s) refl;
     }
 
--- what holds an address, or reaches to it, begins by then
+-- a symbol that holds an address, or reaches to it, begins at or before it
 
 pub inner_is : (pc : ℕ) (ss ts : List Symbol) → Rises ss → All (λ t. pc < t.address) ts
     → IsBest (holds pc) (ss ++ ts) (last_of (holds pc) ss)
@@ -197,7 +198,7 @@ none_after pc ss ts s r h e =
     (All-weaker (λ t. pc < t.address) (λ t. begins_after s.address pc t ≡ false)
     (λ t l. begins_beyond s.address t.address pc l) ts h))
 
--- a symbol does that begins after s
+-- a symbol does, if it begins after s
 one_after : (pc : ℕ) (ss : List Symbol) (s t : Symbol) → Contains ss t → s.address < t.address → t.address ≤ pc
     → list_any (λ u. begins_after s.address pc u) ss ≡ true
 one_after pc ss s t c l m =
@@ -251,7 +252,7 @@ label_at pc ss ts (Some s) r b h i =
         (λ (k : Contains ts t). later_apart t.size t.address pc _ (All-contains (λ u. pc < u.address) ts t h k))
         (Contains-append_cases ss ts t c)
 
--- what a sweep has found at an address is its function
+-- the symbol that a sweep finds at an address is its function
 pub swept_function : (sorted : List Symbol) (k : ℕ) (nested : List Symbol) (label : Option Symbol) (latest pc : ℕ)
     → InOrder sorted → AreNumbered sorted → IsSwept sorted k nested label latest pc
     → All (λ s. pc < s.address) (drop k sorted)

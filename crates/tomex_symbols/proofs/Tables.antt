@@ -1,6 +1,6 @@
--- Tables, entry by entry, and that symbols have numbers of their own.
-use Rattle.std.proofs.Common.{◌≡◌, ℕ, zero, suc, ◌+◌, ◌*◌, ◌-◌, ◌<◌, ◌≤◌, arith, refl, sym, ap, ◌∙◌, Bool, true, false, cond, ◌==◌}
-use Rattle.std.proofs.Common.{List, [], ◌∷◌, ◌++◌, Option, Some, None}
+-- Tables, entry by entry; each symbol has a number of its own.
+use Rattle.std.proofs.Common.{◌≡◌, ℕ, zero, suc, ◌+◌, ◌*◌, ◌-◌, ◌<◌, ◌≤◌, arith, refl, sym, ap, ◌∙◌, Bool, true}
+use Rattle.std.proofs.Common.{false, cond, ◌==◌, List, [], ◌∷◌, ◌++◌, Option, Some, None}
 use Rattle.std.specs.List.{AllByRecursion, IsDistinct}
 use Rattle.std.proofs.lemmas.Bool.{ne_eqb}
 use Rattle.tomex_symbols.specs.declared.sections.Section.{Section}
@@ -68,7 +68,7 @@ apart_in bytes (Some t) = apart_from bytes t 0 _
 pub symbols_numbered : (bytes : List ℕ) → AreNumbered (symbols_of bytes)
 symbols_numbered bytes = apart_in bytes (tables_of bytes)
 
--- the next section is the symbol table, or is passed
+-- the next section is the symbol table, or is skipped
 
 pub table_found : (bytes : List ℕ) (n k : ℕ) (s : Section) (r : Option Section) → k < n → s ≡ section bytes k
     → is_symbol_table s ≡ true → r ≡ first_symbol_table (sections_from bytes k (n - k)) → Some s ≡ r

@@ -21,7 +21,8 @@ rank Label Other = 5
 abbrev pub rank_of : Symbol → ℕ
 rank_of s = rank s.kind s.binding
 
--- a is chosen before b: it begins later, or there and by rank, or the same and earlier in the table
+-- a is chosen before b: it begins later; or at the same address with a lower rank; or with an equal rank and earlier
+-- in the table
 abbrev pub goes_before : Symbol → Symbol → Bool
 goes_before a b =
     nat_lt b.address a.address

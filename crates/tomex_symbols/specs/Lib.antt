@@ -1,4 +1,4 @@
--- What contracts cite: the symbols of an ELF file, and which of them has an address.
+-- Definitions that contracts cite: the symbols of an ELF file, and which of them has an address.
 pub mod Sections
 pub mod Symbols
 pub mod Names

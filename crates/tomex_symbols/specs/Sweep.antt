@@ -1,10 +1,10 @@
--- What is known while addresses are gone through in their order, beside symbols in theirs.
+-- What a sweep over addresses in rising order knows about the symbols, which it visits in theirs.
 use Rattle.std.specs.Prelude.{◌≡◌, ℕ, ◌+◌, ◌<◌, ◌≤◌, List, [], ◌∷◌, length, slice_index_or, take, All}
 use Rattle.std.specs.Prelude.{Bool, nat_eq, if◌then◌else◌, Option, Some, None}
 use Rattle.tomex_symbols.specs.declared.symbol.Symbol.{Symbol}
 use Rattle.tomex_symbols.specs.Functions.{holds, or_else, rank_of}
 
--- b comes no earlier than a: of symbols with one address the one to be chosen comes last
+-- b comes no earlier than a: of symbols at one address, the one to be chosen comes last
 pub record IsUpTo (a b : Symbol) : Type 0 where
   pub address : a.address ≤ b.address
   pub rank : a.address ≡ b.address → rank_of b ≤ rank_of a
@@ -30,8 +30,8 @@ abbrev pub if_at : ℕ → Option Symbol → Option Symbol
 if_at address None = None
 if_at address (Some s) = if nat_eq s.address address then Some s else None
 
--- what a sweep knows at an address: how many symbols begin by then; from there on those that are nested hold what
--- these hold; the last one without a size, and where the last one begins
+-- what a sweep knows at an address: how many symbols begin up to it; from there on the nested ones hold what these
+-- hold; the last one without a size, and where the last one begins
 pub record IsSwept (sorted : List Symbol) (begun : ℕ) (nested : List Symbol) (label : Option Symbol) (latest pc : ℕ)
     : Type 0 where
   pub within : begun ≤ length sorted

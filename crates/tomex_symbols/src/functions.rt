@@ -8,8 +8,9 @@ use crate::sweep::Sweep;
 use crate::symbol::Symbol;
 use std::alloc::{AllocError, Allocator};
 
-/// The function of each address. The addresses are to rise; the symbols, as [`symbols`](crate::symbols) gives them, may be
-/// in any order. A sort and one pass over both: nothing is quadratic, however symbols overlap.
+/// The function of each address. The addresses must rise; the symbols, as
+/// [`symbols`](crate::symbols) gives them, may be in any order. A sort and one pass over both:
+/// nothing is quadratic, however symbols overlap.
 pub fn functions_at<A: Allocator + Clone>(
     alloc: A,
     mut symbols: Vec<Symbol, A>,

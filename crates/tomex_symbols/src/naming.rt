@@ -4,7 +4,7 @@ ghost use Rattle.tomex_symbols.specs.Names.{name_of, until_zero};
 
 use crate::symbol::Symbol;
 
-/// The bytes before the first zero byte, or all of them.
+/// The bytes before the first zero byte; all of them if there is none.
 fn before_zero(bytes: &[u8]) -> &[u8]
     ensures { result.now ≡ until_zero bytes.now }
 {
@@ -16,7 +16,7 @@ fn before_zero(bytes: &[u8]) -> &[u8]
     bytes
 }
 
-/// The first bytes of a symbol's name, up to a given number: names may lie in names, so none is read further.
+/// The first bytes of a symbol's name, at most `most`: names may overlap, so none is read further.
 /// The bytes are those of the file that the symbol was read from.
 pub fn name_of<'a>(bytes: &'a [u8], symbol: &Symbol, most: usize) -> &'a [u8]
     ensures { result.now ≡ take most (name_of bytes.now symbol.now) }

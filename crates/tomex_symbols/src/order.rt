@@ -1,4 +1,4 @@
-//! The order in which symbols are gone through.
+//! The order in which symbols are visited.
 ghost use Rattle.std.specs.Prelude.{IsPermutation};
 ghost use Rattle.tomex_symbols.specs.Sweep.{InOrder};
 
@@ -6,7 +6,8 @@ use crate::symbol::Symbol;
 use std::alloc::Allocator;
 use std::cmp::Reverse;
 
-/// Puts symbols in the order of their addresses. Of those with one address the one to be chosen comes last.
+/// Puts symbols in the order of their addresses. Of several at one address, the one to be chosen
+/// comes last.
 pub fn sort_symbols<A: Allocator>(symbols: &mut Vec<Symbol, A>)
     ensures moved { IsPermutation symbols.old.items symbols.new.items }
     ensures order { InOrder symbols.new.items }

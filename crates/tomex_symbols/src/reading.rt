@@ -40,7 +40,7 @@ fn is_named(bytes: &[u8], names: &Section, name: u32) -> bool
     name < names.size && bytes[names.offset as usize + name as usize] != 0
 }
 
-/// True if the name is one of an assembler's or a compiler's own.
+/// True if the name is an internal one of an assembler or a compiler.
 fn is_internal(bytes: &[u8], names: &Section, name: u32) -> bool
     requires file { names.now.offset + names.now.size ≤ length bytes.now }
     requires name { name < names.now.size }
@@ -67,7 +67,7 @@ fn is_in_code(bytes: &[u8], info: u8, section: u16) -> bool
         && read_section(bytes, usize::from(section)).has_code()
 }
 
-/// What a symbol names, if it counts.
+/// The kind of a symbol, if it counts.
 fn kind_of(bytes: &[u8], names: &Section, name: u32, info: u8, section: u16) -> Option<Kind>
     requires sections { has_sections bytes.now ≡ true }
     requires file { names.now.offset + names.now.size ≤ length bytes.now }
@@ -94,7 +94,7 @@ fn binding_of(info: u8) -> Binding
     }
 }
 
-/// Adds the symbol of the entry at that offset, if it counts.
+/// Appends the symbol of the entry at `offset`, if it counts.
 fn push_counted<A: Allocator>(
     symbols: &mut Vec<Symbol, A>,
     bytes: &[u8],
@@ -147,8 +147,9 @@ fn symbols_in<A: Allocator>(
     Ok(symbols)
 }
 
-/// The symbols of a file that name code, in the order of its symbol table. There are none in a flat file, in one without a
-/// symbol table, and in one whose tables don't lie in it. The only error is that memory is refused.
+/// The symbols of a file that name code, in the order of its symbol table. There are none in a flat
+/// file, in one without a symbol table, and in one whose tables don't lie in it. The only error is
+/// out of memory.
 pub fn symbols<A: Allocator>(alloc: A, bytes: &[u8]) -> Result<Vec<Symbol, A>, AllocError>
     ensures value { IfOk result (λ v. v.items ≡ symbols_of bytes.now) }
     ensures numbered { IfOk result (λ v. AreNumbered v.items) }

@@ -1,9 +1,9 @@
 //! The section headers of an ELF file (System V ABI, "Sections"), and the tables of symbols and names among them.
 ghost use Rattle.std.specs.Prelude.{◌≡◌, ◌≤◌, ◌<◌, ◌+◌, ◌*◌, IfSome, length, true, Some, None, if◌then◌else◌};
 ghost use Rattle.tomex_image.specs.Loading.{is_elf};
-ghost use Rattle.tomex_symbols.specs.Sections.{can_be_read, first_symbol_table, has_code, has_sections, is_string_table};
-ghost use Rattle.tomex_symbols.specs.Sections.{is_symbol_table, lies_in_file, section, section_at, section_count};
-ghost use Rattle.tomex_symbols.specs.Sections.{sections_from, tables_of};
+ghost use Rattle.tomex_symbols.specs.Sections.{can_be_read, first_symbol_table, has_code, has_sections};
+ghost use Rattle.tomex_symbols.specs.Sections.{is_string_table, is_symbol_table, lies_in_file, section, section_at};
+ghost use Rattle.tomex_symbols.specs.Sections.{section_count, sections_from, tables_of};
 
 use crate::words::{read_half, read_word};
 
@@ -30,7 +30,8 @@ const SHT_STRTAB: u32 = 3;
 
 const SHF_EXECINSTR: u32 = 4;
 
-/// The fields of a section header that count here. The size and the offset in the file are in bytes.
+/// The fields of a section header that matter here. The size and the offset in the file are in
+/// bytes.
 #[derive(Clone, Copy, Debug, PartialEq, Eq)]
 pub struct Section {
     /// `sh_type`
@@ -95,7 +96,7 @@ fn read_section_at(bytes: &[u8], offset: usize) -> Section
     }
 }
 
-/// How many sections the file has: `e_shnum`.
+/// The number of sections: `e_shnum`.
 pub fn read_section_count(bytes: &[u8]) -> usize
     requires { has_sections bytes.now ≡ true }
     ensures { result ≡ section_count bytes.now }

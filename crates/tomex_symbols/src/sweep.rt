@@ -1,17 +1,19 @@
-//! Addresses gone through in their order, beside symbols in theirs.
-ghost use Rattle.std.specs.Prelude.{◌≡◌, ◌≤◌, ◌<◌, ◌+◌, ◌++◌, [], ◌∷◌, length, ℕ, ◌-◌, ◌^◌, if◌then◌else◌, All, OnOk, IfOk, take, drop, Some, None};
+//! A sweep over addresses in rising order, and over symbols in theirs.
+ghost use Rattle.std.specs.Prelude.{◌≡◌, ◌≤◌, ◌<◌, ◌+◌, ◌++◌, [], ◌∷◌, length, ℕ, ◌-◌, ◌^◌, if◌then◌else◌, All, OnOk};
+ghost use Rattle.std.specs.Prelude.{IfOk, take, drop, Some, None};
 ghost use Rattle.tomex_symbols.specs.Functions.{AreNumbered, function_at, holds};
 ghost use Rattle.tomex_symbols.specs.Sweep.{InOrder, IsSwept, if_at, is_unsized, last_of};
 
 use crate::symbol::Symbol;
 use std::alloc::{AllocError, Allocator};
 
-/// What is known at an address of the symbols that begin by then.
+/// What a sweep knows, at an address, about the symbols that begin up to it.
 #[derive(Drop)]
 pub struct Sweep<A: Allocator> {
-    /// How many symbols begin by then.
+    /// The number of symbols that begin up to it.
     pub begun: usize,
-    /// Those with a size that haven't ended, and others below them that have; the last is the innermost.
+    /// Symbols with a size that haven't ended, the innermost last; below them there may be some
+    /// that have.
     pub nested: Vec<Symbol, A>,
     /// The last one without a size.
     pub label: Option<Symbol>,
@@ -35,7 +37,7 @@ impl<A: Allocator> Sweep<A> {
         }
     }
 
-    /// Notes the next symbol.
+    /// Enters the next symbol.
     fn begin(&mut self, symbol: Symbol) -> Result<(), AllocError>
         requires { self.old.begun + 1 < 2 ^ 64 }
         ensures begun { OnOk result (self.new.begun ≡ self.old.begun + 1) }
@@ -55,7 +57,7 @@ impl<A: Allocator> Sweep<A> {
         Ok(())
     }
 
-    /// Notes the symbols that begin by that address.
+    /// Enters the symbols that begin up to `pc`.
     fn begin_up_to(&mut self, sorted: &[Symbol], pc: u32) -> Result<(), AllocError>
         requires order { InOrder sorted.now }
         requires swept { IsSwept sorted.now self.old.begun
@@ -70,7 +72,7 @@ impl<A: Allocator> Sweep<A> {
         Ok(())
     }
 
-    /// The innermost symbol that holds the address. Symbols that end before it are dropped.
+    /// The innermost symbol that holds the address. Drops symbols that end before it.
     fn innermost(&mut self, pc: u32) -> Option<Symbol>
         requires { All (λ s. s.address ≤ pc) self.old.nested.items }
         ensures value { result ≡ last_of (holds pc) self.old.nested.items }

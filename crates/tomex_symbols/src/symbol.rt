@@ -1,8 +1,8 @@
-//! Symbols, and how those of one address are ordered.
+//! Symbols, and the order of those at one address.
 ghost use Rattle.std.specs.Prelude.{◌≡◌};
 ghost use Rattle.tomex_symbols.specs.Functions.{holds, rank_of};
 
-/// What a symbol names.
+/// The kind of thing that a symbol names.
 #[derive(Clone, Copy, Debug, PartialEq, Eq)]
 pub enum Kind {
     /// A function: `STT_FUNC`.
@@ -11,7 +11,7 @@ pub enum Kind {
     Label,
 }
 
-/// How far a symbol's name is known: `STB_GLOBAL`, `STB_WEAK`, or anything else.
+/// A symbol's binding: `STB_GLOBAL`, `STB_WEAK`, or anything else.
 #[derive(Clone, Copy, Debug, PartialEq, Eq)]
 pub enum Binding {
     Global,
@@ -37,7 +37,7 @@ pub struct Symbol {
 }
 
 impl Symbol {
-    /// The symbol's place among those of its address, the first to be chosen having 0.
+    /// The symbol's rank among those at its address; the first to be chosen has 0.
     pub fn rank(&self) -> u8
         ensures { result ≡ rank_of self.now }
     {

@@ -1,9 +1,9 @@
--- What loops have made, one turn later.
+-- The results of loops, one turn later.
 use Rattle.std.proofs.Common.{◌≡◌, ◌∙◌, ap, sym, arith, ℕ, suc, ◌+◌, ◌-◌, ◌<◌, List, ◌++◌}
 use Rattle.std.proofs.Common.{append_assoc}
 use Rattle.std.specs.List.{flat_map, range_with_len}
 
--- what one number more adds
+-- what one more number adds
 pub number_more : {X : Type 0} (f : ℕ → List X) (k until : ℕ) (before after whole : List X) → k < until
     → after ≡ before ++ f k → before ++ flat_map f (range_with_len k (until - k)) ≡ whole
     → after ++ flat_map f (range_with_len (k + 1) (until - (k + 1))) ≡ whole

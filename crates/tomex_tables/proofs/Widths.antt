@@ -1,4 +1,4 @@
--- How wide columns are.
+-- The widths of columns.
 use Rattle.std.proofs.Common.{◌≡◌, arith, ℕ, max, List, [], ◌∷◌, ◌++◌, length}
 use Rattle.tomex_tables.specs.Table.{longest, width_of}
 
@@ -12,7 +12,7 @@ longest_more : (texts : List (List ℕ)) (t : List ℕ) → longest (texts ++ t 
 longest_more [] t = omega arith
 longest_more (s ∷ texts) t = omega (arith, longest_more texts t)
 
--- with one entry more
+-- with one more entry
 pub width_more : (name : List ℕ) (entries after : List (List ℕ)) (t : List ℕ) (width long new : ℕ)
     → after ≡ entries ++ t ∷ []
     → width ≡ width_of (record { name = name; entries = entries }) → long ≡ length t → new ≡ max width long

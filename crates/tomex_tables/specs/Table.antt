@@ -1,4 +1,4 @@
--- Tables: a line of names, and after it lines of texts, all aligned at their right.
+-- Tables: a line of names, and after it lines of texts, all aligned to the right.
 use Rattle.std.specs.Prelude.{ℕ, ◌<◌, max, List, [], ◌∷◌, ◌++◌, codes, length, slice_index_or}
 use Rattle.std.specs.List.{flat_map, range_with_len}
 use Rattle.tomex_csv_text.specs.Aligned.{right_aligned}
@@ -18,7 +18,7 @@ longest (text ∷ texts) = max (length text) (longest texts)
 unfoldable pub width_of : TableColumn → ℕ
 width_of c = max (length c.name) (longest c.entries)
 
--- what a column has in a line
+-- a column's text in a line
 abbrev pub entry_in : Line → TableColumn → List ℕ
 entry_in Names c = c.name
 entry_in (Entries k) c = slice_index_or c.entries k []
@@ -30,7 +30,7 @@ aligned_in line c = right_aligned (width_of c) (entry_in line c)
 unfoldable pub spaced_in : Line → TableColumn → List ℕ
 spaced_in line c = codes "  " ++ aligned_in line c
 
--- a line: two spaces stand between columns, none at its end
+-- a line: two spaces between columns, none at its end
 unfoldable pub table_line : List TableColumn → Line → List ℕ
 table_line [] line = codes "\n"
 table_line (c ∷ columns) line = aligned_in line c ++ (flat_map (spaced_in line) columns ++ codes "\n")
@@ -43,11 +43,11 @@ entries_line columns k = table_line columns (Entries k)
 unfoldable pub table_of : ℕ → List TableColumn → List ℕ
 table_of count columns = table_line columns Names ++ flat_map (entries_line columns) (range_with_len 0 count)
 
--- one entry more
+-- one more entry
 abbrev pub with_entry : TableColumn → List ℕ → TableColumn
 with_entry c text = record { name = c.name; entries = c.entries ++ (text ∷ []) }
 
--- the column has something in that line
+-- the column has a text in that line
 abbrev pub has_line : Line → TableColumn → Type 0
 has_line Names c = Unit {0}
 has_line (Entries k) c = k < length c.entries

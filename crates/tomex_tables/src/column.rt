@@ -20,7 +20,7 @@ pub struct Column {
 #[derive(Clone, Copy)]
 pub(crate) enum Line {
     Names,
-    /// The entries at this place of the columns.
+    /// The entries at this place in the columns.
     Entries(usize),
 }
 
@@ -60,7 +60,7 @@ impl Column {
         Ok(())
     }
 
-    /// Adds what the column has in a line, aligned at its right.
+    /// Adds the column's text in a line, aligned to the right.
     #[tactic(auto, unfolding(crate::specs::Table::aligned_in))]
     pub(crate) fn push_line<A: Allocator>(
         &self,

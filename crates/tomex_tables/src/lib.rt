@@ -1,4 +1,4 @@
-//! Tables for people: a line of names, and after it lines of texts, all aligned at their right.
+//! Tables for people: a line of names, and after it lines of texts, all aligned to the right.
 #![tactic(auto)]
 
 mod column;

@@ -7,7 +7,7 @@ ghost use Rattle.tomex_tables.specs.Table.{has_line, spaced_in, table_line, tabl
 use crate::column::{Column, Line};
 use std::alloc::{AllocError, Allocator};
 
-/// Adds what these columns have in a line, each after two spaces.
+/// Adds the texts of these columns in a line, each after two spaces.
 #[tactic(auto, unfolding(crate::specs::Table::spaced_in))]
 fn push_spaced<A: Allocator>(
     text: &mut String<A>,
@@ -25,7 +25,6 @@ fn push_spaced<A: Allocator>(
     Ok(())
 }
 
-/// Adds a line.
 #[tactic(auto, unfolding(crate::specs::Table::table_line))]
 fn push_line<A: Allocator>(
     text: &mut String<A>,

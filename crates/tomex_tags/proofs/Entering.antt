@@ -44,7 +44,7 @@ all_entered slots x v old new l wait_sets entered = record {
   writing = set_entered writes slots old.writing new.writing x v l wait_sets.writing entered.writing;
 }
 
--- what is as before is filed as before
+-- a station that is unchanged for a test stays in the same set
 kept : (test : Option Station → Bool) (slots : List (Option Station)) (old new x : ℕ) (v w : Option Station) → x < 128
     → IsSetOf test slots old → slice_index_or slots x None ≡ w → test v ≡ test w → new ≡ old
     → IsWithMember x (test v) old new
@@ -104,7 +104,7 @@ hear_entered slots x sent o old new l wait_sets at entered same = record {
     writes_still None = refl
     writes_still (Some s) = refl
 
--- a station that waits for nothing has nothing to hear
+-- an operand that is there receives nothing
 still_there : (sent : ℕ → Option ℕ) (f : Field) → is_there f ≡ true → is_there (heard sent f) ≡ true
 still_there sent (Value v) e = refl
 still_there sent Unread e = refl
@@ -118,7 +118,7 @@ still_waits sent (Some s) e =
     let operands = and_parts (is_there s.j) (is_there s.k) none.1 in
     rw (none.0, still_there sent s.j operands.0, still_there sent s.k operands.1, two.1) refl
 
--- no station is in a set
+-- without stations the sets are empty
 pub none_stand : (slots : List (Option Station)) → ((x : ℕ) → x < 128 → slice_index_or slots x None ≡ None)
     → AreWaitSets slots (record { lacking = 0; waiting = 0; writing = 0 })
 none_stand slots none = record {
@@ -134,7 +134,7 @@ joined_as set x out y l = elim (cases_Bool (x == y)) [
   | inr e ↦ rw e refl
 ]
 
--- what stands in a place of a set is busy
+-- a place of a set is busy
 pub is_busy_there : (test : Option Station → Bool) (slots : List (Option Station)) (busy : ℕ) (issue_numbers : List ℕ)
     (set : ℕ) → test None ≡ false → AreBusy slots busy issue_numbers → IsSetOf test slots set → (x : ℕ) → x < 128
     → has set x ≡ true → has busy x ≡ true
@@ -145,7 +145,7 @@ is_busy_there test slots busy issue_numbers set none filled of x l member =
     some_of None e = absurd (both_ways (test None) none e)
     some_of (Some s) e = refl
 
--- a set of what passes a test is one of the busy places
+-- a set of places that pass a test is one of busy places
 pub of_busy : (test : Option Station → Bool) (slots : List (Option Station)) (busy : ℕ) (issue_numbers : List ℕ)
     (set : ℕ) → test None ≡ false → AreBusy slots busy issue_numbers → IsSetOf test slots set → (x : ℕ) → x < 128
     → has set x ≡ (has busy x && test (slice_index_or slots x None))

@@ -1,4 +1,4 @@
--- A broadcast reaches one busy station after the other.
+-- A broadcast reaches one busy station after another.
 use Rattle.std.proofs.Common.{ℕ, ◌<◌, ◌≤◌, ◌≡◌, ◌∙◌, Bool, true, false, arith, refl, ap, sym, inl, inr, Option, Some}
 use Rattle.std.proofs.Common.{None, length, slice_index_or, slice_set}
 use Rattle.std.specs.Prelude.{◌==◌, ◌||◌, if◌then◌else◌, option_map}
@@ -16,7 +16,7 @@ use Rattle.tomex_tags.specs.Places.{place_of_tag}
 use Rattle.tomex_tags.proofs.Listening.{hears_none}
 use Rattle.tomex_tags.specs.Pools.{AreBusy, Pools}
 
--- the stations but for a rest have heard what is sent
+-- all stations except a rest have received the values that are sent
 pub record AreHearing (sent : ℕ → Option ℕ) (rest : ℕ) (old new : Pools) : Type 0 where
   pub places : length new.slots ≡ 96
   pub slots : (x : ℕ) → x < 96 → slice_index_or new.slots x None
@@ -25,7 +25,7 @@ pub record AreHearing (sent : ℕ → Option ℕ) (rest : ℕ) (old new : Pools)
   pub busy : new.busy ≡ old.busy
   pub issue_numbers : new.issue_numbers ≡ old.issue_numbers
 
--- a station with no operand to come from a place hears nothing that it sends
+-- an operand that isn't to come from a place is unchanged by what it sends
 there : (from value : ℕ) (f : Field) → comes_from from f ≡ false → heard (only from (Some value)) f ≡ f
 there from value (Value v) e = refl
 there from value Unread e = refl
@@ -61,7 +61,7 @@ first_heard from value rest old filled listen = record {
   issue_numbers = refl;
 }
 
--- once all have heard it, nothing is to come from the place
+-- once all have received it, nothing is to come from the place
 pub none_listening : (from value rest : ℕ) (old new : Pools) → AreHearing (only from (Some value)) rest old new
     → rest ≡ 0 → (x : ℕ) → x < 96 → awaits from (slice_index_or new.slots x None) ≡ false
 none_listening from value rest old new so empty x l = ap (awaits from) (so.slots x l ∙ rw (none_rest rest x empty) refl)
@@ -71,7 +71,7 @@ none_listening from value rest old new so empty x l = ap (awaits from) (so.slots
     silent None = refl
     silent (Some s) = hears_none from value s
 
--- what stands in one place more has heard it
+-- the station in one more place has received it
 pub heard_more : (sent : ℕ → Option ℕ) (rest left x : ℕ) (old now new : Pools) → AreHearing sent rest old now → x < 96
     → has rest x ≡ true → IsWithout rest x left
     → new.slots ≡ slice_set now.slots x (option_map (hears sent) (slice_index_or now.slots x None))
@@ -99,7 +99,7 @@ heard_more sent rest left x old now new so small member without slots busy issue
       issue_numbers = issue_numbers ∙ so.issue_numbers;
     }
 
--- nothing stands past the last place
+-- there is nothing past the last place
 pub heard_past : (sent : ℕ → Option ℕ) (rest left x : ℕ) (old now : Pools) → AreHearing sent rest old now → 96 ≤ x
     → IsWithout rest x left → AreHearing sent left old now
 heard_past sent rest left x old now so high without = record {

@@ -1,5 +1,5 @@
--- Which stations wait for what a place will send, as stations come, change and go; and that each holds an instruction
--- of its pool.
+-- Which stations wait for a place's result, as stations come, change and go; and each station holds an instruction of
+-- its pool.
 use Rattle.std.proofs.Common.{ℕ, ◌/◌, ◌<◌, ◌≤◌, ◌≡◌, ◌∙◌, Bool, true, false, refl, ap, sym, inl, inr, arith, List}
 use Rattle.std.proofs.Common.{Option, Some, None, length, slice_index, slice_index_or, slice_set, replicate}
 use Rattle.std.specs.Prelude.{IfSome, ◌==◌, ◌||◌, ◌⊎◌, is_some}
@@ -17,7 +17,8 @@ use Rattle.tomex_tags.specs.Operands.{comes_from, heard, only}
 use Rattle.tomex_tags.specs.Places.{place_of_tag, pool_at}
 use Rattle.tomex_tags.specs.Pools.{AreOwn, IsOwn}
 
--- the sets once this stands in a place: it is a member of those of the places that it waits for
+-- the sets after this station, or none, is put into a place: it is a member of the sets of the places that it waits
+-- for
 pub record Listens (x : ℕ) (o : Option Station) (old new : List ℕ) : Type 0 where
   pub count : length new ≡ length old
   pub kept : (y z : ℕ) → y < 96 → has (slice_index old y) z ≡ true → has (slice_index new y) z ≡ true
@@ -57,7 +58,7 @@ pub pool_here : (slots : List (Option Station)) (x : ℕ) (o : Option Station) �
 pool_here slots x None l so at = tt
 pool_here slots x (Some s) l so at = own_here slots x s l so (sym at)
 
--- what is taken out waits for nothing
+-- a free place waits for nothing
 pub none_listens : (x : ℕ) (sets : List ℕ) → Listens x None sets sets
 none_listens x sets = record { count = refl; kept = λ y z l e. e; added = λ y l e. absurd (cc) }
 
@@ -65,7 +66,7 @@ or_cases : (a b : Bool) → (a || b) ≡ true → (a ≡ true) ⊎ (b ≡ true)
 or_cases true b e = inl refl
 or_cases false b e = inr e
 
--- what comes is told to the places of both operands
+-- a station that comes is entered at the places of both operands
 pub station_listens : (x : ℕ) (s : Station) (old now new : List ℕ) → length old ≡ 96 → IsListening x s.j old now
     → IsListening x s.k now new → Listens x (Some s) old new
 station_listens x s old now new count first second = record {
@@ -77,14 +78,14 @@ station_listens x s old now new count first second = record {
   ];
 }
 
--- what waits for no more than before is told already
+-- a station that waits for no more than before is already entered
 pub same_listens : (slots : List (Option Station)) (x : ℕ) (s t : Station) (sets : List ℕ) → x < 96
     → AreListening slots sets → slice_index_or slots x None ≡ Some s
     → ((y : ℕ) → awaits y (Some t) ≡ true → awaits y (Some s) ≡ true) → Listens x (Some t) sets sets
 same_listens slots x s t sets l so here less =
     record { count = refl; kept = λ y z k e. e; added = λ y k e. so.each x y l k (ap (awaits y) here ∙ less y e) }
 
--- an operand that has heard comes from where it came before, or is there
+-- an operand after a result comes from where it came before, or is there
 heard_less : (sent : ℕ → Option ℕ) (y : ℕ) (f : Field) → comes_from y (heard sent f) ≡ true → comes_from y f ≡ true
 heard_less sent y (Value v) e = e
 heard_less sent y Unread e = e
@@ -151,7 +152,7 @@ forgotten slots sets from so l none = record {
   ];
 }
 
--- what waits for a place is busy
+-- a station that waits for a place is busy
 pub awaits_some : (y : ℕ) (o : Option Station) → awaits y o ≡ true → is_some o ≡ true
 awaits_some y None e = absurd (cc)
 awaits_some y (Some s) e = refl
@@ -165,7 +166,7 @@ member_kept old new x z with e = elim (cases_Bool (x == z)) [
   | inr g ↦ with.others z (λ w. eqb-false x z g (sym w)) ∙ e
 ]
 
--- an operand is told to its place
+-- an operand is entered at its place
 pub told : (sets : List ℕ) (x from : ℕ) (tag : Tag) (set : ℕ) → length sets ≡ 96 → from ≡ place_of_tag tag
     → IsWith (slice_index sets from) x set → IsListening x (Waits tag) sets (slice_set sets from set)
 told sets x from tag set count at with = record {
@@ -181,7 +182,7 @@ told sets x from tag set count at with = record {
       (set_here sets from y set (omega (arith, count)) (at ∙ eqb-true (place_of_tag tag) y e)) ∙ with.same;
 }
 
--- a place that sends nothing is told nothing
+-- a place that sends nothing has no set
 pub past : (sets : List ℕ) (x from : ℕ) (tag : Tag) → from ≡ place_of_tag tag → 96 ≤ from
     → IsListening x (Waits tag) sets sets
 past sets x from tag at high = record {
@@ -190,7 +191,7 @@ past sets x from tag at high = record {
   added = λ y l e. let same : from ≡ y = at ∙ eqb-true (place_of_tag tag) y e in absurd (omega arith);
 }
 
--- an operand that comes from no place is told to none
+-- an operand that comes from no place is entered at none
 pub untold : (sets : List ℕ) (x : ℕ) (f : Field) → ((y : ℕ) → y < 96 → comes_from y f ≡ false)
     → IsListening x f sets sets
 untold sets x f none = record {

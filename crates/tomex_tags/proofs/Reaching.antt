@@ -1,4 +1,4 @@
--- What stands in a place hears a result: all that is said of the stations holds still.
+-- The station in a place receives a result: everything stated about the stations still holds.
 use Rattle.std.proofs.Common.{ℕ, ◌/◌, ◌%◌, ◌<◌, ◌≡◌, ◌∙◌, arith, true, refl, sym, List, Option, Some, None}
 use Rattle.std.proofs.Common.{slice_index_or, get_or}
 use Rattle.std.specs.Prelude.{is_some, option_map}
@@ -12,7 +12,7 @@ use Rattle.tomex_tags.proofs.Entering.{hear_entered, still_waits}
 use Rattle.tomex_tags.proofs.Listening.{Listens, hears_less, none_listens, same_listens}
 use Rattle.tomex_tags.proofs.Slots.{at_place, filled_by, said_same, set_in}
 
--- what waits for nothing does so still
+-- a station that waits for no operand still waits for none
 pub waits_still : (sent : ℕ → Option ℕ) (pools : List (List (Option Station))) (busy x : ℕ)
     (issue_numbers listeners : List ℕ) (d : List (Option Station)) (sets : WaitSets)
     → AreFilled pools busy issue_numbers sets listeners → x < 96

@@ -58,7 +58,7 @@ are_store_places set e x l = agreed (has set) is_store_place 128 e x l
 pub places_of_stores : (x : ℕ) → x < 128 → has 1208907372870555465154560 x ≡ is_store_place x
 places_of_stores = are_store_places 1208907372870555465154560 refl
 
--- a store is one in a place of theirs
+-- a store is a station in a place of the store buffers
 stores_by : (x : ℕ) (o : Option Station) → x < 96 → IsOwn x o → (is_some o && is_store_place x) ≡ holds_store o
 stores_by x None l own = refl
 stores_by x (Some s) l own = rw (lt-ltb x 96 l, own) refl
@@ -76,7 +76,7 @@ are_stores slots busy places stores issue_numbers filled own are both x l =
       | inr e ↦ rw (none_past slots busy issue_numbers x filled l (ltb-false x 96 e)) refl
     ])
 
--- a load or store is one in a place of theirs; it has its address where it isn't among those that lack it
+-- a load or store is a station in a place of theirs; it has its address if it isn't among those without one
 addressed_by : (x : ℕ) (o : Option Station) → x < 96 → IsOwn x o
     → ((is_some o && is_served units.Mem x) && not (lacks_address o)) ≡ has_address o
 addressed_by x None l own = refl

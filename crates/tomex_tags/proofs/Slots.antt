@@ -1,4 +1,4 @@
--- The places of six pools of 16 stations, one after the other.
+-- The places of six pools of 16 stations, one after another.
 use Rattle.std.proofs.Common.{ℕ, zero, suc, ◌+◌, ◌*◌, ◌-◌, ◌/◌, ◌%◌, ◌^◌, ◌<◌, ◌≡◌, ◌∙◌, true, arith, refl, ap, sym}
 use Rattle.std.proofs.Common.{inl, inr, List, [], ◌∷◌, ◌++◌, Option, None, length, slice_index_or, slice_set, replicate}
 use Rattle.std.proofs.Common.{get_or}
@@ -20,7 +20,7 @@ use Rattle.tomex_tags.proofs.Listening.{Listens, listening_set, none_awaits, own
 abbrev Pool : Type 0
 Pool = List (Option Station)
 
--- what changes a free place changes nothing
+-- a change of a free place changes nothing
 pub set_none : (f : Station → Station) (slots : Pool) (place : ℕ) → slice_index_or slots place None ≡ None
     → slots ≡ slice_set slots place (option_map f (slice_index_or slots place None))
 set_none f slots place e = sym (ap (λ (o : Option Station). slice_set slots place (option_map f o)) e
@@ -68,7 +68,7 @@ size_at (x ∷ xs) (suc p) d sizes l = size_at xs p d sizes.1 (omega arith)
 parts : (x : ℕ) → 16 * (x / 16) + x % 16 ≡ x
 parts x = omega arith
 
--- what stands in a place
+-- the station in a place
 pub at_place : (pools : List Pool) (x : ℕ) (d : Pool) → AreSix pools → x < 96
     → slice_index_or (get_or pools (x / 16) d) (x % 16) None ≡ slice_index_or (slots_of pools) x None
 at_place pools x d six l =
@@ -86,7 +86,7 @@ set_place pools x d v six l =
     slot_set pools (x / 16) (x % 16) d v six.sizes (omega arith) (omega arith)
     ∙ ap (λ (y : ℕ). slice_set (slots_of pools) y v) (parts x)
 
--- the station in a place, where there is one, is changed
+-- the station in a place, if there is one, is changed
 pub changed_in : (change : Station → Station) (pools : List Pool) (x : ℕ) (d : Pool) → AreSix pools → x < 96
     → slots_of (set_in pools x d (option_map change (slice_index_or (get_or pools (x / 16) d) (x % 16) None)))
     ≡ slice_set (slots_of pools) x (option_map change (slice_index_or (slots_of pools) x None))
@@ -94,7 +94,7 @@ changed_in change pools x d six l =
     set_place pools x d (option_map change (slice_index_or (get_or pools (x / 16) d) (x % 16) None)) six l
     ∙ ap (λ (o : Option Station). slice_set (slots_of pools) x (option_map change o)) (at_place pools x d six l)
 
--- a place is written, and the set of the busy ones says so
+-- a place is filled, and becomes a member of the busy ones
 pub filled_by : (pools : List Pool) (busy new : ℕ) (issue_numbers later : List ℕ) (x : ℕ) (d : Pool)
     (v : Option Station) (old wait_sets : WaitSets) (listeners more : List ℕ)
     → AreFilled pools busy issue_numbers old listeners → x < 96 → length later ≡ 128 → new < 2 ^ 128
@@ -150,7 +150,7 @@ said_same busy x v same y l = elim (cases_Bool (x == y)) [
   | inr e ↦ rw e refl
 ]
 
--- six pools in which nothing stands
+-- six pools without busy stations
 abbrev pub idle_pools : List Pool
 idle_pools = replicate 6 (replicate 16 None)
 

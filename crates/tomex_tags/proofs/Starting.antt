@@ -1,4 +1,4 @@
--- The operation of a station starts where the station stands.
+-- The operation of a station starts in the station's place.
 use Rattle.std.proofs.Common.{ℕ, ◌/◌, ◌%◌, ◌<◌, ◌≡◌, ◌∙◌, arith, ap, false, true, refl, List, Option, Some, None}
 use Rattle.std.proofs.Common.{slice_index_or, get_or}
 use Rattle.std.specs.Prelude.{IsSome, is_some, option_map}

@@ -1,4 +1,4 @@
--- What a busy station holds, and what becomes of it.
+-- The contents of a busy station, and how they change.
 use Rattle.std.specs.Prelude.{ℕ, Bool, true, false, not, ◌&&◌, ◌||◌, List, Option, Some, None}
 use Rattle.std.specs.Prelude.{is_none, is_some, option_map, slice_index_or, slice_set}
 use Rattle.tomex_rvdec.specs.Operands.{pool_of}
@@ -17,11 +17,11 @@ use Rattle.tomex_tags.specs.declared.station.Station.{Station}
 use Rattle.tomex_tags.specs.Operands.{heard, is_there, value_in}
 use Rattle.tomex_tags.specs.Places.{tag_at_place}
 
--- what stands in a place: none where it is free
+-- the station in a place: none if it is free
 abbrev pub slot : List (Option Station) → ℕ → Option Station
 slot slots place = slice_index_or slots place None
 
--- stations once the one in a place has changed, if one stands there
+-- stations after the one in a place has changed, if there is one
 abbrev pub changed : (Station → Station) → ℕ → List (Option Station) → List (Option Station)
 changed change place slots = slice_set slots place (option_map change (slot slots place))
 
@@ -29,7 +29,7 @@ changed change place slots = slice_set slots place (option_map change (slot slot
 abbrev pub is_memory_op : Op → Bool
 is_memory_op op = is_in pools.Load (pool_of op) || is_in pools.Store (pool_of op)
 
--- no Q stands
+-- no operand is a Q
 abbrev pub is_ready : Station → Bool
 is_ready s = is_there s.j && is_there s.k
 
@@ -50,7 +50,7 @@ abbrev pub lacks_address : Option Station → Bool
 lacks_address None = false
 lacks_address (Some s) = is_memory_op s.instr.op && not (is_some s.address)
 
--- the station waits for nothing but a unit and older accesses
+-- the station waits only for a unit and for older accesses
 abbrev pub is_waiting : Station → Bool
 is_waiting s = is_none s.finish && is_ready s && (not (is_memory_op s.instr.op) || is_some s.address)
 
@@ -63,11 +63,11 @@ address_from s (Value base) = record s { address = Some (sum base s.instr.imm) }
 address_from s (Waits tag) = s
 address_from s Unread = s
 
--- the station with its address, where its base is there
+-- the station with its address, if its base is there
 abbrev pub with_address : Station → Station
 with_address s = address_from s s.j
 
--- a station after what is sent, by place
+-- a station after the values that are sent, by place
 abbrev pub hears : (ℕ → Option ℕ) → Station → Station
 hears sent s = record s { j = heard sent s.j; k = heard sent s.k }
 
@@ -77,7 +77,7 @@ a_from false address imm = None
 a_from true None imm = Some imm
 a_from true (Some a) imm = Some a
 
--- what the tables show of a station
+-- the tables' entry for a station
 abbrev pub busy_from : Tag → Station → Busy
 busy_from tag s = record {
   tag = tag;
@@ -87,10 +87,10 @@ busy_from tag s = record {
   a = a_from (is_memory_op s.instr.op) s.address s.instr.imm;
 }
 
--- what the tables show of a place, none where it is free
+-- the tables' entry for a place: none if it is free
 abbrev pub shown_at : List (Option Station) → ℕ → Option Busy
 shown_at slots place = option_map (busy_from (tag_at_place place)) (slot slots place)
 
--- what an instruction's issue puts into its station
+-- the station that an instruction's issue fills
 abbrev pub issued : Instr → ℕ → Field → Field → Station
 issued instr pc j k = record { instr = instr; pc = pc; j = j; k = k; address = None; finish = None; value = 0 }

@@ -5,13 +5,13 @@ use Rattle.tomex_timing.specs.declared.tables.Field.TheVariants.{Value, Waits, U
 use Rattle.tomex_timing.specs.declared.tables.Tag.{Tag}
 use Rattle.tomex_tags.specs.Places.{place_of_tag}
 
--- no Q stands
+-- the operand isn't a Q
 abbrev pub is_there : Field → Bool
 is_there (Value v) = true
 is_there (Waits tag) = false
 is_there Unread = true
 
--- the value of an operand, 0 where it isn't there
+-- the value of an operand, 0 if it isn't there
 abbrev pub value_in : Field → ℕ
 value_in (Value v) = v
 value_in (Waits tag) = 0
@@ -21,13 +21,13 @@ abbrev pub taken : Option ℕ → Tag → Field
 taken None tag = Waits tag
 taken (Some v) tag = Value v
 
--- an operand after what is sent, by place
+-- an operand after the values that are sent, by place
 abbrev pub heard : (ℕ → Option ℕ) → Field → Field
 heard sent (Waits tag) = taken (sent (place_of_tag tag)) tag
 heard sent (Value v) = Value v
 heard sent Unread = Unread
 
--- one place sends
+-- only place x sends
 abbrev pub only : ℕ → Option ℕ → ℕ → Option ℕ
 only x sent y = if x == y then sent else None
 

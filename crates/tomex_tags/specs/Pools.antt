@@ -13,8 +13,8 @@ use Rattle.tomex_tags.specs.Listeners.{AreListening}
 use Rattle.tomex_tags.specs.Places.{pool_at}
 use Rattle.tomex_tags.specs.WaitSets.{AreWaitSets}
 
--- By place what stands there, the set of the busy places, and by place an issue number: how many instructions had
--- issued before the one there, or before the one that was there last.
+-- For each place its station, the set of the busy places, and for each place an issue number: how many instructions
+-- had issued before the one there, or before the one that was there last.
 pub record Pools : Type 0 where
   pub slots : List (Option Station)
   pub busy : ℕ
@@ -32,7 +32,7 @@ pub record AreSix (pools : List (List (Option Station))) : Type 0 where
   pub count : length pools ≡ 6
   pub sizes : AreSixteen pools
 
--- the set is of the places in which a station is busy
+-- the set is that of the places in which a station is busy
 pub record AreBusy (slots : List (Option Station)) (busy : ℕ) (issue_numbers : List ℕ) : Type 0 where
   pub places : length slots ≡ 96
   pub order_count : length issue_numbers ≡ 128
@@ -55,17 +55,17 @@ pub record AreFilled (pools : List (List (Option Station))) (busy : ℕ) (issue_
   pub wait_sets : AreWaitSets (slots_of pools) sets
   pub filled : AreBusy (slots_of pools) busy issue_numbers
 
--- nothing stands in a pool's station of this number
+-- a pool's station of this number is free
 abbrev pub is_open : List (Option Station) → PoolId → ℕ → Bool
 is_open slots pool n = is_none (slot slots (16 * place_of_pool pool + n))
 
--- the station in a place changes, if one stands there, and nothing else does
+-- the station in a place changes, if there is one, and nothing else does
 pub record ChangesStation (place : ℕ) (change : Station → Station) (old new : Pools) : Type 0 where
   pub slots : new.slots ≡ changed change place old.slots
   pub busy : new.busy ≡ old.busy
   pub issue_numbers : new.issue_numbers ≡ old.issue_numbers
 
--- each station has heard what is sent, and nothing else has changed
+-- each station has received the values that are sent, and nothing else has changed
 pub record HaveHeard (sent : ℕ → Option ℕ) (old new : Pools) : Type 0 where
   pub places : length new.slots ≡ 96
   pub slots : (x : ℕ) → x < 96 → slot new.slots x ≡ option_map (hears sent) (slot old.slots x)

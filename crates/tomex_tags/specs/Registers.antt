@@ -12,12 +12,12 @@ use Rattle.tomex_tags.specs.declared.station.Station.{Station}
 use Rattle.tomex_tags.specs.Contents.{issued}
 use Rattle.tomex_tags.specs.Places.{place_at}
 
--- what the registers give an operand: the value where Qi is empty, else the tag that Qi names
+-- the operand that the registers give: the value if Qi is empty, else the tag that Qi names
 abbrev pub operand_in : RegStatus → Option ℕ → Field
 operand_in registers None = Unread
 operand_in registers (Some r) = field_from (slice_index registers.values r) (slice_index_or registers.tags r None)
 
--- what an instruction's issue puts into its station: its operands are read from these registers
+-- the station that an instruction's issue fills: its operands are read from these registers
 abbrev pub issued_from : RegStatus → Instr → ℕ → Station
 issued_from registers instr pc =
     issued instr pc (operand_in registers (sources_of instr).j) (operand_in registers (sources_of instr).k)
@@ -31,7 +31,8 @@ tags_with tags (Some r) tag = slice_set tags r (Some tag)
 abbrev pub names : RegStatus → ℕ → ℕ → Bool
 names registers r x = is_number (place_at (slice_index_or registers.tags r None)) x
 
--- a register takes what a place sends: where its Qi still names the place it is written and Qi is emptied
+-- the registers after a place sends a value: if the register's Qi still names the place, it is written and Qi is
+-- emptied
 abbrev pub received : RegStatus → ℕ → ℕ → ℕ → RegStatus
 received registers r x value =
     if names registers r x

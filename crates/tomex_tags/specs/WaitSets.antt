@@ -20,12 +20,12 @@ abbrev pub holds_store : Option Station → Bool
 holds_store None = false
 holds_store (Some s) = is_in pools.Store (pool_of s.instr.op)
 
--- nothing but a unit and older accesses is in its way
+-- the station waits only for a unit and for older accesses
 abbrev pub waits : Option Station → Bool
 waits None = false
 waits (Some s) = is_waiting s
 
--- nothing but a unit of this kind and older accesses is in its way
+-- the station waits only for a unit of this kind and for older accesses
 abbrev pub waits_for : UnitId → Option Station → Bool
 waits_for unit None = false
 waits_for unit (Some s) = is_waiting s && is_of unit (unit_of s.instr.op)
@@ -35,21 +35,21 @@ abbrev pub writes : Option Station → Bool
 writes None = false
 writes (Some s) = is_some (dest_of s.instr)
 
--- a set is of the places whose stations pass a test
+-- a set is that of the places whose stations pass a test
 abbrev pub IsSetOf : (Option Station → Bool) → List (Option Station) → ℕ → Type 0
 IsSetOf test slots set = (x : ℕ) → x < 128 → has set x ≡ test (slot slots x)
 
--- the sets are of what stands in the places
+-- the sets follow from the stations in the places
 pub record AreWaitSets (slots : List (Option Station)) (sets : WaitSets) : Type 0 where
   pub lacking : IsSetOf lacks_address slots sets.lacking
   pub waiting : IsSetOf waits slots sets.waiting
   pub writing : IsSetOf writes slots sets.writing
 
--- a set once a place is a member or none
+-- a set after a place is made a member, or not
 abbrev pub IsWithMember : ℕ → Bool → ℕ → ℕ → Type 0
 IsWithMember x member old new = (y : ℕ) → y < 128 → has new y ≡ (if x == y then member else has old y)
 
--- the sets once this stands in a place
+-- the sets after this station, or none, is put into a place
 pub record HasEntered (x : ℕ) (station : Option Station) (old new : WaitSets) : Type 0 where
   pub lacking : IsWithMember x (lacks_address station) old.lacking new.lacking
   pub waiting : IsWithMember x (waits station) old.waiting new.waiting
@@ -61,7 +61,7 @@ pub record IsOut (x : ℕ) (sets : WaitSets) : Type 0 where
   pub waiting : has sets.waiting x ≡ false
   pub writing : has sets.writing x ≡ false
 
--- all but the set of those that wait is as before
+-- all except the set of those that wait are as before
 pub record KeepsOthers (old new : WaitSets) : Type 0 where
   pub lacking : new.lacking ≡ old.lacking
   pub writing : new.writing ≡ old.writing

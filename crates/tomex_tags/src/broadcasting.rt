@@ -10,7 +10,7 @@ use crate::register_status::RegStatus;
 
 /// Sends the result of the station in a place to all stations and to its destination.
 ///
-/// Each Q that names the place becomes V; the register is written and its Qi emptied where that Qi
+/// Each Q that names the place becomes V; the register is written and its Qi emptied if that Qi
 /// still names the place, as it does unless a younger writer has issued.
 #[inline(always)]
 pub fn broadcast(

@@ -16,8 +16,8 @@ use tomex_timing::Tag;
 
 /// Issues an instruction to the station of a tag, which is free. `issue_number` instructions have issued before it.
 ///
-/// A source whose register has no Qi gives its value, any other the tag that will send it. From here
-/// on the destination waits for the new tag.
+/// A source whose register has no Qi gives its value, any other gives the tag of the station that
+/// will send it. From now on the destination waits for the new tag.
 #[inline(always)]
 pub fn issue(
     pools: &mut Pools,

@@ -1,8 +1,8 @@
 //! Reservation stations, their tags, and the register status of a Tomasulo machine.
 //!
-//! An instruction that issues takes a station of its pool. An operand that is still to come is
-//! named by the tag of the station that will send it; so is each register whose youngest writer
-//! hasn't sent its result. A broadcast turns a tag into a value wherever it stands.
+//! An instruction that issues takes a station of its pool. A missing operand is named by the tag of
+//! the station that will send it; so is each register whose youngest writer hasn't sent its result.
+//! A broadcast replaces a tag by a value wherever it occurs.
 //!
 //! Sources: R. M. Tomasulo, "An Efficient Algorithm for Exploiting Multiple Arithmetic Units", 1967,
 //! and the chapter on Tomasulo's algorithm in Hennessy and Patterson's "Computer Architecture: A

@@ -1,4 +1,4 @@
-//! Which stations to tell of a result.
+//! Which stations wait for a result.
 
 ghost use Rattle.std.specs.Prelude.{◌≡◌, ◌<◌, replicate, slice_index, slice_set};
 ghost use Rattle.tomex_tags.specs.Listeners.{IsListening};
@@ -7,24 +7,24 @@ use crate::places::place;
 use tomex_sets::with;
 use tomex_timing::Field;
 
-/// By place, the places of stations with an operand to come from it.
+/// For each place, the places of the stations with an operand to come from it.
 ///
-/// They spare a broadcast the walk over all stations that wait for something. A set may have members
-/// that wait no more.
+/// They save a broadcast the walk over all stations that wait for something. Entries may be stale,
+/// never missing.
 #[derive(Clone, Copy)]
 pub struct Listeners {
     pub sets: [u128; 96],
 }
 
 impl Listeners {
-    /// None waits.
+    /// The sets before anything waits.
     pub fn new() -> Listeners
         ensures { result.sets ≡ replicate 96 0 }
     {
         Listeners { sets: [0; 96] }
     }
 
-    /// The station in a place has this operand.
+    /// Enters an operand of the station in a place.
     #[inline(always)]
     pub fn add(&mut self, listener: usize, operand: Field)
         requires { listener < 96 }

@@ -35,7 +35,7 @@ pub fn tag(place: usize) -> Tag
     }
 }
 
-/// By pool, the kind of unit that runs its operations.
+/// For each pool, the kind of unit that runs its operations.
 static UNITS: [UnitId; 6] = [
     UnitId::Alu,
     UnitId::Mul,

@@ -29,7 +29,7 @@ pub struct Pools {
     pools: [Stations; 6],
     /// The places of the busy stations.
     busy: u128,
-    /// By place, how many instructions had issued before the one there.
+    /// For each place, how many instructions had issued before the one there.
     issue_numbers: [u32; 128],
     wait_sets: WaitSets,
     listeners: Listeners,
@@ -46,7 +46,7 @@ impl Model for Pools {
 }
 
 impl Pools {
-    /// No station is busy yet.
+    /// The stations before any is busy.
     pub fn new() -> Pools
         ensures slots { result.slots ≡ replicate 96 None }
         ensures busy { result.busy ≡ 0 }
@@ -146,7 +146,7 @@ impl Pools {
         self.wait_sets.writing
     }
 
-    /// The places whose operations wait for nothing but a unit and older accesses.
+    /// The places whose operations wait only for a unit and for older accesses.
     #[inline(always)]
     pub fn waiting(&self) -> u128
         ensures set { IsSetOf waits self.now.slots result }
@@ -165,7 +165,7 @@ impl Pools {
         both(self.waiting(), served_by(unit))
     }
 
-    /// By place, how many instructions had issued before the one there.
+    /// For each place, how many instructions had issued before the one there.
     #[inline(always)]
     pub fn issue_numbers(&self) -> &[u32; 128]
         ensures { result.now ≡ self.now.issue_numbers }
@@ -173,7 +173,8 @@ impl Pools {
         &self.issue_numbers
     }
 
-    /// Computes the address of the station in a place, if its base is there. A free place stays as it is.
+    /// Computes the address of the station in a place, if its base is there. A free place stays
+    /// free.
     #[inline(always)]
     pub fn compute_address(&mut self, place: usize)
         ensures { ChangesStation place with_address self.old self.new }
@@ -184,7 +185,7 @@ impl Pools {
         }
     }
 
-    /// The operation of the station in a place starts.
+    /// Starts the operation of the station in a place.
     #[inline(always)]
     pub fn start(&mut self, place: usize, finish: u64, value: u32)
         requires { IsSome (slot self.old.slots place) }
@@ -196,8 +197,8 @@ impl Pools {
         }
     }
 
-    /// A station takes a free place. `issue_number` says how many instructions had issued before its own.
-    /// Answers the register that it writes.
+    /// Puts a station into a free place. `issue_number` is the number of instructions that had
+    /// issued before its own. Returns the register that it writes.
     #[inline(always)]
     pub(crate) fn take(&mut self, place: usize, station: Station, issue_number: u32) -> Option<u8>
         requires place { place < 96 }
@@ -215,7 +216,8 @@ impl Pools {
         self.listeners.add(place, station.k);
         self.busy = with(self.busy, place);
         self.issue_numbers[place] = issue_number;
-        // Last, for its last test, whether a register is written, is the first one of what an issue does next.
+        // Last, because its last test, if a register is written, is also the first one of what an
+        // issue does next.
         self.wait_sets.enter(place, &station)
     }
 
@@ -243,7 +245,7 @@ impl Pools {
         if number < count { Some(number) } else { None }
     }
 
-    /// What the tables show of each place.
+    /// The tables' entry for each place.
     pub fn shown(&self) -> [Option<Busy>; 96]
         ensures count { length result ≡ 96 }
         ensures each { (x : ℕ) → x < 96 → slice_index_or result x None ≡ shown_at self.now.slots x }
@@ -264,7 +266,7 @@ impl Pools {
         }
     }
 
-    /// Turns each Q that names a place into V.
+    /// Replaces each Q that names a place by V.
     #[inline(always)]
     pub(crate) fn hear(&mut self, from: usize, value: u32)
         ensures { HaveHeard (only from (Some value)) self.old self.new }
@@ -280,7 +282,7 @@ impl Pools {
         self.forget(from);
     }
 
-    /// Turns each Q that names a place into V, in the station of another place, if it is busy.
+    /// Replaces each Q that names `from` by V in the station in a place, if it is busy.
     #[inline(always)]
     fn hear_at(&mut self, place: usize, from: usize, value: u32)
         requires { place < 96 }
@@ -290,7 +292,8 @@ impl Pools {
         self.wait_sets.hear(place, waits);
     }
 
-    /// The places of all stations with an operand to come from a place, and perhaps of others.
+    /// The places of all stations with an operand to come from a place; there may be others among
+    /// them.
     #[inline(always)]
     fn listening_to(&self, from: usize) -> u128
         ensures each { (x : ℕ) → x < 96 → awaits from (slot self.now.slots x) ≡ true
@@ -304,7 +307,7 @@ impl Pools {
         }
     }
 
-    /// No station has an operand to come from a place any more.
+    /// Empties the set of a place: no station has an operand to come from it any more.
     #[inline(always)]
     fn forget(&mut self, from: usize)
         requires { (x : ℕ) → x < 96 → awaits from (slot self.old.slots x) ≡ false }

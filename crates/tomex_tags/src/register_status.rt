@@ -1,4 +1,4 @@
-//! The registers, and which station each one's value is still to come from.
+//! The registers, and the station from which each one's value is still to come.
 
 ghost use Rattle.std.specs.Prelude.{◌≡◌, ◌<◌, None, IfSome, replicate, slice_set};
 ghost use Rattle.tomex_steps.specs.Steps.{is_number};
@@ -15,7 +15,7 @@ pub struct RegStatus {
     pub tags: [Option<Tag>; 32],
 }
 
-/// Whether what a tag names is the place.
+/// True if the tag names the place.
 #[inline(always)]
 fn names(tag: Option<Tag>, from: usize) -> bool
     ensures { result ≡ is_number (place_at tag) from }
@@ -27,7 +27,7 @@ fn names(tag: Option<Tag>, from: usize) -> bool
 }
 
 impl RegStatus {
-    /// All zero but x2; none is waited for.
+    /// The registers at the start: all zero except x2, and none waits for a result.
     pub fn new(stack: u32) -> RegStatus
         ensures values { result.values ≡ slice_set (replicate 32 0) 2 stack }
         ensures tags { result.tags ≡ replicate 32 None }
@@ -40,7 +40,7 @@ impl RegStatus {
         }
     }
 
-    /// What a source register gives an operand.
+    /// The operand that a source register gives: its value, or the tag in its Qi.
     #[inline(always)]
     pub fn read(&self, source: Option<u8>) -> Field
         requires { IfSome source (λ r. r < 32) }
@@ -55,7 +55,7 @@ impl RegStatus {
         }
     }
 
-    /// From here on a destination's value is still to come from the station.
+    /// Makes a destination wait for a station's result.
     #[inline(always)]
     pub(crate) fn await_result(&mut self, dest: Option<u8>, tag: Tag)
         requires { IfSome dest (λ r. r < 32) }
@@ -67,7 +67,7 @@ impl RegStatus {
         }
     }
 
-    /// Takes what a place sends, where the register still waits for it.
+    /// Writes the value that a place sends, if the register still waits for it.
     #[inline(always)]
     pub(crate) fn receive(&mut self, register: u8, from: usize, value: u32)
         requires { register < 32 }

@@ -10,9 +10,9 @@ use tomex_rvdec::{Instr, Op};
 use tomex_rvexec::{ByteRange, Step};
 use tomex_timing::{Busy, Field, Tag};
 
-/// A busy station: an instruction that has issued and not ended.
+/// A busy station: an instruction that has issued and hasn't ended.
 ///
-/// Its fields are in an order that leaves no gaps: with the mark of a busy place it takes 64 bytes.
+/// The order of its fields leaves no gaps: an `Option<Station>` takes 64 bytes.
 #[derive(Clone, Copy)]
 pub struct Station {
     pub instr: Instr,
@@ -20,7 +20,7 @@ pub struct Station {
     /// The operands: a value (V), a tag (Q), or nothing that is read.
     pub j: Field,
     pub k: Field,
-    /// The address of a load or store, from its address cycle on.
+    /// The address of a load or store, from its address cycle on; before that `None`.
     pub address: Option<u32>,
     /// The result, from the start on, and 0 before.
     pub value: u32,
@@ -28,7 +28,7 @@ pub struct Station {
     pub finish: Option<u64>,
 }
 
-/// Whether no Q stands.
+/// True if the operand isn't a Q.
 #[inline(always)]
 fn is_there(field: Field) -> bool
     ensures { result ≡ is_there field }
@@ -39,7 +39,7 @@ fn is_there(field: Field) -> bool
     }
 }
 
-/// The value of an operand, 0 where it isn't there.
+/// The value of an operand; 0 if it isn't there.
 #[inline(always)]
 fn value(field: Field) -> u32
     ensures { result ≡ value_in field }
@@ -50,7 +50,7 @@ fn value(field: Field) -> u32
     }
 }
 
-/// An operand after a place has sent a value.
+/// The operand after a place has sent a value.
 #[inline(always)]
 pub(crate) fn heard(field: Field, from: usize, value: u32) -> Field
     ensures { result ≡ heard (only from (Some value)) field }
@@ -68,7 +68,7 @@ pub(crate) fn heard(field: Field, from: usize, value: u32) -> Field
 }
 
 impl Station {
-    /// Whether both operands are there.
+    /// True if both operands are there.
     #[inline(always)]
     pub fn ready(&self) -> bool
         ensures { result ≡ is_ready self.now }
@@ -89,7 +89,7 @@ impl Station {
         }
     }
 
-    /// Whether it holds a load or store.
+    /// True if it holds a load or store.
     #[inline(always)]
     pub(crate) fn is_memory(&self) -> bool
         ensures { result ≡ is_memory_op self.now.instr.op }
@@ -100,7 +100,7 @@ impl Station {
         }
     }
 
-    /// Whether it holds a load or store whose address isn't computed yet.
+    /// True if it holds a load or store whose address isn't computed yet.
     #[inline(always)]
     pub(crate) fn lacks_address(&self) -> bool
         ensures { result ≡ lacks_address (Some self.now) }
@@ -119,7 +119,7 @@ impl Station {
         }
     }
 
-    /// Whether it waits for nothing but a unit and older accesses.
+    /// True if it waits only for a unit and for older accesses.
     #[inline(always)]
     pub(crate) fn is_waiting(&self) -> bool
         ensures { result ≡ is_waiting self.now }
@@ -127,7 +127,7 @@ impl Station {
         self.finish.is_none() && self.ready() && (!self.is_memory() || self.address.is_some())
     }
 
-    /// Whether its second operand is there.
+    /// True if its second operand is there.
     #[inline(always)]
     pub(crate) fn has_second(&self) -> bool
         ensures { result ≡ is_there self.now.k }
@@ -135,7 +135,7 @@ impl Station {
         is_there(self.k)
     }
 
-    /// What the tables show of it.
+    /// The tables' entry for it.
     pub fn shown(&self, tag: Tag) -> Busy
         ensures { result ≡ busy_from tag self.now }
     {

@@ -28,7 +28,7 @@ impl Model for Stations {
 }
 
 impl Stations {
-    /// No station is busy yet.
+    /// The stations before any is busy.
     pub fn new() -> Stations
         ensures { result ≡ replicate 16 None }
     {
@@ -46,7 +46,7 @@ impl Stations {
         self.stations[number]
     }
 
-    /// What stands at a number from here on.
+    /// Sets the station of a number, or frees it.
     #[inline(always)]
     pub fn put(&mut self, number: usize, station: Option<Station>)
         requires { number < 16 }
@@ -68,8 +68,8 @@ impl Stations {
         }
     }
 
-    /// The station of a number hears what a place sends, if it is busy. Answers whether it then waits for
-    /// nothing but a unit and older accesses.
+    /// Gives the station of a number, if it is busy, the result that a place sends. True if it then
+    /// waits only for a unit and for older accesses.
     #[inline(always)]
     pub fn hear(&mut self, number: usize, from: usize, value: u32) -> bool
         requires { number < 16 }
@@ -85,7 +85,7 @@ impl Stations {
         false
     }
 
-    /// The operation of the station of a number starts, if it is busy.
+    /// Starts the operation of the station of a number, if it is busy.
     #[inline(always)]
     pub fn start(&mut self, number: usize, finish: u64, value: u32)
         requires { number < 16 }

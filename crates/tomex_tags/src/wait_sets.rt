@@ -12,18 +12,18 @@ use tomex_timing::Field;
 
 /// Sets of the busy places, by what their stations wait for.
 ///
-/// They follow from the stations, and save going over all that are busy.
+/// They follow from the stations, and save a walk over all that are busy.
 #[derive(Clone, Copy)]
 pub struct WaitSets {
     /// Loads and stores whose address isn't computed yet.
     pub lacking: u128,
-    /// Stations whose operations wait for nothing but a unit and older accesses.
+    /// Stations whose operations wait only for a unit and for older accesses.
     pub waiting: u128,
     /// Stations whose instruction writes a register.
     pub writing: u128,
 }
 
-/// A place becomes a member of the set, or doesn't.
+/// Makes a place a member of the set if `member`; it was none before.
 #[inline(always)]
 fn join(set: &mut u128, place: usize, member: bool)
     requires low { place < 128 }
@@ -36,7 +36,8 @@ fn join(set: &mut u128, place: usize, member: bool)
 }
 
 impl WaitSets {
-    /// A station takes a place that was free. Answers the register that its instruction writes.
+    /// Enters a station into a place that was free. Returns the register that its instruction
+    /// writes.
     #[inline(always)]
     pub fn enter(&mut self, place: usize, station: &Station) -> Option<u8>
         requires low { place < 128 }
@@ -52,7 +53,8 @@ impl WaitSets {
         dest
     }
 
-    /// The station in a place gets its address, if its base is there. All else of it is as before.
+    /// Notes that the station in a place has its address, if its base is there. Everything else of
+    /// it is unchanged.
     #[inline(always)]
     pub fn address(&mut self, place: usize, station: &Station)
         requires low { place < 128 }
@@ -72,7 +74,7 @@ impl WaitSets {
         }
     }
 
-    /// The operation of the station in a place has started: it waits no longer.
+    /// Notes that the operation of the station in a place has started: it no longer waits.
     #[inline(always)]
     pub fn stop_waiting(&mut self, place: usize)
         requires { place < 128 }
@@ -82,7 +84,8 @@ impl WaitSets {
         self.waiting = without(self.waiting, place);
     }
 
-    /// The station in a place has heard a result. If it lacked no operand before, it lacks none now.
+    /// Notes that the station in a place has received a result; `waits` is true if it then waits
+    /// only for a unit and for older accesses. If it did so before, it does so now.
     #[inline(always)]
     pub fn hear(&mut self, place: usize, waits: bool)
         requires low { place < 128 }
@@ -93,7 +96,7 @@ impl WaitSets {
         self.waiting = with_if(self.waiting, place, waits);
     }
 
-    /// A place is free again.
+    /// Notes that a place is free again.
     #[inline(always)]
     pub fn clear(&mut self, place: usize)
         requires { place < 128 }

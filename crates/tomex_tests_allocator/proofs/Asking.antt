@@ -1,9 +1,10 @@
--- A call that asks the budget: it is lent the budget, and answers yes or no.
-use Rattle.tomex_tests_allocator.proofs.Steps.{◌≡◌, List, [], ◌∷◌, refl, Bor, Lft, Share, ftrue, fsep, flft, shr_vals, nothing}
-use Rattle.tomex_tests_allocator.proofs.Steps.{Val, vptr, ‵, raw, ◌⊛◌, later, some, ◌$◌, ◌∵◌, !, qed, done, move, keep, use1}
-use Rattle.tomex_tests_allocator.proofs.Steps.{split, join, fjoin, feq_i, feq_l, await, id⊢, Ura, Bool, ap, vbool, SProp, ent}
-use Rattle.tomex_tests_allocator.proofs.Steps.{sep, ex, guard, Memory, Routine, Fun, Logic, sem, pick, show, check, updating}
-use Rattle.tomex_tests_allocator.proofs.Steps.{bool, only, Contract, triple_of}
+-- A call that asks the budget: it is lent the budget, and returns yes or no.
+use Rattle.tomex_tests_allocator.proofs.Steps.{◌≡◌, List, [], ◌∷◌, refl, Bor, Lft, Share, ftrue, fsep, flft, shr_vals}
+use Rattle.tomex_tests_allocator.proofs.Steps.{nothing, Val, vptr, ‵, raw, ◌⊛◌, later, some, ◌$◌, ◌∵◌, !, qed, done}
+use Rattle.tomex_tests_allocator.proofs.Steps.{move, keep, use1, split, join, fjoin, feq_i, feq_l, await, id⊢, Ura}
+use Rattle.tomex_tests_allocator.proofs.Steps.{Bool, ap, vbool, SProp, ent, sep, ex, guard, Memory, Routine, Fun}
+use Rattle.tomex_tests_allocator.proofs.Steps.{Logic, sem, pick, show, check, updating, bool, only, Contract}
+use Rattle.tomex_tests_allocator.proofs.Steps.{triple_of}
 use types.Kit.{now as at_once}
 use Rattle.tomex_tests_allocator.proofs.Lending.{sees}
 use Rattle.tomex_tests_allocator.specs.contracts.budget.Budget as budget

@@ -1,11 +1,12 @@
 -- A `&Refusing` lends a `&` to each of its fields, the inner allocator and the budget.
-use Rattle.tomex_tests_allocator.proofs.Steps.{ℕ, ◌+◌, [], ◌∷◌, Bor, Al, α, seen, Lft, hidden_shr, unhide, param, shr_vals, Slot}
-use Rattle.tomex_tests_allocator.proofs.Steps.{plain, RefOf, size, align, up, ‵, ◌$◌, ◌∵◌, !, qed, done, move, keep, drop, join}
-use Rattle.tomex_tests_allocator.proofs.Steps.{fsplit, id⊢, use1, Fml, Ura, ent, sep, Logic, sem}
+use Rattle.tomex_tests_allocator.proofs.Steps.{ℕ, ◌+◌, [], ◌∷◌, Bor, Al, α, seen, Lft, hidden_shr, unhide, param}
+use Rattle.tomex_tests_allocator.proofs.Steps.{shr_vals, Slot, plain, RefOf, size, align, up, ‵, ◌$◌, ◌∵◌, !, qed}
+use Rattle.tomex_tests_allocator.proofs.Steps.{done, move, keep, drop, join, fsplit, id⊢, use1, Fml, Ura, ent, sep}
+use Rattle.tomex_tests_allocator.proofs.Steps.{Logic, sem}
 use Rattle.tomex_tests_allocator.specs.contracts.refusing.Refusing as refusing
 use Rattle.tomex_tests_allocator.specs.contracts.budget.Budget as budget
 
--- where a `&Refusing` points, and where its fields lie
+-- where a `&Refusing` points, and where its fields are
 abbrev pub Lent : Al → Type 0
 Lent Z = Bor (refusing.the_row Z.row).Denot
 
@@ -18,7 +19,7 @@ budget_of Z r = record {
   now = r.now.budget;
 }
 
--- what the holder of a `&Budget` has
+-- the resources of a holder of a `&Budget`
 abbrev pub sees : Lft → Bor (budget.the_row).Denot → Fml
 sees κ b = hidden_shr budget.the_row κ b.now b.ref_ptr.0 b.ref_ptr.1
 

@@ -1,5 +1,5 @@
-//! An allocator for tests: it grants so many blocks and refuses every one after them, so that a test
-//! can refuse each growth of a call in turn and see that the call says so.
+//! An allocator for tests: it grants a given number of blocks and refuses all later ones, so that a
+//! test can refuse each growth of a call in turn and see that the call reports it.
 #![tactic(auto)]
 
 mod budget;

@@ -3,14 +3,15 @@ ghost use Rattle.std.specs.Prelude.{◌≡◌};
 use crate::budget::Budget;
 use std::alloc::{AllocError, Allocator};
 
-/// An allocator that asks the inner one as long as its budget lasts, and refuses every block from then on.
+/// An allocator that asks the inner one while its budget lasts, and then refuses every block.
 ///
-/// Each block counts as one, whatever its size. A list that grows or shrinks asks for a new block, so
-/// that counts too. Freeing does not, and gives nothing back to the budget. A clone shares the budget.
+/// Each block counts as one, whatever its size. A list that grows or shrinks asks for a new block,
+/// so that counts too. Freeing doesn't count, and returns nothing to the budget. A clone shares the
+/// budget.
 ///
-/// Its contract is that of any allocator: a block that it grants is one of the inner allocator's, and
-/// goes back there. It may refuse at any time, so that it refuses exactly when its budget is spent is
-/// shown by the crate's tests alone.
+/// Its contract is that of any allocator: a block that it grants is one of the inner allocator's,
+/// and goes back there. It may refuse at any time, so only the crate's tests show that it refuses
+/// exactly when its budget is spent.
 #[derive(Clone, Drop)]
 pub struct Refusing<A> {
     /// The allocator that is asked.

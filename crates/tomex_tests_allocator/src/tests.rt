@@ -2,7 +2,8 @@ use crate::{Budget, Refusing};
 use std::alloc::{Allocator, Global};
 use std::test::Fail;
 
-/// How many blocks a list was granted, its first and one for each growth, until one was refused.
+/// The number of blocks that a list was granted, its first and one for each growth, until one was
+/// refused.
 fn blocks_granted<A: Allocator>(alloc: A) -> u32 {
     let mut list: Vec<u64, A> = Vec::new(alloc);
     let mut blocks = 0u32;
@@ -34,7 +35,7 @@ fn clones_share_one_count(rt: HostRuntime) -> Result<(), Fail> {
     let clone: Refusing<Global> = alloc.clone()?;
     assert!(rt; Vec::<u64, _>::with_capacity(&alloc, 1).is_ok());
     assert_eq!(rt; blocks_granted(clone), 2);
-    // What was freed since is not granted again.
+    // Blocks that were freed are not granted again.
     assert!(rt; Vec::<u64, _>::with_capacity(alloc, 1).is_err());
     Ok(())
 }

@@ -1,4 +1,4 @@
--- Cycles that tests of boards pick for rows whose costs they know by their number alone.
+-- Cycles that tests of boards choose for rows of which they know only the number of costs.
 use Rattle.std.proofs.Common.{◌≡◌, ℕ, ◌<◌, ◌≤◌, ◌^◌, List, [], ◌∷◌, All, map, replicate, set, length, get_or, ap, ◌∙◌}
 use Rattle.std.proofs.Common.{arith}
 use Rattle.std.proofs.lemmas.List.{get_or-set_other, get_or-set_same, length-set, length-map, get_or-replicate}
@@ -19,7 +19,7 @@ ones_low (x ∷ xs) = All-cons Low 1 (map (λ _. 1) xs) (omega arith) (ones_low 
 pub ones_plan : (costs : List ℕ) → 1 ≤ length costs → length costs ≤ 16384 → IsPlan costs (map (λ _. 1) costs)
 ones_plan costs some few = (some, few, length-map costs (λ _. 1), ones_low costs)
 
--- 500 of each row but the last of a hundred, which has 400
+-- 500 for each row except the last of a hundred, which has 400
 abbrev pub cycles_of : ℕ → List ℕ
 cycles_of n = set (replicate n 500) 99 400
 

@@ -1,2 +1,2 @@
--- What the proofs of the tests share.
+-- Lemmas that the proofs of the tests share.
 mod BoardPlans

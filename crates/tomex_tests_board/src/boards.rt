@@ -1,4 +1,5 @@
-//! What no contract of a board says: that a new one is open and empty, and what a few calls answer on it.
+//! What no contract of a board says: a new one is open and empty, and a few calls on it return
+//! these results.
 
 ghost use Rattle.std.specs.Prelude.{◌≡◌, [], length, slice_index, IfOk};
 ghost use Rattle.tomex_board.specs.Plans.{IsPlan};
@@ -45,8 +46,8 @@ fn to_hundred(alloc: Global) -> Result<Vec<u64>, AllocError>
     Ok(costs)
 }
 
-/// On a board of these rows, row 2 finishes in 500 cycles and row 99 in 400: what rows 2 and 3 are
-/// judged by after the first, and row 99 after both.
+/// Rows 2 and 99 finish on a board, in 500 and 400 cycles: the bounds of rows 2 and 3 after the
+/// first finish, and of row 99 after both.
 fn judged<J: Plan>(alloc: Global, costs: &[u64]) -> Result<[Option<Bound>; 3], Fail>
     requires costs { (costs.now ≡ J.costs) × (length J.costs ≡ 100) }
     requires plan { IsPlan J.costs J.cycles }

@@ -1,25 +1,26 @@
-//! In which order a worker takes rows: its own first, then those of the others, from the next worker on.
+//! The order in which a worker takes rows: its own first, then those of the others, from the next
+//! worker on.
 
 use std::alloc::Global;
 use std::test::Fail;
 use tomex_lanes::{Lane, deal};
 
-/// What a worker takes from its lane.
+/// The row that a worker takes from its lane.
 fn taken(lanes: &mut [Lane<Global>], worker: usize) -> Option<usize> {
     lanes.get_mut(worker)?.take()
 }
 
-/// Workers' turns, each with the row that is taken, of seven rows that three workers have.
+/// Workers' turns, each with the row that is taken, out of seven rows of three workers.
 static TURNS: [[(usize, usize); 7]; 4] = [
-    // One worker alone takes its own rows, then those of the next one, and so round.
+    // One worker takes its own rows, then those of the next one, and so on around all.
     [(1, 1), (1, 4), (1, 2), (1, 5), (1, 0), (1, 3), (1, 6)],
     [(2, 2), (2, 5), (2, 0), (2, 3), (2, 6), (2, 1), (2, 4)],
-    // Where the next one has none left, the one after it is asked.
+    // If the next one has none left, the worker steals from the one after it.
     [(2, 2), (2, 5), (1, 1), (1, 4), (1, 0), (1, 3), (1, 6)],
     [(0, 0), (1, 1), (2, 2), (0, 3), (1, 4), (2, 5), (2, 6)],
 ];
 
-/// Whether three workers take these seven rows in these turns, and then none.
+/// True if three workers take these seven rows in these turns, and then none.
 fn take_these(lanes: &mut [Lane<Global>], turns: &[(usize, usize); 7]) -> bool {
     let mut same = lanes.len() == 3;
     for (worker, row) in turns {
@@ -31,7 +32,7 @@ fn take_these(lanes: &mut [Lane<Global>], turns: &[(usize, usize); 7]) -> bool {
     same
 }
 
-/// Of seven rows worker 0 has 0, 3 and 6, worker 1 has 1 and 4, and worker 2 has 2 and 5.
+/// Out of seven rows, worker 0 has 0, 3 and 6, worker 1 has 1 and 4, and worker 2 has 2 and 5.
 #[test]
 fn rows_are_taken_and_stolen_in_turn(rt: HostRuntime) -> Result<(), Fail> {
     for turns in &TURNS {

@@ -1,4 +1,5 @@
-//! Tests of the board and of lanes: they say what no contract does, and refuse each growth of each call in turn.
+//! Tests of the board and of lanes: of what no contract says, and with each growth of each call
+//! refused in turn.
 #![tactic(auto)]
 
 #[cfg(test)]

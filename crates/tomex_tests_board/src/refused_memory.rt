@@ -1,4 +1,4 @@
-//! Boards, with memory refused.
+//! Boards that run out of memory.
 
 ghost use Rattle.std.specs.Prelude.{◌≡◌};
 ghost use Rattle.tomex_board.specs.Plans.{IsPlan};
@@ -44,12 +44,12 @@ fn hundred(alloc: Global) -> Result<Vec<u64>, AllocError> {
     (0..100u64).collect(alloc)
 }
 
-/// Whether a board of rows with these costs takes more than so many blocks.
+/// True if a board of rows with these costs takes more than `blocks` blocks.
 fn takes_more(alloc: Global, costs: &[u64], blocks: u64) -> Result<bool, AllocError> {
     Ok(refusals(alloc, &NewBoard { costs })? > Some(blocks))
 }
 
-/// Whether a board of a hundred rows does.
+/// True if a board of a hundred rows takes more than `blocks` blocks.
 fn hundred_takes_more(alloc: Global, blocks: u64) -> Result<bool, AllocError> {
     let costs = hundred(alloc)?;
     takes_more(alloc, costs.as_slice(), blocks)
@@ -57,10 +57,10 @@ fn hundred_takes_more(alloc: Global, blocks: u64) -> Result<bool, AllocError> {
 
 #[test]
 fn of_boards(rt: HostRuntime) -> Result<(), Fail> {
-    // The room for marks, the set of costs and its list, the words and those of bands, the costs, and
-    // the table.
+    // Blocks for the marks, the set of costs and its list, the words and those of bands, the costs,
+    // and the table.
     assert!(rt; takes_more(rt.alloc(), [5, 9].as_slice(), 6)?);
-    // And the floors that are spread among more costs than there are bands.
+    // And for the floors that are spread among more costs than there are bands.
     assert!(rt; hundred_takes_more(rt.alloc(), 8)?);
     Ok(())
 }

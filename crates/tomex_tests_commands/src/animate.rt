@@ -1,5 +1,5 @@
-//! Pages that show a run cycle by cycle, over a study and a program in memory: which cycles they have, and what is
-//! refused. Whole pages are compared in `tomex_tests_pages`.
+//! Pages that show a run cycle by cycle, over a study and a program in memory: their cycles, and
+//! refusals. Whole pages are compared in `tomex_tests_pages`.
 use super::commands::{Asked, each_comes_to, outcome_of, words_of};
 use std::sync::Wait;
 use std::test::Fail;
@@ -25,7 +25,7 @@ static REFUSED: [Asked; 6] = [
     ("tomex animate study 1 div --from 17563648", NO_PROGRAM),
 ];
 
-/// A line, the title of its page, and how many views that has.
+/// A line, the title of its page, and the number of views in it.
 type Shown = (&'static str, &'static str, usize);
 
 static SHOWN: [Shown; 6] = [

@@ -1,4 +1,4 @@
-//! Whole runs of the program over files in memory: what they print, and their statuses.
+//! Whole runs of the program over files in memory: their output, and their statuses.
 use std::alloc::{AllocError, Allocator, Global};
 use std::process::Abort;
 use std::sync::Wait;
@@ -9,7 +9,7 @@ use tomex_streams::{Meter, NoMeter};
 use tomex_tests_fixtures::in_memory::{Narrow, Shelf};
 use tomex_tests_fixtures::programs::PRODUCT;
 
-/// What a run of the program left behind.
+/// The outcome of a run of the program.
 #[derive(Drop)]
 pub struct Outcome {
     pub status: u8,
@@ -17,7 +17,8 @@ pub struct Outcome {
     pub err: Vec<u8>,
 }
 
-/// Runs the program on these words over these files, and a standard output that takes so many bytes.
+/// Runs the program on these words over these files, with a standard output that takes a limited
+/// number of bytes.
 pub fn outcome_of<
     R: AllocGlobal + Threads + Wait + Sync,
     A: Allocator + Clone + Send + Sync + Drop,
@@ -75,7 +76,8 @@ fn run_into<R: AllocGlobal + Threads + Wait + Sync>(
     }
 }
 
-/// The words come to this status, output and telling, where the output takes so many bytes.
+/// Fails unless the words give this status, output and error text, on an output that takes a
+/// limited number of bytes.
 pub fn comes_to_within<R: Abort + AllocGlobal + Threads + Wait + Sync>(
     rt: &R,
     files: &[(&str, &[u8])],
@@ -91,7 +93,7 @@ pub fn comes_to_within<R: Abort + AllocGlobal + Threads + Wait + Sync>(
     Ok(())
 }
 
-/// The words come to this status, output and telling.
+/// Fails unless the words give this status, output and error text.
 pub fn comes_to<R: Abort + AllocGlobal + Threads + Wait + Sync>(
     rt: &R,
     files: &[(&str, &[u8])],
@@ -101,7 +103,7 @@ pub fn comes_to<R: Abort + AllocGlobal + Threads + Wait + Sync>(
     comes_to_within(rt, files, words, 10_000, wanted)
 }
 
-/// The words of a line, apart at each space.
+/// The words of a line, split at each space.
 pub fn words_of<'a>(alloc: Global, line: &'a str) -> Result<Vec<&'a str>, AllocError> {
     let mut words = Vec::new(alloc);
     for word in line.split(' ') {
@@ -110,7 +112,7 @@ pub fn words_of<'a>(alloc: Global, line: &'a str) -> Result<Vec<&'a str>, AllocE
     Ok(words)
 }
 
-/// The files of a study, where there is one, and of its programs.
+/// The files of a study, if there is one, and of its programs.
 fn files_of<'a>(
     alloc: Global,
     study: Option<&'a str>,
@@ -124,8 +126,8 @@ fn files_of<'a>(
     Ok(files)
 }
 
-/// A line over a study, or none, and its programs' files comes to this status, output and telling, where the output
-/// takes so many bytes.
+/// Fails unless a line, over a study or none and its programs' files, gives this status, output and
+/// error text, on an output that takes a limited number of bytes.
 pub fn asks_within<R: Abort + AllocGlobal + Threads + Wait + Sync>(
     rt: &R,
     study: Option<&str>,
@@ -139,10 +141,11 @@ pub fn asks_within<R: Abort + AllocGlobal + Threads + Wait + Sync>(
     comes_to_within(rt, files.as_slice(), words.as_slice(), room, wanted)
 }
 
-/// What is asked of a study, and the status, output and telling that come of it.
+/// A line on a study, with the status, output and error text that it gives.
 pub type Asked = (&'static str, (u8, &'static str, &'static str));
 
-/// Each of these lines over a study and its programs' files comes to what stands beside it.
+/// Fails unless each of these lines, over a study and its programs' files, gives the result beside
+/// it.
 pub fn each_comes_to<R: Abort + AllocGlobal + Threads + Wait + Sync>(
     rt: &R,
     study: &str,
@@ -155,7 +158,7 @@ pub fn each_comes_to<R: Abort + AllocGlobal + Threads + Wait + Sync>(
     Ok(())
 }
 
-/// A study, or none, and its programs' files, with the status and the telling of their refusal.
+/// A study, or none, and its programs' files, with the status and the error text of their refusal.
 pub type Refused = (
     Option<&'static str>,
     &'static [(&'static str, &'static [u8])],
@@ -163,7 +166,7 @@ pub type Refused = (
     &'static str,
 );
 
-/// This line is refused so over each of these.
+/// Fails unless this line is refused like this over each of these.
 pub fn each_is_refused<R: Abort + AllocGlobal + Threads + Wait + Sync>(
     rt: &R,
     line: &str,
@@ -192,7 +195,7 @@ pub fn text_of(alloc: Global, registers: &[(usize, u32)], last: &str) -> Result<
     Ok(text)
 }
 
-/// The image ends so: these registers aren't zero, and this is the last line.
+/// Fails unless the image ends like this: these registers aren't zero, and this is the last line.
 pub fn ends<R: Abort + AllocGlobal + Threads + Wait + Sync>(
     rt: &R,
     image: &[u8],
@@ -211,7 +214,7 @@ pub fn ends<R: Abort + AllocGlobal + Threads + Wait + Sync>(
     Ok(())
 }
 
-/// The line is refused so: this is all that is told, and this is the status.
+/// Fails unless the line is refused like this: only this error text, and this status.
 pub fn fails<R: Abort + AllocGlobal + Threads + Wait + Sync>(
     rt: &R,
     image: Option<&[u8]>,
@@ -264,7 +267,8 @@ static ENDING: [(&[u8], &[&str], &[(usize, u32)], &str); 8] = [
         &[(1, 768), (2, 3), (8, 256)],
         "ebreak at 00000010 after 5",
     ),
-    // sw x0,8(x0); addi x1,x0,1; addi x3,x0,9: the word at 8 is written, and runs as it was loaded.
+    // sw x0,8(x0); addi x1,x0,1; addi x3,x0,9: the word at 8 is overwritten, and runs as it was
+    // loaded.
     (
         b"\x23\x24\x00\x00\x93\x00\x10\x00\x93\x01\x90\x00\x73\x00\x10\x00",
         &[],
@@ -278,7 +282,7 @@ static ENDING: [(&[u8], &[&str], &[(usize, u32)], &str); 8] = [
         &[],
         "ebreak at fffff004 after 2",
     ),
-    // A branch that isn't taken, to no multiple of four.
+    // A branch that isn't taken, to an address that isn't a multiple of 4.
     (
         b"\x63\x11\x00\x00\x73\x00\x10\x00",
         &[],
@@ -295,7 +299,7 @@ fn flat_images_end(rt: HostRuntime) -> Result<(), Fail> {
     Ok(())
 }
 
-/// Images, or none, with the options of their runs, what is told of them, and the status.
+/// Images, or none, with the options of their runs, the error text, and the status.
 static REFUSED: [(Option<&[u8]>, &[&str], &str, u8); 12] = [
     // lw x1,-2(x0) at the top of the address space has bytes past it, which don't wrap.
     (
@@ -304,7 +308,7 @@ static REFUSED: [(Option<&[u8]>, &[&str], &str, u8); 12] = [
         "tomex: fault: access at fffff000\n",
         1,
     ),
-    // A branch that is taken, to no multiple of four.
+    // A branch that is taken, to an address that isn't a multiple of 4.
     (
         Some(b"\x63\x01\x00\x00"),
         &[],
@@ -352,7 +356,7 @@ fn images_are_refused(rt: HostRuntime) -> Result<(), Fail> {
     Ok(())
 }
 
-/// Lines that ask for no command, and their statuses: help, and what the parser refuses.
+/// Lines that ask for no command, and their statuses: help, and lines that the parser refuses.
 static ASIDE: [(u8, &[&str]); 17] = [
     (0, &["tomex", "--help"]),
     (0, &["tomex", "run", "-h"]),
@@ -373,7 +377,7 @@ static ASIDE: [(u8, &[&str]); 17] = [
     (2, &["tomex", "all", "study", "--workers", "1"]),
 ];
 
-/// Help goes to the standard output, and what is wrong to the standard error.
+/// Help goes to standard output, and error messages to standard error.
 #[test]
 fn lines_that_ask_for_no_command(rt: HostRuntime) -> Result<(), Fail> {
     for (status, words) in &ASIDE {
@@ -393,7 +397,7 @@ static NAMES: [(&str, &str); 4] = [
     ("\u{85}\u{9f}\u{a0}", "\\u{85}\\u{9f}\u{a0}"),
 ];
 
-/// What Rust shows of a character.
+/// A character as Rust shows it.
 fn escaped(alloc: Global, letter: char) -> Result<String, AllocError> {
     let mut escaped = String::new(alloc);
     for part in letter.escape_debug() {
@@ -402,7 +406,7 @@ fn escaped(alloc: Global, letter: char) -> Result<String, AllocError> {
     Ok(escaped)
 }
 
-/// Whether a name is shown as Rust shows the characters that have to be escaped.
+/// True if a name is shown as Rust shows the characters that must be escaped.
 fn is_escaped(alloc: Global, name: &str, shown: &str) -> Result<bool, AllocError> {
     for letter in name.chars() {
         if letter.is_control() && !shown.contains(escaped(alloc, letter)?.as_str()) {

@@ -14,7 +14,7 @@ fn changed(place: usize, value: u8) -> [u8; 100]
     bytes
 }
 
-/// What loads at 65536.
+/// Options for a window at 65536.
 const AT_65536: [&str; 2] = ["--base", "65536"];
 
 #[test]
@@ -31,7 +31,8 @@ fn they_end(rt: HostRuntime) -> Result<(), Fail> {
 
 #[test]
 fn they_are_refused(rt: HostRuntime) -> Result<(), Fail> {
-    // A byte of the file more than of memory, and a header that asks for an interpreter.
+    // A segment with one more byte in the file than in memory, and a header that asks for an
+    // interpreter.
     let (longer, dynamic) = (changed(68, 33), changed(52, 3));
     let (file, based) = (ELF.as_slice(), AT_65536.as_slice());
     for (image, options, told) in [

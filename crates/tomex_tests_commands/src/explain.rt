@@ -1,4 +1,4 @@
-//! What `explain` prints, by whole runs of the program.
+//! The output of `explain`, by whole runs of the program.
 
 use crate::commands::{comes_to, comes_to_within, words_of};
 use std::test::Fail;

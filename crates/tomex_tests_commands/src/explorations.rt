@@ -36,7 +36,7 @@ macro_rules! with_wide_header {
     };
 }
 
-/// The two rows of a program that counts three times.
+/// Two rows of a program of weight 3.
 pub const WEIGHED: &str =
     "[[program]]\nname = \"mul\"\nfile = \"mul.bin\"\nweight = 3\n[prices]\nalu = 10\n\
     [axes]\nalu = [2, 1]\n[[unit.mul]]\nlatency = 3\n";
@@ -46,7 +46,7 @@ const WEIGHED_REPORT: &str = with_wide_header!(
      0,20,24,2,1,1,1,1,1,1,1,1,3,1,1,1,1,1,1,1,1,mul,3,4,8,ebreak,x1=00000005 x2=00000007 x3=00000023,-\n"
 );
 
-/// The new keys, each alone, say what is so without them.
+/// Each of the new keys, alone, states its default.
 const WEIGHT_ONE: &str =
     "[[program]]\nname = \"mul\"\nfile = \"mul.bin\"\nweight = 1\n[prices]\nalu = 10\n\
     [axes]\nalu = [2, 1]\n[[unit.mul]]\nlatency = 3\n";
@@ -68,8 +68,8 @@ const REPORT_OF_TWO: &str = front_report_of!(
      0,0,2008,1,1,1,1,1,1,1,1,1,1,1,1,1,1,1,1,1,loop,1000,2000,ebreak,x2=00010000,00000000:9300301f\n"
 );
 
-/// This line, over a study and both programs' files, comes to this status, output and telling, where the output takes
-/// so many bytes.
+/// Fails unless this line, over a study and both programs' files, gives this status, output and
+/// error text, on an output that takes a limited number of bytes.
 pub fn explores_to<R: Abort + AllocGlobal + Threads + Wait + Sync>(
     rt: &R,
     line: &str,
@@ -87,7 +87,7 @@ pub fn explores_to<R: Abort + AllocGlobal + Threads + Wait + Sync>(
 /// The lines that run all rows and that explore them.
 static LINES: [&str; 2] = ["tomex all study", "tomex explore study"];
 
-/// The same, and with more workers.
+/// The same lines, and with more workers.
 static ALL_LINES: [&str; 4] = [
     "tomex all study",
     "tomex explore study",
@@ -119,11 +119,11 @@ fn worked_reports(rt: HostRuntime) -> Result<(), Fail> {
 /// A study whose program's file is missing.
 const MISSING: &str = "[[program]]\nname = \"a\"\nfile = \"a.bin\"\n";
 
-/// A study with a key of another time.
+/// A study with a key that studies once had.
 const STATIONS: &str = "[[program]]\nname = \"mul\"\nfile = \"mul.bin\"\n[prices]\nalu = 10\n\
     [axes]\nalu = [2, 1]\n[[unit.mul]]\nlatency = 3\n[stations]\n";
 
-/// Studies, each with the status and the telling of its refusal.
+/// Studies, each with the status and the error text of its refusal.
 static REFUSED: [(&str, u8, &str); 3] = [
     ("", 1, "tomex: study: top: program missing\n"),
     (MISSING, 3, "tomex: cannot read a.bin\n"),
@@ -141,7 +141,7 @@ fn studies_that_no_report_is_made_of(rt: HostRuntime) -> Result<(), Fail> {
     explores_to(&rt, "tomex explore other", "", 100, (3, "", told))
 }
 
-/// Keeps what it was told last, and how often it was told that the work is over.
+/// Keeps what it showed last, and how often it was cleared.
 #[derive(Drop)]
 struct LastTold {
     done: AtomicU64,
@@ -161,7 +161,7 @@ impl Meter for LastTold {
 }
 
 impl LastTold {
-    /// Whether it was told last that the second of two rows began, and once that the work is over.
+    /// True if it showed last that one of two rows is finished, and was cleared once.
     fn is_over(&self) -> bool {
         self.done.load(Ordering::SeqCst) == 1
             && self.of.load(Ordering::SeqCst) == 2
@@ -169,7 +169,7 @@ impl LastTold {
     }
 }
 
-/// Whether a meter is told so of the study of two rows, whose report comes of a line.
+/// True if a line prints the report of the study of two rows, with a meter that ends like this.
 fn is_told<R: AllocGlobal + Threads + Wait + Sync>(rt: &R, line: &str) -> Result<bool, Fail> {
     let files = [
         ("study", PRICED.as_bytes()),
@@ -194,7 +194,7 @@ fn a_meter_is_told_how_far_it_is(rt: HostRuntime) -> Result<(), Fail> {
     Ok(())
 }
 
-/// Whether a sink that takes so many bytes, so many a put, takes these of the report.
+/// True if writing the report to a narrow sink has this result, and the sink took as many bytes.
 fn takes(mut sink: Narrow, wanted: Result<(), WriteFault>) -> bool {
     let report = DROPPED_REPORT.as_bytes();
     let count = match wanted {

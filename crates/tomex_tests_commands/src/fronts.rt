@@ -1,5 +1,5 @@
-//! The front for people, over studies and programs in memory: as a table and as a picture. Columns and places were
-//! worked out by hand from the reports' numbers.
+//! The front for people, over studies and programs in memory: as a table and as a picture. Columns
+//! and places were computed by hand from the reports' numbers.
 use crate::explorations::{PRICED, TWO, WEIGHED, explores_to};
 use std::test::Fail;
 use tomex_tests_fixtures::studies::DROPPED;
@@ -8,7 +8,7 @@ use tomex_tests_fixtures::studies::DROPPED;
 const PRICED_TABLE: &str =
     "row  cost  cycles  rate  alu\n  1    10      10     -    1\n  0    20       8  0.20    2\n";
 
-/// Cycles are those of the weighed run; one program has no column of its own.
+/// Cycles are weighted; a single program has no column of its own.
 const WEIGHED_TABLE: &str =
     "row  cost  cycles  rate  alu\n  1    10      30     -    1\n  0    20      24  0.60    2\n";
 
@@ -16,7 +16,7 @@ const WEIGHED_TABLE: &str =
 const TABLE_OF_TWO: &str =
     "row  cost  cycles  rate  mul  loop\n  0     0    2008     -    8  2000\n";
 
-/// Rows that aren't on the front count where columns are chosen.
+/// Rows that aren't on the front count when columns are chosen.
 pub const DROPPED_TABLE: &str =
     "row  cost  cycles  rate  alu_latency\n  0     5    2000     -            1\n";
 
@@ -65,7 +65,7 @@ const PRICED_PICTURE: &str = "\
     </g>\n\
     </svg>\n";
 
-/// One row stands in the middle.
+/// A single row is in the middle.
 pub const DROPPED_PICTURE: &str = "\
     <svg xmlns=\"http://www.w3.org/2000/svg\" width=\"720\" height=\"440\" viewBox=\"0 0 720 440\"\x20\
     font-family=\"sans-serif\" font-size=\"12\" fill=\"#333333\">\n\
@@ -95,7 +95,7 @@ pub const DROPPED_PICTURE: &str = "\
     </g>\n\
     </svg>\n";
 
-/// These lines, over a study, come to this text.
+/// Lines with the study and the text that they print.
 static SHOWN: [(&str, &str, &str); 9] = [
     ("tomex front study", PRICED, PRICED_TABLE),
     ("tomex front study --workers 2", PRICED, PRICED_TABLE),
@@ -119,7 +119,7 @@ fn fronts_for_people(rt: HostRuntime) -> Result<(), Fail> {
 /// A study whose program's file is missing.
 const MISSING: &str = "[[program]]\nname = \"a\"\nfile = \"a.bin\"\n";
 
-/// Studies with how many bytes the output takes, the status and what is told.
+/// Studies with the number of bytes that the output takes, the status and the error text.
 static NOT_SHOWN: [(&str, usize, u8, &str); 3] = [
     ("", 100, 1, "tomex: study: top: program missing\n"),
     (MISSING, 100, 3, "tomex: cannot read a.bin\n"),

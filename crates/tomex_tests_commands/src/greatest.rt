@@ -1,5 +1,6 @@
-//! Each command once on what is long or large and soon done: eight programs that watch eight ranges each, runs of
-//! 262,144 steps, and a front of more than 64 configurations. None of it is refused.
+//! Each command once, on input that is long or large but quickly done: eight programs that watch
+//! eight ranges each, runs of 262,144 steps, and a front of more than 64 configurations. Nothing is
+//! refused.
 
 use crate::commands::{Outcome, outcome_of, words_of};
 use std::alloc::{AllocError, Global};
@@ -35,7 +36,7 @@ fn eight_programs(alloc: Global) -> Result<String, AllocError> {
 const ALIKE: &str = "[[program]]\nname = \"loop\"\nfile = \"loop.bin\"\n[axes]\n\
     div = [1, 2, 3, 4, 5, 6, 7, 8, 9, 10, 11, 12, 13, 14, 15, 16]\nstore = [1, 2, 3, 4, 5]\n";
 
-/// What a line over these studies and programs comes to.
+/// The outcome of a line over these studies and programs.
 fn outcome_on<R: AllocGlobal + Threads + Wait + Sync>(
     rt: &R,
     line: &str,
@@ -59,12 +60,12 @@ fn outcome_on<R: AllocGlobal + Threads + Wait + Sync>(
     )
 }
 
-/// How many lines a text has.
+/// The number of lines in a text.
 fn lines_of(text: &[u8]) -> usize {
     text.iter().filter(|byte| **byte == b'\n').count()
 }
 
-/// Whether a line is done, and its text begins and ends so.
+/// True if a line succeeds, and its text begins and ends with these.
 fn is_done<R: AllocGlobal + Threads + Wait + Sync>(
     rt: &R,
     line: &str,
@@ -77,7 +78,7 @@ fn is_done<R: AllocGlobal + Threads + Wait + Sync>(
     Ok(outcome.status == 0 && outcome.err.is_empty() && is_whole)
 }
 
-/// A line, and how what it prints begins and ends.
+/// A line, with the beginning and the end of its output.
 type Done = (&'static str, &'static str, &'static str);
 
 static REPORTS: [Done; 2] = [
@@ -117,7 +118,7 @@ static RUN_BY_CYCLES: [Done; 2] = [
     ("tomex all one", "row,cost,", ",ebreak,x2=00010000,-\n"),
 ];
 
-/// Fails unless each of these lines is done.
+/// Fails unless each of these lines succeeds.
 fn are_done<R: Abort + AllocGlobal + Threads + Wait + Sync>(
     rt: &R,
     lines: &[Done],
@@ -148,7 +149,8 @@ fn long_runs_are_made_cycle_by_cycle(rt: HostRuntime) -> Result<(), Fail> {
     are_done(&rt, &RUN_BY_CYCLES)
 }
 
-/// Lines that print the front of eight programs, or of 80 configurations, and how many lines they print.
+/// Lines that print the front of eight programs, or of 80 configurations, and the number of lines
+/// in their output.
 static ON_A_LONG_FRONT: [(&str, usize); 5] = [
     ("tomex all eight", 9),
     ("tomex explore eight --workers 2", 9),

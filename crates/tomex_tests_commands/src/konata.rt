@@ -1,5 +1,5 @@
-//! Logs of instructions for the viewer Konata, over studies and programs in memory. The stored ones are those of a
-//! second implementation of the rules.
+//! Logs of instructions for the viewer Konata, over studies and programs in memory. The expected
+//! logs are those of a second implementation of the rules.
 use super::commands::{Asked, each_comes_to, outcome_of};
 use super::pipeline::SLOW_LOOP;
 use std::test::Fail;
@@ -31,7 +31,8 @@ const FOLLOWED: &[u8; 28] = b"\x13\x04\x00\x10\x93\x00\x00\x30\xb3\x81\x10\x02\x
 const FOLLOWED_STUDY: &str = "[[program]]\nname = \"followed\"\nfile = \"followed.bin\"\n\
     [axes]\nalu = [2]\n[[unit.mul]]\nlatency = 5\n[[unit.mem]]\nlatency = 2\n";
 
-/// Its third to fifth instructions. The two that write their operands aren't shown, so nothing is said of them.
+/// Its third to fifth instructions. The two that write their operands aren't shown, so the log
+/// doesn't mention them.
 const FOLLOWED_LOG: &str = "Kanata\t0004\nC=\t3\n\
     I\t0\t3\t0\nL\t0\t0\t00000008: mul x3,x1,x1\nL\t0\t1\tmul0\nS\t0\t0\tIs\n\
     C\t1\nE\t0\t0\tIs\nS\t0\t0\tWt\nI\t1\t4\t0\nL\t1\t0\t0000000c: sw x1,0(x8)\nL\t1\t1\tstore0\nS\t1\t0\tIs\n\
@@ -50,7 +51,7 @@ const NO_ROW: (u8, &str, &str) = (1, "", "tomex: no such row\n");
 
 const NO_PROGRAM: (u8, &str, &str) = (1, "", "tomex: no such program\n");
 
-/// What is asked, and what comes of it.
+/// Lines, and their results.
 static ASKED: [Asked; 9] = [
     (
         "tomex pipeline study 0 mul --konata --from 1 --steps 32",
@@ -112,7 +113,7 @@ fn without_their_producers(rt: HostRuntime) -> Result<(), Fail> {
     each_comes_to(&rt, FOLLOWED_STUDY, &programs, &OF_FOLLOWED)
 }
 
-/// A log may have any size, of what no picture is made too.
+/// A log may have any size, also of a run that is too large for a picture.
 #[test]
 fn of_any_size(rt: HostRuntime) -> Result<(), Fail> {
     let files = [

@@ -1,4 +1,4 @@
-//! Tests of the program but for its words, files and streams: whole runs over files in memory.
+//! Tests of the program, except its words, files and streams: whole runs over files in memory.
 #![tactic(auto)]
 
 #[cfg(test)]

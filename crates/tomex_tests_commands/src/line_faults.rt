@@ -1,4 +1,4 @@
-//! How a line that asks for no command is reported, and failures that no test of a whole run comes to.
+//! Reports of lines that ask for no command, and failures that no test of a whole run reaches.
 
 use std::alloc::{AllocError, Global};
 use std::test::Fail;
@@ -6,7 +6,8 @@ use tomex_arguments::{LineFault, not_text, unread};
 use tomex_command::{Failure, report_failure, report_line_fault};
 use tomex_tests_fixtures::in_memory::Narrow;
 
-/// Whether a fault that is told, to an output which takes so many bytes, has this status, and writes these texts.
+/// True if a fault that is reported, to an output that takes a limited number of bytes, has this
+/// status and writes these texts.
 fn is_told(
     alloc: Global,
     fault: LineFault,
@@ -27,7 +28,7 @@ fn help(alloc: Global) -> Result<LineFault, AllocError> {
     Ok(LineFault::Help(String::from_str(alloc, "help")?))
 }
 
-/// What no memory is left for.
+/// The message when there is no memory for another one.
 const NO_MEMORY: &str = "tomex: out of memory\n";
 
 #[test]

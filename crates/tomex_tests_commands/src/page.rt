@@ -1,5 +1,5 @@
-//! Reports of studies as pages, over studies and programs in memory: which rows they have, and what is refused. Whole
-//! pages are compared in `tomex_tests_pages`.
+//! Reports of studies as pages, over studies and programs in memory: their rows, and refusals.
+//! Whole pages are compared in `tomex_tests_pages`.
 use super::commands::{Refused, each_is_refused, outcome_of, words_of};
 use super::surveys::TWELVE;
 use std::alloc::Global;

@@ -1,5 +1,5 @@
-//! Pictures of instructions, over studies and programs in memory. Their signs stand in the cycles that the tests of
-//! times reports have.
+//! Pictures of instructions, over studies and programs in memory. Their signs are in the cycles of
+//! the tests of times reports.
 use super::commands::{Asked, each_comes_to};
 use std::test::Fail;
 use tomex_tests_fixtures::programs::{LOOP, PRODUCT};
@@ -17,10 +17,10 @@ const TWO_OF_THEM: &str = "cycles 2 to 8\n\
     2 00000004 addi x2,x0,7 IEW\n\
     3 00000008 mul x3,x1,x2  I=EEEW\n";
 
-/// Its last.
+/// Its last instruction there.
 const THE_LAST: &str = "cycles 4 to 4\n4 0000000c ebreak I\n";
 
-/// And all of them on the second row, where the second sum waits for the first one's station.
+/// And all of them on the second row, on which the second sum waits for the first one's station.
 pub const ON_ONE_STATION: &str = "cycles 1 to 10\n\
     1 00000000 addi x1,x0,5 IEW\n\
     2 00000004 addi x2,x0,7    IEW\n\
@@ -33,7 +33,7 @@ const NO_ROW: (u8, &str, &str) = (1, "", "tomex: no such row\n");
 
 const NO_PROGRAM: (u8, &str, &str) = (1, "", "tomex: no such program\n");
 
-/// What is asked, and what comes of it.
+/// Lines, and their results.
 static ASKED: [Asked; 11] = [
     (
         "tomex pipeline study 0 mul --from 1 --steps 32",
@@ -97,7 +97,7 @@ fn of_the_first_instructions(rt: HostRuntime) -> Result<(), Fail> {
 pub const SLOW_LOOP: &str =
     "[[program]]\nname = \"loop\"\nfile = \"loop.bin\"\n[[unit.bru]]\nlatency = 64\n";
 
-/// What is too large is told last.
+/// That the picture is too large is reported last.
 static TOO_LARGE: [Asked; 2] = [
     (
         "tomex pipeline study 0 loop --steps 262144 --from 1",

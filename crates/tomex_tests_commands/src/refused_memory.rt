@@ -1,4 +1,5 @@
-//! The text of a run, and whole runs of the program, whose command line takes other memory, with memory refused.
+//! The text of a run, and whole runs of the program, that run out of memory. The command line takes
+//! other memory.
 
 use super::fronts::{DROPPED_PICTURE, DROPPED_TABLE};
 use crate::commands::{PRODUCT_END, outcome_of, text_of, words_of};
@@ -39,12 +40,12 @@ impl Attempt for Text {
 
 #[test]
 fn of_the_text_of_a_run(rt: HostRuntime) -> Result<(), Fail> {
-    // A text grows several times, how often is the library's affair.
+    // A text grows several times; the library decides how often.
     assert!(rt; refusals(rt.alloc(), &Text)? > Some(2));
     Ok(())
 }
 
-/// Runs the program on a command line over files in memory, which is to print this.
+/// Runs the program on a command line over files in memory. It must print this.
 fn command_in<R: AllocGlobal + Threads + Wait + Sync>(
     rt: &R,
     heap: Heap,
@@ -61,7 +62,7 @@ fn command_in<R: AllocGlobal + Threads + Wait + Sync>(
     }
 }
 
-/// How many blocks the program has to be granted before it answers, by no try wrong.
+/// The number of blocks that the program needs before it answers, if no try is wrong.
 fn granted<R: AllocGlobal + Threads + Wait + Sync>(
     rt: &R,
     words: &[&str],
@@ -71,7 +72,7 @@ fn granted<R: AllocGlobal + Threads + Wait + Sync>(
     Ok(refusals_of!(rt.alloc(), heap => command_in(rt, heap, words, files, output)?))
 }
 
-/// Asks for each of these texts, each granted at least so many blocks.
+/// Fails unless each of these lines prints its text, and needs at least its number of blocks.
 fn each_is_granted<R: AllocGlobal + Threads + Wait + Sync>(
     rt: &R,
     files: &[(&str, &[u8])],
@@ -99,19 +100,21 @@ fn of_a_run(rt: HostRuntime) -> Result<(), Fail> {
     each_is_granted(&rt, files.as_slice(), asked.as_slice())
 }
 
-/// What is asked of one program on one machine, what it prints, and how many blocks it needs at least.
+/// Lines on one program on one machine, their output, and the least number of blocks that they
+/// need.
 static OF_PRODUCT: [(&str, &str, u64); 6] = [
     // The study's bytes and its file's, names, the program, rows, costs, steps, times and the text.
     ("tomex times study 1 mul", PRODUCT_TIMES, 11),
-    // All that but the times.
+    // All of that except the times.
     ("tomex stalls study 1 mul", PRODUCT_STALLS, 10),
-    // All that with the waits, and the places.
+    // All of that, with the waits and the places.
     ("tomex stalls study 1 mul --by-pc", PRODUCT_STALLS_BY_PC, 12),
-    // All that but the waits and places; the times, how wide the numbers are, and each number.
+    // All of that except the waits and places; the times, the width of the numbers, and each
+    // number.
     ("tomex pipeline study 1 mul", ON_ONE_STATION, 12),
     // The same, with the steps of the log and their events, but no width of numbers.
     ("tomex pipeline study 0 mul --konata", PRODUCT_LOG, 13),
-    // All that but steps and times; the machine's memory and the text.
+    // All of that except steps and times; the machine's memory and the text.
     ("tomex tables study 0 mul 3", PRODUCT_AFTER_3, 11),
 ];
 
@@ -134,14 +137,14 @@ fn of_explanations(rt: HostRuntime) -> Result<(), Fail> {
     each_is_granted(&rt, [].as_slice(), asked.as_slice())
 }
 
-/// What is asked of a whole study, what it prints, and how many blocks it needs at least.
+/// Lines on a whole study, their output, and the least number of blocks that they need.
 static OF_DROPPED: [(&str, &str, u64); 5] = [
     // The study's bytes and its file's, names, the program, rows, costs and the text; marks, machines, the
     // front and its ends.
     ("tomex all study", DROPPED_REPORT, 16),
     ("tomex explore study", DROPPED_REPORT, 14),
     ("tomex explore study --workers 2", DROPPED_REPORT, 14),
-    // All that, with columns of numbers and their names in place of the records.
+    // All of that, with columns of numbers and their names in place of the records.
     ("tomex front study", DROPPED_TABLE, 14),
     // The front is enough.
     ("tomex plot study", DROPPED_PICTURE, 14),
@@ -153,13 +156,13 @@ fn of_what_a_study_comes_to(rt: HostRuntime) -> Result<(), Fail> {
     each_is_granted(&rt, files.as_slice(), OF_DROPPED.as_slice())
 }
 
-/// What is asked of all rows of a study, what it prints, and how many blocks it needs at least.
+/// Lines on all rows of a study, their output, and the least number of blocks that they need.
 static OF_TWELVE: [(&str, &str, u64); 5] = [
     // The study's bytes and its file's, names, the program, rows, costs and the text; stretches, totals, the plateaus,
     // all rows, marks and the front.
     ("tomex rows study", TWELVE_ROWS, 14),
     ("tomex rows study --workers 3", TWELVE_ROWS, 14),
-    // What is small isn't of this memory.
+    // Small values aren't allocated in this memory.
     ("tomex worth study 4", WORTH_FOUR, 14),
     ("tomex prices study", TWELVE_PRICES, 14),
     ("tomex plot study --rows", TWELVE_PICTURE, 14),
@@ -174,8 +177,8 @@ fn of_all_rows_of_a_study(rt: HostRuntime) -> Result<(), Fail> {
     each_is_granted(&rt, files.as_slice(), OF_TWELVE.as_slice())
 }
 
-/// Pages, over the files of the twelve machines: what they print with ample memory they print with enough, and with
-/// less nothing.
+/// Pages, over the files of the twelve machines: with enough memory they print what they print with
+/// ample memory, and with less nothing.
 #[test]
 fn of_pages(rt: HostRuntime) -> Result<(), Fail> {
     let files = [
@@ -192,7 +195,7 @@ fn of_pages(rt: HostRuntime) -> Result<(), Fail> {
     Ok(())
 }
 
-/// How many blocks a line is granted that makes the report of the study.
+/// The number of blocks that a line needs to make the report of the study.
 fn granted_to<R: AllocGlobal + Threads + Wait + Sync>(
     rt: &R,
     line: &str,

@@ -1,18 +1,19 @@
-//! Stalls reports, over studies and programs in memory. Their numbers are counted by hand, from the cycles that the
-//! tests of times reports have.
+//! Stalls reports, over studies and programs in memory. Their numbers are counted by hand, from the
+//! cycles of the tests of times reports.
 use super::commands::{Asked, Refused, each_comes_to, each_is_refused};
 use std::test::Fail;
 use tomex_tests_fixtures::programs::PRODUCT;
 use tomex_tests_fixtures::studies::{PRODUCT_STALLS, PRODUCT_STALLS_BY_PC, PRODUCT_STUDY};
 
-/// What the product lacks on the first row, of two alu stations: nothing but a wider issue, and the second factor.
+/// The stalls of the product on the first row, of two alu stations: only for a wider issue, and for
+/// the second factor.
 const ON_TWO_STATIONS: &str = "part,count,peak,stalls\n\
     alu,2,2,0\nmul,1,1,0\ndiv,1,0,0\nload,1,0,0\nstore,1,0,0\nbru,1,0,0\n\
     alu_units,1,1,0\nmul_units,1,1,0\ndiv_units,1,0,0\nmem_units,1,0,0\nbru_units,1,0,0\n\
     buses,1,1,0\nwidth,1,1,3\n\
     branch,-,-,0\noperand,-,-,1\naddress,-,-,0\nmemory,-,-,0\ndrain,-,-,4\ntotal,-,-,8\n";
 
-/// What is asked, and what comes of it.
+/// Lines, and their results.
 static ASKED: [Asked; 7] = [
     ("tomex stalls study 0 mul", (0, ON_TWO_STATIONS, "")),
     ("tomex stalls study 1 mul", (0, PRODUCT_STALLS, "")),
@@ -57,7 +58,7 @@ static REFUSED: [Refused; 3] = [
     ),
 ];
 
-/// Studies and programs that are refused are refused as `times` does.
+/// Studies and programs are refused as by `times`.
 #[test]
 fn studies_that_are_refused(rt: HostRuntime) -> Result<(), Fail> {
     each_is_refused(&rt, "tomex stalls study 9 mul --by-pc", &REFUSED)

@@ -1,4 +1,5 @@
-//! All rows of a study, over studies and programs in memory: what an independent implementation prints of the same.
+//! All rows of a study, over studies and programs in memory: the output of an independent
+//! implementation.
 use crate::explorations::{PRICED, TWO, explores_to};
 use std::test::Fail;
 
@@ -20,7 +21,7 @@ pub const TWELVE: &str = "\
     latency = 6\n\
     price = 15\n";
 
-/// Their costs and cycles, and which of them are on the front.
+/// Their costs and cycles, and those that are on the front.
 pub const TWELVE_ROWS: &str = "\
     row,cost,cycles,alu,mul,div,load,store,bru,alu_units,alu_latency,mul_units,mul_latency,div_units,\
     div_latency,mem_units,mem_latency,bru_units,bru_latency,buses,mul_cycles,front\n\
@@ -37,7 +38,7 @@ pub const TWELVE_ROWS: &str = "\
     10,80,11,4,1,1,1,1,1,1,1,1,6,1,1,1,1,1,1,1,11,0\n\
     11,105,11,4,1,1,1,1,1,1,1,1,6,1,1,1,1,1,1,2,11,0\n";
 
-/// What one part more or less brings on machine 4.
+/// The effect of one more or one less part on machine 4.
 pub const WORTH_FOUR: &str = "\
     \x20   part  from   to  row  cost  cycles      %   rate  front\n\
     \x20      -     -    -    4    85       8      -      -    yes\n\
@@ -46,7 +47,7 @@ pub const WORTH_FOUR: &str = "\
     unit.mul   1@3  1@6    6   -25      +3  +37.5   0.12    yes\n\
     \x20  buses     1    2    5   +25       0      0  worse      -\n";
 
-/// And on machine 3, beside which one is better.
+/// And on machine 3, compared with a better one.
 const WORTH_THREE: &str = "\
     \x20   part  from   to  row  cost  cycles      %    rate  front\n\
     \x20      -     -    -    3    75      13      -       -      -\n\
@@ -55,7 +56,7 @@ const WORTH_THREE: &str = "\
     unit.mul   1@6  1@3    1   +25      -3  -23.0    0.12      -\n\
     \x20  buses     2    1    2   -25       0      0  better    yes\n";
 
-/// For which prices the rows of the front stay on it.
+/// The prices for which the rows of the front stay on it.
 pub const TWELVE_PRICES: &str = "\
     row  cost  cycles  all   alu  mul:1@3  mul:1@6  bus\n\
     now     -       -    -    10       40       15   25\n\
@@ -64,7 +65,7 @@ pub const TWELVE_PRICES: &str = "\
     \x20 0    75      10  99%   1..      any      any  any\n\
     \x20 4    85       8  any   any      any      any  any\n";
 
-/// The front before all rows.
+/// The front, drawn over all rows.
 pub const TWELVE_PICTURE: &str = "\
     <svg xmlns=\"http://www.w3.org/2000/svg\" width=\"720\" height=\"440\" viewBox=\"0 0 720 440\"\
     \x20font-family=\"sans-serif\" font-size=\"12\" fill=\"#333333\">\n\
@@ -119,7 +120,7 @@ pub const TWELVE_PICTURE: &str = "\
     </g>\n\
     </svg>\n";
 
-/// Lines on all rows of the twelve, and what they print.
+/// Lines on all rows of the twelve, and their output.
 static PRINTED: [(&str, &str); 5] = [
     ("rows study", TWELVE_ROWS),
     ("worth study 4", WORTH_FOUR),
@@ -139,7 +140,7 @@ fn all_rows_are_printed(rt: HostRuntime) -> Result<(), Fail> {
     Ok(())
 }
 
-/// Two programs have a column each; one row has no neighbour, and no price on which its place hangs.
+/// Two programs have a column each; a single row has no neighbour, and no price that affects it.
 static OF_TWO: [(&str, &str); 3] = [
     (
         "tomex rows study",
@@ -177,7 +178,7 @@ static LINES: [&str; 4] = [
     "tomex plot study --rows",
 ];
 
-/// Studies with how many bytes the output takes, the status and what is told.
+/// Studies with the number of bytes that the output takes, the status and the error text.
 static NOT_PRINTED: [(&str, usize, u8, &str); 3] = [
     ("", 100, 1, "tomex: study: top: program missing\n"),
     (MISSING, 100, 3, "tomex: cannot read a.bin\n"),

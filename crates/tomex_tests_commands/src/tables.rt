@@ -74,7 +74,7 @@ fn tables_of_worked_runs(rt: HostRuntime) -> Result<(), Fail> {
     each_comes_to(&rt, MEMORY, &[("a", STORED.as_slice())], &OF_STORED)
 }
 
-/// What is asked of the study of two programs: rows, programs and cycles are looked for in this order.
+/// Lines on the study of two programs: rows, programs and cycles are looked for in this order.
 static ASKED: [Asked; 11] = [
     ("tomex tables study 0 mul 8", (0, "cycle 8\n", "")),
     ("tomex tables study 0 mul 9", PAST),

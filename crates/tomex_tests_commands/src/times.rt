@@ -15,7 +15,7 @@ const ON_TWO_STATIONS: &str = "step,pc,instr,issue,addr,start,finish,end,station
 /// A second program: one sum, and the end.
 pub const SUM: &[u8; 8] = b"\x93\x00\x50\x00\x73\x00\x10\x00";
 
-/// Two programs of files that differ, in another order than their names'.
+/// Two programs with different files, in another order than their names.
 const TWO: &str = "[[program]]\nname = \"sum\"\nfile = \"z\"\n\
     [[program]]\nname = \"mul\"\nfile = \"a\"\n\
     [axes]\nalu = [2, 1]\n[[unit.mul]]\nlatency = 3\n";
@@ -26,7 +26,7 @@ const SUM_REPORT: &str = "step,pc,instr,issue,addr,start,finish,end,station\n\
     2,00000004,ebreak,2,-,2,2,2,-\n\
     total,-,-,-,-,-,-,3,-\n";
 
-/// What is asked of the study of one program.
+/// Lines on the study of one program.
 static OF_ONE: [Asked; 5] = [
     ("tomex times study 0 mul", (0, ON_TWO_STATIONS, "")),
     ("tomex times study 1 mul", (0, PRODUCT_TIMES, "")),
@@ -42,7 +42,7 @@ static OF_ONE: [Asked; 5] = [
     ),
 ];
 
-/// And of that of two.
+/// And on that of two.
 static OF_TWO: [Asked; 2] = [
     ("tomex times study 1 mul", (0, PRODUCT_TIMES, "")),
     ("tomex times study 1 sum", (0, SUM_REPORT, "")),
@@ -71,7 +71,7 @@ static REFUSED: [Refused; 8] = [
         1,
         "tomex: program mul: image: empty\n",
     ),
-    // Files are read in the order of the programs, and all of them before one is looked at.
+    // Files are read in the order of the programs, and all of them before one is tested.
     (Some(TWO), &[], 3, "tomex: cannot read z\n"),
     (
         Some(TWO),

@@ -1,4 +1,4 @@
-//! That the commands which explore a study share its configurations among threads.
+//! The commands that explore a study share its configurations among threads.
 
 use crate::commands::{outcome_of, words_of};
 use crate::explorations::PRICED;
@@ -10,7 +10,7 @@ use std::thread::Threads;
 use tomex_streams::Meter;
 use tomex_tests_fixtures::programs::PRODUCT;
 
-/// Turns that a thread is held, at most.
+/// The most turns that a thread is held.
 const TURNS: u32 = 10_000_000;
 
 /// Holds the thread of the first call until another thread calls.
@@ -21,7 +21,7 @@ struct FirstWaits {
 }
 
 impl FirstWaits {
-    /// Waits until there was a second call, and says whether there was.
+    /// Waits until there was a second call; true if there was.
     fn is_second_seen(&self) -> bool {
         for _ in 0..TURNS {
             if self.calls.load(Ordering::SeqCst) > 1 {
@@ -44,7 +44,8 @@ impl Meter for FirstWaits {
     fn clear(&self) {}
 }
 
-/// Whether a second thread took a configuration of the study of two while the first one was held at the other.
+/// True if a second thread took one configuration of the study of two while the first was held at
+/// the other.
 fn is_shared<R: AllocGlobal + Threads + Wait + Sync>(rt: &R, line: &str) -> Result<bool, Fail> {
     let files = [
         ("study", PRICED.as_bytes()),

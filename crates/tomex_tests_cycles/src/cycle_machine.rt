@@ -1,4 +1,4 @@
-//! Runs of the machine, beside worked examples, the in-order run and the recurrence.
+//! Runs of the machine, compared with worked examples, the in-order run and the recurrence.
 
 use std::alloc::{AllocError, Allocator, Global};
 use std::test::Fail;
@@ -65,22 +65,22 @@ fn tables_of<A: Allocator>(machine: &Machine<A>) -> Tables {
     machine.tables()
 }
 
-/// Whether the run ends by this cycle.
+/// True if the run ends by this cycle.
 fn ends_by<A: Allocator>(machine: &mut Machine<A>, to: u32) -> bool {
     matches!(machine.advance(u64::from(to)), Progress::Ended)
 }
 
-/// Whether the next tick answers that the run goes on, and brings the machine to this cycle.
+/// True if the next tick says that the run continues, and brings the machine to this cycle.
 fn runs_on<A: Allocator>(machine: &mut Machine<A>, cycle: u32) -> bool {
     matches!(tick(machine), Progress::Running) && cycle_of(machine) == u64::from(cycle)
 }
 
-/// Whether the next tick answers that the run ended, and leaves the machine at this cycle.
+/// True if the next tick says that the run has ended, and leaves the machine at this cycle.
 fn ends_at<A: Allocator>(machine: &mut Machine<A>, cycle: u32) -> bool {
     matches!(tick(machine), Progress::Ended) && cycle_of(machine) == u64::from(cycle)
 }
 
-/// Makes cycle after cycle up to `total`, which is the first whose tick answers that the run ended.
+/// Makes cycle after cycle up to `total`, the first whose tick says that the run has ended.
 fn run_to<A: Allocator>(machine: &mut Machine<A>, total: u32) -> Result<(), Fail> {
     for cycle in 1..total {
         holds(runs_on(machine, cycle), "not running, or at another cycle")?;
@@ -128,30 +128,29 @@ const TWO_LOADS: [u32; 4] = [0x10000413, 0x00040083, 0x00040103, 0x00100073];
 /// `addi x0,x0,0; ebreak`
 const NOTHING: [u32; 2] = [0x00000013, 0x00100073];
 
-/// `ebreak`
 const EBREAK: [u32; 1] = [0x00100073];
 
 /// `mul x3,x0,x0; addi x4,x3,0; ebreak`
 const WAITED_FOR: [u32; 3] = [0x020001b3, 0x00018213, 0x00100073];
 
-/// One station a pool, but for two of alu.
+/// One station in each pool, except two of alu.
 const TWO_ALU: [u8; 6] = [2, 1, 1, 1, 1, 1];
 
-/// The same with two of load.
+/// One station in each pool, except two of load.
 const TWO_LOAD: [u8; 6] = [1, 1, 1, 2, 1, 1];
 
 /// A program with its stations, its alu units, the latencies of mul and mem, and its buses; its issue width; the
 /// total; and the last pc and a register's value at its end.
 type Worked = (&'static [u32], [u8; 6], [u8; 4], u8, u32, (u32, usize, u32));
 
-/// Whether one leap ends at the total.
+/// True if one leap ends at the total.
 fn leaps_to(rt: &HostRuntime, image: &Image, config: &Config, total: u32) -> Result<bool, Fail> {
     let mut machine = machine_of(rt, image, config)?;
     let ends = ends_by(&mut machine, total.saturating_add(9));
     Ok(ends && cycle_of(&machine) == u64::from(total))
 }
 
-/// The end of a run that ticks come to at the total.
+/// The end of a run by ticks, at the total.
 fn ticked(
     rt: &HostRuntime,
     image: &Image,
@@ -163,7 +162,7 @@ fn ticked(
     end_of(machine)
 }
 
-/// Ticks and one leap come to the total, and the run to this pc and register.
+/// Fails unless ticks and one leap reach the total, and the run ends with this pc and register.
 fn comes_to(rt: &HostRuntime, row: &Worked) -> Result<(), Fail> {
     let (words, stations, parts, width, total, (pc, register, value)) = *row;
     let image = image_at_0(rt, words)?;
@@ -193,7 +192,7 @@ static WORKED: [Worked; 24] = [
     (&EBREAK, [1; 6], [1, 1, 1, 1], 1, 1, (0, 2, 65536)),
     (&LOOP_WORDS, [1; 6], [1, 1, 1, 1], 1, 2000, (12, 1, 0)),
     (&WAITED_FOR, [1; 6], [1, 64, 1, 1], 1, 68, (8, 4, 0)),
-    // A product issues beside its producers, and nothing beside a JALR after it.
+    // A product issues in its producers' cycle, and nothing in a JALR's cycle after it.
     (&PRODUCT_WORDS, TWO_ALU, [2, 3, 1, 2], 1, 8, (12, 3, 0x23)),
     (&PRODUCT_WORDS, TWO_ALU, [2, 3, 1, 2], 2, 7, (12, 3, 0x23)),
     (&PRODUCT_WORDS, TWO_ALU, [2, 3, 1, 2], 4, 7, (12, 3, 0x23)),
@@ -211,14 +210,14 @@ fn worked_runs(rt: HostRuntime) -> Result<(), Fail> {
     Ok(())
 }
 
-/// Whether a run of 68 cycles makes few of them.
+/// True if a run of 68 cycles makes few of them.
 fn is_skipped<A: Allocator>(machine: &mut Machine<A>) -> bool {
     let is_new = worked(machine) == 0;
     let ends = ends_by(machine, 1000) && cycle_of(machine) == 68;
     is_new && ends && 7 <= worked(machine) && worked(machine) <= 25
 }
 
-/// Of the 68 cycles of a run with a long multiplication few are made.
+/// Few of the 68 cycles of a run with a long multiplication are made.
 #[test]
 fn a_long_wait_is_skipped(rt: HostRuntime) -> Result<(), Fail> {
     let config = machine_config([1; 6], [1, 64, 1, 1], 1)?;

@@ -1,4 +1,4 @@
-//! What no clause says: that a study is read where there is memory, and the texts of the refusals.
+//! What no clause says: a study is read if there is memory, and the texts of the refusals.
 
 use std::process::Abort;
 use std::test::Fail;
@@ -11,10 +11,10 @@ mod studies;
 
 use studies::{AT_TOP, IN_PROGRAMS, LAWFUL, ORDERED, STUDY_L, STUDY_M, WATCHED, WIDE};
 
-/// A program, for studies of which something else is wrong.
+/// A program, for studies in which something else is wrong.
 const PROGRAM: &str = "[[program]]\nname = \"a\"\nfile = \"a.bin\"\n";
 
-/// The text of a study's refusal, an empty one for a study that is read.
+/// The text of a study's refusal, empty for a study that is read.
 fn refusal<R: AllocGlobal>(rt: &R, study: &str) -> Result<String, Fail> {
     match file_names(rt.alloc(), rt.alloc(), study.as_bytes()) {
         Ok(_) => Ok(String::new(rt.alloc())),
@@ -22,7 +22,7 @@ fn refusal<R: AllocGlobal>(rt: &R, study: &str) -> Result<String, Fail> {
     }
 }
 
-/// The study is refused by this text, or read where the text is empty.
+/// Fails unless the study is refused with this text, or read if the text is empty.
 fn is_told<R: Abort + AllocGlobal>(rt: &R, study: &str, wanted: &str) -> Result<(), Fail> {
     let text = refusal(rt, study)?;
     assert!(rt; text.as_str() == wanted, "{text}: {study}");
@@ -40,7 +40,7 @@ static NAMES: [(&str, &[&str]); 3] = [
     (STUDY_OF_TWO, &["z.bin", "y.bin"]),
 ];
 
-/// Whether a study's files have these names.
+/// True if a study's files have these names.
 fn are_named<R: AllocGlobal>(rt: &R, study: &str, files: &[&str]) -> Result<bool, Fail> {
     let names = file_names(rt.alloc(), rt.alloc(), study.as_bytes())?;
     let mut same = names.len() == files.len();
@@ -155,7 +155,7 @@ static VALUES: [(&str, &[&str], &[(&str, &str)]); 4] = [
     ),
 ];
 
-/// A document whose table has this value of a key is refused for this fault.
+/// Fails unless a document whose table has this value of a key is refused for this fault.
 fn value_is_refused<R: Abort + AllocGlobal>(
     rt: &R,
     table: &str,
@@ -193,7 +193,8 @@ static OPTIONS: [(&str, &str); 9] = [
     ("price = 1000001", "price out of range"),
 ];
 
-/// A document whose second option of this kind of unit is this one is refused for this fault.
+/// Fails unless a document whose second option of this kind of unit is this one is refused for this
+/// fault.
 fn option_is_refused<R: Abort + AllocGlobal>(
     rt: &R,
     kind: &str,
@@ -225,7 +226,7 @@ fn refused_options(rt: HostRuntime) -> Result<(), Fail> {
     Ok(())
 }
 
-/// Whether a refusal has this text.
+/// True if a refusal has this text.
 fn reads<R: AllocGlobal>(rt: &R, error: StudyError, wanted: &str) -> Result<bool, Fail> {
     let text = format!(in rt.alloc(); "{error}")?;
     Ok(text.as_str() == wanted)

@@ -1,4 +1,5 @@
-//! Tests of the documents of studies: which are read, what they say, and the texts of the refusals.
+//! Tests of the documents of studies: those that are read, their contents, and the texts of the
+//! refusals.
 #![tactic(auto)]
 
 #[cfg(test)]

@@ -1,6 +1,6 @@
-//! What the program refuses.
+//! The program's refusals.
 
-/// All refusals of the program, a line each, in the order in which they are looked for.
+/// All refusals of the program, each on a line, in the order in which they are looked for.
 pub const ALL_REFUSALS: &str = "cannot read NAME
 bad window
 too long

@@ -6,8 +6,8 @@ ghost use Rattle.tomex_streams.specs.Files.{told_of};
 use std::alloc::{Allocator, Global};
 use tomex_streams::{Files, PutFault, ReadFault, Sink};
 
-/// A sink in memory: it takes at most `step` bytes a put and `room` in all, and then fails, or takes
-/// nothing where `is_silent`.
+/// A sink in memory: it takes at most `step` bytes a put and `room` in all, and then fails, or
+/// takes nothing if `is_silent`.
 #[derive(Drop)]
 pub struct Narrow {
     pub bytes: Vec<u8>,
@@ -55,7 +55,7 @@ pub struct Shelf<'a> {
 }
 
 impl<'a> Shelf<'a> {
-    /// The name and the bytes of that file.
+    /// The name and the bytes of the file with this name.
     fn entry(&self, name: &str) -> Option<&(&'a str, &'a [u8])>
         ensures { option_copied result ≡ find (λ f. bytes_eq f.0.now name.now) self.now.files.now }
     {

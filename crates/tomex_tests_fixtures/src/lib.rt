@@ -1,5 +1,5 @@
-//! What tests of several crates share: programs, machines, studies and what comes of them, images, a sink and files
-//! in memory, and calls whose memory is refused.
+//! Fixtures that tests of several crates share: programs, machines, studies and their results,
+//! images, a sink and files in memory, and calls that run out of memory.
 #![tactic(auto)]
 
 mod explained;

@@ -1,4 +1,4 @@
-//! Machines that tests run programs on.
+//! Machines on which tests run programs.
 
 use std::test::Fail;
 use tomex_config::{Config, UnitOption};
@@ -34,8 +34,8 @@ pub fn config_of(
     Ok(Config::new(stations, units, buses, width).ok_or("no configuration")?)
 }
 
-/// The configuration of these stations and of one unit of each of these latencies, with this number of
-/// buses, that issues one instruction a cycle.
+/// The configuration of these stations and of one unit of each of these latencies, with this number
+/// of buses, with an issue width of 1.
 pub fn one_unit_each(stations: [u8; 6], latencies: [u8; 5], buses: u8) -> Result<Config, Fail> {
     config_of(stations, latencies.map(unit), buses, 1)
 }

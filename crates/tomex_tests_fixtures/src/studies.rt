@@ -1,4 +1,4 @@
-//! Studies, and what comes of them.
+//! Studies, and their results.
 
 /// The product on two rows, of two alu stations and of one.
 pub const PRODUCT_STUDY: &str = "[[program]]\nname = \"mul\"\nfile = \"mul.bin\"\n\
@@ -12,14 +12,14 @@ pub const PRODUCT_TIMES: &str = "step,pc,instr,issue,addr,start,finish,end,stati
     4,0000000c,ebreak,6,-,6,6,6,-\n\
     total,-,-,-,-,-,-,10,-\n";
 
-/// What it lacks there, by part: the second sum waits two cycles for the first one's station.
+/// Its stalls there, by part: the second sum waits two cycles for the first one's station.
 pub const PRODUCT_STALLS: &str = "part,count,peak,stalls\n\
     alu,1,1,2\nmul,1,1,0\ndiv,1,0,0\nload,1,0,0\nstore,1,0,0\nbru,1,0,0\n\
     alu_units,1,1,0\nmul_units,1,1,0\ndiv_units,1,0,0\nmem_units,1,0,0\nbru_units,1,0,0\n\
     buses,1,1,0\nwidth,1,1,3\n\
     branch,-,-,0\noperand,-,-,1\naddress,-,-,0\nmemory,-,-,0\ndrain,-,-,4\ntotal,-,-,10\n";
 
-/// And by place.
+/// And by address.
 pub const PRODUCT_STALLS_BY_PC: &str =
     "pc,instr,steps,branch,width,station,operand,address,memory,unit,bus\n\
     00000000,\"addi x1,x0,5\",1,0,0,0,0,0,0,0,0\n\

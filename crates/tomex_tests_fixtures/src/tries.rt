@@ -1,4 +1,5 @@
-//! Each growth of a call refused in turn: the call says so, and with memory it gives the right answer.
+//! Each growth of a call refused in turn: the call reports it, and with memory it gives the right
+//! answer.
 
 use std::alloc::{AllocError, Global};
 use tomex_tests_allocator::{Budget, Refusing};
@@ -6,42 +7,42 @@ use tomex_tests_allocator::{Budget, Refusing};
 /// The memory of a try.
 pub type Heap = Refusing<Global>;
 
-/// Memory of so many blocks.
+/// Memory of `granted` blocks.
 pub fn heap_of(other: Global, granted: u64) -> Result<Heap, AllocError> {
     Ok(Refusing::new(other, Budget::new(other, granted)?))
 }
 
-/// Memory that is never refused, of the kind of a try's.
+/// Memory that never runs out, of the same type.
 pub fn ample(other: Global) -> Result<Heap, AllocError> {
     heap_of(other, u64::MAX)
 }
 
-/// How one try of a call came out.
+/// The outcome of one try of a call.
 #[derive(Clone, Copy, Debug, PartialEq, Eq)]
 pub enum Try {
     /// The right answer.
     Answered,
-    /// Memory was refused, and the call said so.
+    /// Memory was refused, and the call reported it.
     Refused,
-    /// Anything else, which must not be.
+    /// Anything else, which must not happen.
     Wrong,
 }
 
 impl Try {
-    /// An answer, which is the right one or not.
+    /// The outcome of an answer, which is right or not.
     pub fn right_if(is_right: bool) -> Try {
         if is_right { Try::Answered } else { Try::Wrong }
     }
 }
 
-/// A call that takes memory.
+/// A call that allocates.
 pub trait Attempt {
     /// Makes the call in that memory.
     fn attempt(&self, heap: Heap) -> Result<Try, AllocError>;
 }
 
-/// How many tries are refused before the first that is answered, each with one more block than
-/// the one before. None where a try came out wrong.
+/// The number of tries that are refused before the first answer, each with one more block than the
+/// one before. `None` if a try is wrong.
 pub fn refusals<C: Attempt>(alloc: Global, call: &C) -> Result<Option<u64>, AllocError> {
     for granted in 0..1000u64 {
         match call.attempt(heap_of(alloc, granted)?)? {
@@ -53,7 +54,7 @@ pub fn refusals<C: Attempt>(alloc: Global, call: &C) -> Result<Option<u64>, Allo
     Ok(None)
 }
 
-/// The same of a call that takes the runtime, which no `Attempt` holds.
+/// The same for a call that takes the runtime, which no `Attempt` holds.
 #[macro_export]
 macro_rules! refusals_of {
     ($alloc:expr, $heap:ident => $attempt:expr) => {{

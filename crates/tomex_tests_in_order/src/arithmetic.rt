@@ -1,4 +1,4 @@
-//! What the operations compute, by vectors from outside.
+//! The results of the operations, by vectors from other programs.
 
 use std::process::Abort;
 use tomex_rvdec::Op;
@@ -20,7 +20,7 @@ static M: [Op; 8] = [
     Op::Remu,
 ];
 
-/// Stops at the first operation of M that gives another value of these operands.
+/// Stops at the first operation of M that gives another value for these operands.
 fn check_m(rt: &impl Abort, a: u32, b: u32, wanted: &[u32; 8]) {
     for (op, value) in M.iter().zip(wanted) {
         assert!(rt;
@@ -44,7 +44,7 @@ fn every_shift(rt: HostRuntime) {
         assert!(rt; alu(Op::Sll, SHIFTED, amount) == *left);
         assert!(rt; alu(Op::Srl, SHIFTED, amount) == *right);
         assert!(rt; alu(Op::Sra, SHIFTED, amount) == *signed);
-        // A register's amount counts by its low five bits.
+        // Only the low five bits of a register's amount count.
         assert!(rt; alu(Op::Sra, SHIFTED, amount | 0xffff_ffe0) == *signed);
         amount = amount.wrapping_add(1) % 32;
     }
@@ -54,7 +54,7 @@ const LOW: u32 = 1;
 
 const HIGH: u32 = 0xffff_ffff;
 
-/// Branches, each with its operands and whether it is taken.
+/// Branches, each with its operands, and true if it is taken.
 static BRANCHES: [(Op, u32, u32, bool); 6] = [
     (Op::Blt, HIGH, LOW, true),
     (Op::Bltu, HIGH, LOW, false),

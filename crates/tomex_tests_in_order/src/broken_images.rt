@@ -1,5 +1,5 @@
-//! Broken files: whatever their bytes, they are refused by name, or what they load runs to an end,
-//! a fault or the limit.
+//! Broken files: whatever their bytes, they are refused by name, or the image runs to an end, a
+//! fault or the limit.
 
 use std::alloc::Global;
 use std::test::Fail;
@@ -12,7 +12,7 @@ fn window() -> Result<Window, Fail> {
     Ok(Window::new(65536, 4096).ok_or("no window")?)
 }
 
-/// Whether a run faults at its first instruction, which is illegal.
+/// True if a run faults at its first instruction, which is illegal.
 fn is_illegal(alloc: Global, image: &Image) -> bool {
     let illegal = Fault {
         kind: FaultKind::Illegal,
@@ -25,7 +25,8 @@ fn is_illegal(alloc: Global, image: &Image) -> bool {
 fn every_beginning(rt: HostRuntime) -> Result<(), Fail> {
     for length in 0..ELF.len() {
         match load(rt.alloc(), &ELF.as_slice()[..length], window()?) {
-            // Up to three bytes are no ELF file yet: a flat image of no legal instruction.
+            // Up to three bytes aren't an ELF file yet, but a flat image without a legal
+            // instruction.
             Ok(image) => { assert!(rt; 0 < length && length < 4 && is_illegal(rt.alloc(), &image)) }
             Err(ImageError::Empty) => assert!(rt; length == 0),
             Err(error) => assert!(rt; 0 < length && error == ImageError::Truncated),
@@ -34,8 +35,8 @@ fn every_beginning(rt: HostRuntime) -> Result<(), Fail> {
     Ok(())
 }
 
-/// How many of the changed files each test refuses, as a program in another language counts them, from the
-/// tests as they are stated.
+/// The number of changed files that each test refuses, counted by a program in another language
+/// from the definition of the tests.
 const REFUSED: [(ImageError, u32); 8] = [
     (ImageError::NotRiscv, 1275),
     (ImageError::NotExec, 510),
@@ -56,7 +57,7 @@ fn tell_off(left: &mut [(ImageError, u32)], error: ImageError) {
     }
 }
 
-/// Whether a changed file is loaded, and has memory for its run. A refusal is counted down.
+/// True if a changed file is loaded, and has memory for its run. Counts a refusal down.
 fn is_loaded(rt: &HostRuntime, bytes: &[u8], left: &mut [(ImageError, u32)]) -> Result<bool, Fail> {
     match load(rt.alloc(), bytes, window()?) {
         Ok(image) => match run(rt.alloc(), &image, 1000) {
@@ -83,7 +84,7 @@ fn every_byte_changed(rt: HostRuntime) -> Result<(), Fail> {
             }
         }
     }
-    // So many are loaded, which leaves as many as are refused: each of the 25,600 is counted once.
+    // The number that are loaded; with the refused ones, each of the 25,600 is counted once.
     assert!(rt; loaded == 16_357);
     for (kind, count) in &left {
         assert!(rt; *count == 0, "{kind:?}");

@@ -1,18 +1,18 @@
-//! That an image is loaded where there is memory, and the texts of the refusals.
+//! An image is loaded if there is memory; and the texts of the refusals.
 
 use std::alloc::{AllocError, Global};
 use std::test::Fail;
 use tomex_image::{Image, ImageError, Window, load};
 use tomex_tests_fixtures::programs::ELF;
 
-/// Whether a memory is the product and zeros, 65,536 bytes in all.
+/// True if a memory is the product and zeros, 65,536 bytes in all.
 fn is_product(memory: &[u8]) -> bool {
     memory.len() == 65536
         && memory.starts_with(&ELF.as_slice()[84..])
         && memory[16..].iter().all(|byte| *byte == 0)
 }
 
-/// Whether a file is loaded as the product, which begins at the window's base.
+/// True if a file is loaded as the product, which begins at the window's base.
 fn loads_product(alloc: Global, file: &[u8], window: Window) -> Result<bool, ImageError> {
     let image = load(alloc, file, window)?;
     let is_at_base = image.window() == window && image.entry() == 65536;
@@ -36,7 +36,8 @@ fn header(offset: u32, address: u32) -> [u8; 32] {
     bytes
 }
 
-/// An ELF file of so many equal segments of 32 bytes, one after another, each of which begins with the product.
+/// An ELF file of `count` equal segments of 32 bytes, one after another, each of which begins with
+/// the product.
 fn of_segments(alloc: Global, count: u8) -> Result<Vec<u8>, AllocError> {
     let mut bytes = ELF.as_slice()[..52].to_vec(alloc)?;
     if bytes.len() > 44 {
@@ -61,7 +62,7 @@ fn of_products(alloc: Global) -> Result<Vec<u8>, AllocError> {
     Ok(bytes)
 }
 
-/// What a file of so many segments comes to in a window of 4096 bytes.
+/// The result of loading a file of `count` segments into a window of 4096 bytes.
 fn loaded(alloc: Global, count: u8) -> Result<Result<Image, ImageError>, Fail> {
     let window = Window::new(65536, 4096).ok_or("no window")?;
     let bytes = of_segments(alloc, count)?;

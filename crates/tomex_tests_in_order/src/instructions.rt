@@ -1,10 +1,10 @@
-//! Known words: what they are called, and that they come back from their instructions.
+//! Known words: their texts, and the words that their instructions encode to.
 
 use std::alloc::Global;
 use std::test::Fail;
 use tomex_rvdec::{decode, encode};
 
-/// Words, each the one that means an instruction of this text.
+/// Words, with the texts of their instructions.
 static WORDS: [(u32, &str); 18] = [
     (0x00500093, "addi x1,x0,5"),
     (0x022081b3, "mul x3,x1,x2"),
@@ -26,7 +26,7 @@ static WORDS: [(u32, &str); 18] = [
     (0x00100073, "ebreak"),
 ];
 
-/// What a word's instruction is called, and the word that comes back from it.
+/// The text of a word's instruction, and the word that it encodes to.
 fn told(alloc: Global, word: u32) -> Result<(String, u32), Fail> {
     let instr = decode(word).ok_or("no instruction")?;
     Ok((format!(in alloc; "{instr}")?, encode(&instr)))

@@ -1,5 +1,5 @@
-//! Tests of instructions, images and the in-order machine. They say what no contract does, compare with results
-//! that were made by other means, and refuse each growth of each call in turn.
+//! Tests of instructions, images and the in-order machine. They test what no contract says, compare
+//! with results from other programs, and refuse each growth of each call in turn.
 #![tactic(auto)]
 
 #[cfg(test)]

@@ -1,4 +1,4 @@
-//! The in-order machine on small programs, and its steps on a memory alone.
+//! The in-order machine on small programs, and its steps on only a memory.
 
 use std::alloc::Global;
 use std::test::Fail;
@@ -11,17 +11,17 @@ use tomex_rvexec::{
 use tomex_tests_fixtures::image_of;
 use tomex_tests_fixtures::programs::PRODUCT_WORDS;
 
-/// The end of a run of at most so many steps.
+/// The end of a run of at most `limit` steps.
 fn ran(alloc: Global, image: &Image, limit: u32) -> Result<End, Fail> {
     Ok(run(alloc, image, limit)?)
 }
 
-/// Whether a program makes more than so many steps.
+/// True if a program makes more than `limit` steps.
 fn is_too_long(alloc: Global, image: &Image, limit: u32) -> bool {
     matches!(run(alloc, image, limit), Err(RunError::TooLong))
 }
 
-/// The product's steps, and what stays so after its end.
+/// The outcomes of the product's steps, and after its end.
 static STEPPED: [Stepped; 5] = [
     Stepped::Next,
     Stepped::Next,
@@ -30,7 +30,7 @@ static STEPPED: [Stepped; 5] = [
     Stepped::Ended(EndKind::Ebreak),
 ];
 
-/// Whether a machine steps so.
+/// True if a machine's steps have these outcomes.
 fn steps_so(cpu: &mut Cpu, wanted: &[Stepped]) -> bool {
     let mut same = true;
     for stepped in wanted {
@@ -55,7 +55,7 @@ const LOADS: [u32; 10] = [
     0x00402383, 0x00100073,
 ];
 
-/// What those loads leave in x1 to x7.
+/// The values that those loads leave in x1 to x7.
 const LOADED: [u32; 7] = [
     0xffff_ff80,
     0xffff_ffc0,
@@ -66,13 +66,13 @@ const LOADED: [u32; 7] = [
     0x80c0_ff80,
 ];
 
-/// Programs, each with its steps and the values that it leaves in x1 and on.
+/// Programs, each with its number of steps and the values that it leaves from x1 on.
 static ENDING: [(&[u32], u32, &[u32]); 2] = [
     (&PRODUCT_WORDS, 4, &[5, 7, 35]),
     (&LOADS, 9, &LOADED),
 ];
 
-/// Whether a program ends after so many steps, not within fewer, and leaves these values.
+/// True if a program ends after `steps` steps, not within fewer, and leaves these values.
 fn ends(alloc: Global, words: &[u32], steps: u32, wanted: &[u32]) -> Result<bool, Fail> {
     let image = image_of(alloc, 0, 4096, words)?;
     let end = ran(alloc, &image, steps)?;
@@ -105,7 +105,7 @@ fn near_and_far(alloc: Global) -> Result<Image, Fail> {
 #[test]
 fn instructions_that_share_a_line_of_the_cache(rt: HostRuntime) -> Result<(), Fail> {
     let image = near_and_far(rt.alloc())?;
-    // Three rounds, in which each half's first two instructions put out the other's.
+    // Three rounds, in which each half's first two instructions evict the other's.
     let end = ran(rt.alloc(), &image, 18)?;
     assert!(rt; end.regs[1] == 3);
     assert!(rt; end.regs[4] == 6);
@@ -114,7 +114,7 @@ fn instructions_that_share_a_line_of_the_cache(rt: HostRuntime) -> Result<(), Fa
     Ok(())
 }
 
-/// Words, and whether their access is inside the window of 4096 bytes at the top.
+/// Words, and true if their access is inside the window of 4096 bytes at the top.
 static AT_THE_TOP: [(u32, bool); 8] = [
     // lw x1,-2(x0) and lw x0,-2(x0) have bytes past the top, which don't wrap to 0.
     (0xffe02083, false),
@@ -129,7 +129,7 @@ static AT_THE_TOP: [(u32, bool); 8] = [
     (0x00000023, false),
 ];
 
-/// Whether the word's run ends. A run that doesn't has to fault by the word's access.
+/// True if the word's run ends. A run that doesn't must fault by the word's access.
 fn is_inside(alloc: Global, word: u32) -> Result<bool, Fail> {
     let image = image_of(alloc, 0xffff_f000, 4096, &[word, 0x00100073])?;
     let outside = Fault {
@@ -175,13 +175,13 @@ static ACCESSES: [(Option<ByteRange>, Option<u8>); 5] = [
     (None, None),
 ];
 
-/// The trace of that program within so many steps.
+/// The trace of that program within `limit` steps.
 fn traced(alloc: Global, limit: u32) -> Result<Result<Vec<Step>, RunError>, Fail> {
     let image = image_of(alloc, 0, 4096, &STORE_THEN_LOAD)?;
     Ok(trace(alloc, &image, limit))
 }
 
-/// Whether these are the program's steps, by what they access and write.
+/// True if these are the program's steps, by their accesses and destinations.
 fn are_its_steps(steps: &[Step]) -> bool {
     let mut same = steps.len() == 5;
     for (step, (bytes, dest)) in steps.iter().zip(&ACCESSES) {
@@ -207,8 +207,8 @@ fn step_of(word: u32, vj: u32, vk: u32) -> Result<Step, Fail> {
     })
 }
 
-/// A memory of 16 bytes from 256 on, in which `sh x2,2(x1)` has stored twice: within, and with its second byte past
-/// the end, where it writes none.
+/// A memory of 16 bytes from 256 on, in which `sh x2,2(x1)` was stored twice: inside, and with its
+/// second byte past the end, which writes nothing.
 fn stored_twice(alloc: Global) -> Result<Memory, Fail> {
     let mut memory = Memory::new(0x100, vec![in alloc; 0u8; 16]?);
     for base in [0x100, 0x10d] {
@@ -217,7 +217,7 @@ fn stored_twice(alloc: Global) -> Result<Memory, Fail> {
     Ok(memory)
 }
 
-/// Words with the value of x1 or x2 that they read, and what they give on that memory.
+/// Words with the value of x1 or x2 that they read, and their results on that memory.
 static RESULTS: [(u32, u32, Option<u32>); 4] = [
     // lw x3,0(x1)
     (0x0000_a183, 0x100, Some(0x80ff_0000)),
@@ -227,7 +227,7 @@ static RESULTS: [(u32, u32, Option<u32>); 4] = [
     (0x0011_00e7, 0x201, Some(12)),
 ];
 
-/// Words with the values that they read, and where they lead.
+/// Words with the values that they read, and the next pc.
 static NEXT: [(u32, u32, u32, u32); 3] = [
     // jalr x1,1(x2)
     (0x0011_00e7, 0x201, 0, 0x202),

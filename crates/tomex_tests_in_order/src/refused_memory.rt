@@ -1,4 +1,4 @@
-//! Images, machines, runs and traces, with memory refused.
+//! Images, machines, runs and traces that run out of memory.
 
 use std::alloc::AllocError;
 use std::test::Fail;
@@ -7,7 +7,7 @@ use tomex_rvexec::{Cpu, EndKind, RunError, Stepped, run, trace};
 use tomex_tests_fixtures::programs::ELF;
 use tomex_tests_fixtures::{Attempt, Heap, Try, refusals};
 
-/// The image of these bytes in a window of 4096 from a base, or how its loading came out.
+/// The image of these bytes in a window of 4096 from a base, or the outcome of its loading.
 fn image_of(heap: Heap, bytes: &[u8], base: u32) -> Result<Image<Heap>, Try> {
     match Window::new(base, 4096) {
         Some(window) => match load(heap, bytes, window) {
@@ -42,7 +42,7 @@ const STORES: [u8; 20] = [
     0x73, 0x00, 0x10, 0x00,
 ];
 
-/// Whether a machine ends by its fifth step.
+/// True if a machine ends by its fifth step.
 fn ends_at_fifth(mut cpu: Cpu<Heap>) -> bool {
     for _ in 0..4 {
         if cpu.step() != Ok(Stepped::Next) {
@@ -52,7 +52,7 @@ fn ends_at_fifth(mut cpu: Cpu<Heap>) -> bool {
     cpu.step() == Ok(Stepped::Ended(EndKind::Ebreak))
 }
 
-/// How a machine of a program that stores came out, stepped to its end.
+/// The outcome of stepping a machine of a program that stores to its end.
 fn stepped(heap: Heap, image: &Image<Heap>) -> Try {
     match Cpu::new(heap, image) {
         Ok(cpu) => Try::right_if(ends_at_fifth(cpu)),
@@ -72,7 +72,7 @@ impl Attempt for Step {
     }
 }
 
-/// How a run of the product came out.
+/// The outcome of a run of the product.
 fn ran(heap: Heap, image: &Image<Heap>) -> Try {
     match run(heap, image, 4) {
         Ok(end) => Try::right_if(end.regs[3] == 35),
@@ -93,7 +93,7 @@ impl Attempt for Run {
     }
 }
 
-/// How the trace of the product's run came out.
+/// The outcome of the trace of the product's run.
 fn traced(heap: Heap, image: &Image<Heap>) -> Try {
     match trace(heap, image, 4) {
         Ok(steps) => Try::right_if(steps.len() == 4),
@@ -118,7 +118,7 @@ impl Attempt for Trace {
 fn images_and_runs(rt: HostRuntime) -> Result<(), Fail> {
     // The window's bytes.
     assert!(rt; refusals(rt.alloc(), &Load)? == Some(1));
-    // And those that the run changes; a store takes none.
+    // And those that the run changes; a store allocates nothing.
     assert!(rt; refusals(rt.alloc(), &Step)? == Some(2));
     assert!(rt; refusals(rt.alloc(), &Run)? == Some(2));
     // And the list of four steps.

@@ -1,4 +1,5 @@
-//! What no contract says of the command line: how the words of a line are read, and the parser's texts.
+//! What no contract says about the command line: how the words of a line are read, and the parser's
+//! texts.
 
 use std::alloc::{AllocError, Global};
 use std::process::Abort;
@@ -6,7 +7,7 @@ use std::test::Fail;
 use tomex_arguments::LineFault;
 use tomex_command_line::{Line, OneRun, read_line};
 
-/// The words of a line, apart at each space.
+/// The words of a line, split at each space.
 fn words(alloc: Global, line: &str) -> Result<Vec<String>, AllocError> {
     let mut words = Vec::new(alloc);
     for word in line.split(' ') {
@@ -33,7 +34,7 @@ fn told_line(alloc: Global, line: &Line) -> Result<String, AllocError> {
     }
 }
 
-/// The same of what is asked of all rows of a study.
+/// The same for a line on all rows of a study.
 fn told_of_all_rows(alloc: Global, line: &Line) -> Result<String, AllocError> {
     match line {
         Line::Plot(plot) => {
@@ -51,7 +52,7 @@ fn told_of_all_rows(alloc: Global, line: &Line) -> Result<String, AllocError> {
     }
 }
 
-/// The same of what is asked of one program on one row.
+/// The same for a line on one program on one row.
 fn told_of_a_program(alloc: Global, line: &Line) -> Result<String, AllocError> {
     match line {
         Line::Stalls(stalls) => {
@@ -109,8 +110,8 @@ fn told_fault(alloc: Global, fault: &LineFault) -> Result<String, AllocError> {
     }
 }
 
-/// What the words after the program's name come to: the name and the numbers of a run, or the kind of
-/// the fault and its text.
+/// The result of the words after the program's name: the name and the numbers of a run, or the kind
+/// of the fault and its text.
 fn told(alloc: Global, line: &str) -> Result<String, AllocError> {
     let line = format!(in alloc; "tomex {line}")?;
     let words = words(alloc, line.as_str())?;
@@ -120,7 +121,7 @@ fn told(alloc: Global, line: &str) -> Result<String, AllocError> {
     }
 }
 
-/// Lines, and how what they come to begins.
+/// Lines, and the beginnings of their results.
 static READ: [(&str, &str); 63] = [
     ("run mul.bin", "run mul.bin 0 65536 262144"),
     (
@@ -220,7 +221,7 @@ static READ: [(&str, &str); 63] = [
     ("walk", "usage error: unrecognized subcommand 'walk'"),
 ];
 
-/// Stops where what a line comes to begins otherwise.
+/// Stops if the result of a line doesn't begin with `start`.
 fn begins(rt: &impl Abort, alloc: Global, line: &str, start: &str) -> Result<(), Fail> {
     let text = told(alloc, line)?;
     assert!(rt; text.starts_with(start), "{line}: {text}");
@@ -235,7 +236,7 @@ fn lines_are_read(rt: HostRuntime) -> Result<(), Fail> {
     Ok(())
 }
 
-/// Lines that ask for help, and how it ends.
+/// Lines that ask for help, and the end of its text.
 static HELP_ENDS: [(&str, &str); 4] = [
     ("--help", "hexadecimal too, as in 0x10000.\n"),
     ("run --help", "\n  ebreak at 0000000c after 4\n"),
@@ -255,7 +256,6 @@ fn help_is_whole(rt: HostRuntime) -> Result<(), Fail> {
     Ok(())
 }
 
-/// Lines that are refused.
 static REFUSED: [&str; 37] = [
     "run a --base 4294967293",
     "run a --base -4",
@@ -296,7 +296,7 @@ static REFUSED: [&str; 37] = [
     "explain --b",
 ];
 
-/// Whether the program's name alone is a mistake.
+/// True if a line of only the program's name is refused.
 fn is_mistaken(alloc: Global) -> Result<bool, AllocError> {
     let name = words(alloc, "tomex")?;
     Ok(matches!(read_line(alloc, name.as_slice()), Err(LineFault::Usage(_))))

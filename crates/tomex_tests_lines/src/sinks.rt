@@ -1,4 +1,4 @@
-//! A write that stops on its way.
+//! A write that stops before the end.
 
 use std::test::Fail;
 use tomex_streams::{WriteFault, write_all_of};

@@ -1,4 +1,4 @@
-//! What no contract says of the system's files and of its standard error.
+//! What no contract says about the system's files and its standard error.
 
 use std::fs::File;
 use std::io;
@@ -17,7 +17,7 @@ fn files_of_the_system_are_read(rt: HostRuntime) -> Result<(), Fail> {
     assert!(rt; files.read(rt.alloc(), "no such file").err() == Some(ReadFault::NoFile));
     assert!(rt; files.read(rt.alloc(), "/").err() == Some(ReadFault::NoFile));
     assert!(rt; files.read(rt.alloc(), "/dev/null")?.as_slice() == b"".as_slice());
-    // A device without an end is refused once it has given more than a file may have.
+    // A device without an end is refused once it has given more bytes than a file may have.
     let zeros = File::open(&rt, "/dev/zero")?;
     assert!(rt; bytes_within(rt.alloc(), zeros, 10).err() == Some(ReadFault::NoFile));
     assert!(rt; bytes_within(rt.alloc(), TEXT.as_slice(), 13)?.as_slice() == TEXT.as_slice());
@@ -51,7 +51,7 @@ fn endless_files_are_refused(rt: HostRuntime) -> Result<(), Fail> {
     Ok(())
 }
 
-/// A clock that goes on by a second at each look.
+/// A clock that advances by a second at each reading.
 #[derive(Drop)]
 struct Leaping {
     seconds: AtomicU64,
@@ -67,7 +67,7 @@ impl Clock for Leaping {
     }
 }
 
-/// The line of the system's that counts the bytes which this process has written so far, an empty one where the
+/// The system's line with the number of bytes that this process has written so far; empty if the
 /// system doesn't count them.
 fn written<R: AllocGlobal + std::rt::Files>(rt: &R) -> Result<String, Fail> {
     let counts = match HostFiles::new(rt).read(rt.alloc(), "/proc/self/io") {

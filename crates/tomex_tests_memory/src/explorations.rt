@@ -22,7 +22,7 @@ fn study_in(other: Global) -> Result<Study<Heap>, AllocError> {
     read_study(heap, other, DROPPED.as_bytes(), files.as_slice()).map_err(|_| AllocError)
 }
 
-/// How an exploration came out whose second row is to have one of these marks.
+/// The outcome of an exploration whose second row must have one of these marks.
 fn tried(outcome: Result<Outcome<Heap>, SweepError>, seconds: &[Mark]) -> Try {
     match outcome {
         Ok(outcome) => Try::right_if(
@@ -50,7 +50,7 @@ impl<'a> Attempt for RunAll<'a> {
     }
 }
 
-/// Explores the study by so many workers, of 1 to 32. The second row may be dropped.
+/// Explores the study with 1 to 32 workers. The second row may be dropped.
 fn explored_in<R: Threads + Wait + Sync>(
     rt: &R,
     heap: Heap,
@@ -62,7 +62,7 @@ fn explored_in<R: Threads + Wait + Sync>(
     tried(outcome, seconds.as_slice())
 }
 
-/// Runs the rows of the front again in the one memory, and makes the report of them in the other.
+/// Runs the rows of the front again in one memory, and makes their report in the other.
 fn report_in<R: Threads + Wait + Sync>(
     rt: &R,
     replaying: Heap,
@@ -115,7 +115,7 @@ const PRICED_REPORT: &str = front_report_of!(
      0,20,8,2,1,1,1,1,1,1,1,1,3,1,1,1,1,1,1,1,mul,4,8,ebreak,x1=00000005 x2=00000007 x3=00000023,-\n"
 );
 
-/// How an answer came out that is to be this report.
+/// The outcome of an answer that must be this report.
 fn answered(text: Result<Vec<u8, Heap>, AnswerError>, report: &str) -> Try {
     match text {
         Ok(text) => Try::right_if(text.as_slice() == report.as_bytes()),
@@ -125,7 +125,7 @@ fn answered(text: Result<Vec<u8, Heap>, AnswerError>, report: &str) -> Try {
     }
 }
 
-/// How many blocks an exploration by so many workers takes.
+/// The number of blocks that an exploration with this number of workers takes.
 fn blocks_of_exploring<R: Threads + Wait + Sync>(
     rt: &R,
     other: Global,
@@ -135,7 +135,7 @@ fn blocks_of_exploring<R: Threads + Wait + Sync>(
     Ok(refusals_of!(other, heap => explored_in(rt, heap, study, workers)))
 }
 
-/// How many blocks the runs of the front take.
+/// The number of blocks that the runs of the front take.
 fn blocks_of_replaying<R: Threads + Wait + Sync>(
     rt: &R,
     other: Global,
@@ -144,7 +144,7 @@ fn blocks_of_replaying<R: Threads + Wait + Sync>(
     Ok(refusals_of!(other, heap => report_in(rt, heap, ample(other)?, other, study)?))
 }
 
-/// How many blocks the report of the front takes.
+/// The number of blocks that the report of the front takes.
 fn blocks_of_writing<R: Threads + Wait + Sync>(
     rt: &R,
     other: Global,
@@ -162,13 +162,13 @@ fn of_runs_of_rows(rt: HostRuntime) -> Result<(), Fail> {
     assert!(rt; blocks_of_exploring(&rt, other, &study, 1)? > Some(4));
     assert!(rt; blocks_of_exploring(&rt, other, &study, 2)? > Some(4));
     assert!(rt; blocks_of_replaying(&rt, other, &study)? > Some(2));
-    // The text alone.
+    // Only the text.
     assert!(rt; blocks_of_writing(&rt, other, &study)? > Some(0));
     Ok(())
 }
 
-/// Makes the report of the study that the document and its file stand for, by so many workers, or,
-/// with None, by the call that runs each row to its end.
+/// Makes the report of the study of a document and its file, with this number of workers, or, with
+/// `None`, by the call that runs each row to its end.
 fn answer_in<R: Threads + Wait + Sync>(
     rt: &R,
     heap: Heap,
@@ -188,7 +188,7 @@ fn answer_in<R: Threads + Wait + Sync>(
     Ok(answered(text, sample.report))
 }
 
-/// How many blocks such a report takes.
+/// The number of blocks that such a report takes.
 fn blocks_of_answer<R: Threads + Wait + Sync>(
     rt: &R,
     other: Global,

@@ -1,4 +1,4 @@
-//! A worker that is refused memory with a row in hand.
+//! A worker that runs out of memory with a row in hand.
 
 use std::sync::atomic::{AtomicU64, Ordering};
 use std::test::Fail;
@@ -16,7 +16,7 @@ struct Spending {
     spent: AtomicU64,
 }
 
-/// Turns that worker 0 is held, at most.
+/// The most turns that worker 0 is held.
 const TURNS: u32 = 10_000_000;
 
 impl Gate for Spending {

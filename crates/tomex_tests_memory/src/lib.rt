@@ -1,4 +1,5 @@
-//! Tests of grids, studies, explorations and reports with memory refused: each growth of each call in turn.
+//! Tests of grids, studies, explorations and reports that run out of memory, at each growth of each
+//! call in turn.
 #![tactic(auto)]
 
 #[cfg(test)]

@@ -29,7 +29,7 @@ impl Attempt for FileNames {
     }
 }
 
-/// The study of two rows and the product, or how its reading came out.
+/// The study of two rows and the product, or the outcome of its reading.
 fn study_in(heap: Heap, other: Global) -> Result<Result<Study<Heap>, StudyError>, AllocError> {
     let files = vec![in other; PRODUCT.as_slice().to_vec(ample(other)?)?]?;
     Ok(read_study(heap, other, PRODUCT_STUDY.as_bytes(), files.as_slice()))
@@ -99,7 +99,7 @@ impl<'a> Attempt for Grid<'a> {
     }
 }
 
-/// These numbers as a list in such memory.
+/// These numbers, as a list in this memory.
 fn counts(heap: &Heap, numbers: &[u8]) -> Result<Vec<u8, Heap>, AllocError> {
     numbers.to_vec(heap.clone()?)
 }
@@ -159,7 +159,7 @@ fn product_in(heap: Heap) -> Result<Image<Heap>, AllocError> {
     load(heap, ELF.as_slice(), window).map_err(|_| AllocError)
 }
 
-/// The program of the product, made in that memory of parts in ample memory.
+/// The program of the product, made in that memory from parts in ample memory.
 fn program_in(
     heap: Heap,
     other: Global,
@@ -170,7 +170,7 @@ fn program_in(
     Ok(Program::new(heap, name, image, 4, Vec::new(watches), 1))
 }
 
-/// How the making of a study of a program and a configuration came out.
+/// The outcome of making a study of a program and a configuration.
 fn studied(
     heap: Heap,
     other: Global,
@@ -222,7 +222,7 @@ impl Attempt for Times {
     }
 }
 
-/// How many blocks a grid of four rows takes.
+/// The number of blocks that a grid of four rows takes.
 fn blocks_of_grid(other: Global) -> Result<Option<u64>, AllocError> {
     let axes = axes_in(&ample(other)?)?;
     refusals(other, &Grid { axes: &axes })

@@ -63,14 +63,14 @@ fn machines_and_tables(rt: HostRuntime) -> Result<(), Fail> {
         image: &image,
         config: &config,
     };
-    // The bytes that the run changes; cycles and tables take none.
+    // The bytes that the run changes; cycles and tables allocate nothing.
     assert!(rt; refusals(other, &machine)? == Some(1));
     let text = TablesText {
         other,
         image: &image,
         config: &config,
     };
-    // A text grows several times, how often is the library's affair.
+    // A text grows several times; the library decides how often.
     assert!(rt; matches!(refusals(other, &text)?, Some(granted) if granted > 0));
     Ok(())
 }

@@ -1,4 +1,4 @@
-//! Pages of a run, against those that an independent implementation writes.
+//! Pages of a run, compared with those of an independent implementation.
 
 use frame::{END, FOOT, HEAD, STYLE};
 use product::{VIEW_1, VIEW_2, VIEW_3, VIEW_8};
@@ -22,7 +22,7 @@ fn product_of(alloc: Global) -> Result<Program, Fail> {
     Ok(Program::new(alloc, name, image, 262_144, Vec::new(alloc), 1)?)
 }
 
-/// True if a text is these pieces, one after the other.
+/// True if a text is these pieces, one after another.
 fn is_made_of(text: &[u8], pieces: &[&str]) -> bool {
     let mut rest = text;
     for piece in pieces {
@@ -34,7 +34,7 @@ fn is_made_of(text: &[u8], pieces: &[&str]) -> bool {
     rest.is_empty()
 }
 
-/// Fails if something isn't so.
+/// Fails if this is false.
 fn holds(is_so: bool) -> Result<(), Fail> {
     if is_so { Ok(()) } else { Err("isn't so")? }
 }

@@ -9,7 +9,8 @@ use tomex_rvexec::{Fault, FaultKind};
 use tomex_study_reader::StudyError;
 use tomex_values::{Key, Place};
 
-/// The first line of the explanation of a text is this one, and there are at most twelve lines.
+/// Fails unless the first line of the explanation of a text is this one, and there are at most
+/// twelve lines.
 fn is_explained<R: Abort + AllocGlobal>(rt: &R, text: &str, form: &str) -> Result<(), Fail> {
     let wanted = format!(in rt.alloc(); "{form}\n")?;
     match explain(rt.alloc(), text) {
@@ -103,7 +104,7 @@ fn studies(rt: HostRuntime) -> Result<(), Fail> {
     Ok(())
 }
 
-/// What commands refuse themselves, as the definition of what is reported has it.
+/// Refusals by commands themselves, as the definition of reports has them.
 static COMMANDS: [(&str, &str); 16] = [
     ("tomex: bad window", "bad window"),
     ("too long", "too long"),

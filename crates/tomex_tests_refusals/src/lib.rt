@@ -1,4 +1,4 @@
-//! Tests of what is explained: each refusal that the crates below can give has its entry.
+//! Tests of explanations: each refusal that the crates below can give has its entry.
 #![tactic(auto)]
 
 #[cfg(test)]

@@ -1,4 +1,4 @@
-//! Explanations and the list with memory, and with each growth refused in turn.
+//! Explanations and the list, with memory, and with each growth refused in turn.
 
 use std::alloc::AllocError;
 use std::test::Fail;

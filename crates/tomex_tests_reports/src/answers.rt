@@ -1,4 +1,5 @@
-//! The calls under test, once each and with no contract, so that no test carries theirs.
+//! The calls under test, each once and without a contract, so that no test has to prove theirs
+//! again.
 
 use std::alloc::{AllocError, Allocator, Global};
 use std::sync::Wait;
@@ -14,7 +15,8 @@ pub fn loop_in<A: Allocator + Drop>(heap: A, other: Global) -> Result<Vec<Vec<u8
     Ok(files)
 }
 
-/// The report of a study by so many workers, of 1 to 32, or, with None, by the call that runs each row to its end.
+/// The report of a study with 1 to 32 workers, or, with `None`, by the call that runs each row to
+/// its end.
 pub fn report_of<
     R: Threads + Wait + Sync,
     A: Allocator + Clone + Send + Sync + Drop,
@@ -35,7 +37,7 @@ pub fn report_of<
     }
 }
 
-/// The exploration of a study by so many workers, of 1 to 32.
+/// The exploration of a study with 1 to 32 workers.
 pub fn explored<
     R: Threads + Wait + Sync,
     A: Allocator + Clone + Send + Sync + Drop,

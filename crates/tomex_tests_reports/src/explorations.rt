@@ -1,4 +1,4 @@
-//! Workers that are held before a run, while others go on, and many explorations of one study.
+//! Workers that are held before a run while others continue, and many explorations of one study.
 
 mod gates;
 
@@ -12,7 +12,7 @@ use tomex_sweep::{Gate, Mark, OpenGate};
 use tomex_tests_fixtures::front_report_of;
 use tomex_tests_fixtures::studies::{DROPPED, DROPPED_REPORT};
 
-/// Four rows of one cost.
+/// Four rows of equal cost.
 const EQUAL: &str = "[[program]]\nname = \"loop\"\nfile = \"loop.bin\"\n\
     [[unit.alu]]\nlatency = 1\nprice = 5\n[[unit.alu]]\nlatency = 1\nprice = 5\n\
     [[unit.alu]]\nlatency = 1\nprice = 5\n[[unit.alu]]\nlatency = 1\nprice = 5\n";
@@ -24,7 +24,7 @@ const EQUAL_REPORT: &str = front_report_of!(
      3,5,2000,1,1,1,1,1,1,1,1,1,1,1,1,1,1,1,1,1,loop,1000,2000,ebreak,x2=00010000,-\n"
 );
 
-/// Whether two workers under this gate give the report of the study.
+/// True if two workers under this gate give the report of the study.
 fn is_reported<R: AllocGlobal + Threads + Wait + Sync, G: Gate + Sync>(
     rt: &R,
     study: &str,

@@ -1,4 +1,4 @@
-//! Reports of whole studies: the worked examples, by one worker or several, and with no dropping.
+//! Reports of whole studies: the worked examples, by one worker or several, and without dropping.
 
 use crate::answers::report_of;
 use std::alloc::{AllocError, Global};
@@ -62,7 +62,7 @@ fn files_of(alloc: Global, programs: &[[u32; 4]]) -> Result<Vec<Vec<u8>>, AllocE
     Ok(files)
 }
 
-/// Whether any number of workers gives this report of a study.
+/// True if any number of workers gives this report of a study.
 fn is_reported<R: AllocGlobal + Threads + Wait + Sync>(
     rt: &R,
     study: &str,

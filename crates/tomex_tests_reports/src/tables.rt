@@ -74,7 +74,7 @@ static WORKED: [(&[u32], [u8; 3], u32, &str); 9] = [
         4,
         "cycle 4\nmul0 mul Vj=00000000 Vk=00010000 Qj=- Qk=- A=-\n",
     ),
-    // The jump waits for its target, and nothing is issued behind it.
+    // The jump waits for its target, and nothing issues after it.
     (
         &INDIRECT,
         [2, 3, 1],

@@ -1,4 +1,4 @@
-//! Tests of memory that is used again: machines that are started again in it, workers that take it once, and more
+//! Tests of reused memory: machines that are restarted in it, workers that allocate once, and more
 //! plateaus than are kept.
 #![tactic(auto)]
 

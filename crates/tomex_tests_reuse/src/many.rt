@@ -1,4 +1,4 @@
-//! More plateaus than a worker keeps of a program, and as many rows as a study may have.
+//! More plateaus than a worker keeps for a program, and as many rows as a study may have.
 
 use std::alloc::Global;
 use std::sync::Wait;
@@ -33,7 +33,7 @@ fn study_on(alloc: Global, rows: Vec<Config>) -> Result<Study, Fail> {
     Ok(Study::new(alloc, vec![in alloc; program]?, rows, prices, false)?)
 }
 
-/// Rows on which the program takes different cycles, each by another plateau.
+/// Rows on which the program takes different cycles, each from another plateau.
 fn latencies(alloc: Global, count: u32) -> Result<Vec<Config>, Fail> {
     let mut rows = Vec::new(alloc);
     for number in 0..count {
@@ -64,10 +64,12 @@ fn counted<R: AllocGlobal + Threads + Wait + Sync>(
     Ok((gate.0.load(Ordering::SeqCst), front))
 }
 
-/// Rows once more, after 1,030 others: of the first six the plateaus have been given up for others, of these two not.
+/// Rows again, after 1,030 others, and the evaluations that they need: the plateaus of the first
+/// six were replaced, those of these two were not.
 static AGAIN: [(u32, u64); 4] = [(0, 1), (5, 1), (6, 0), (1029, 0)];
 
-/// The oldest plateau goes when there are more than 1,024: it is learnt again if it is met again.
+/// The oldest plateau is replaced if there are more than 1,024; it is learnt again if its row comes
+/// again.
 #[test]
 fn the_oldest_plateau_goes_first(rt: HostRuntime) -> Result<(), Fail> {
     for (number, more) in &AGAIN {
@@ -81,7 +83,7 @@ fn the_oldest_plateau_goes_first(rt: HostRuntime) -> Result<(), Fail> {
     Ok(())
 }
 
-/// True if a front is of every 128th of 16,384 rows.
+/// True if a front has every 128th of 16,384 rows.
 fn is_of_each_128th(front: &[FrontRow]) -> bool {
     front.len() == 128 && front.iter().all(|row| row.row % 128 == 0)
 }

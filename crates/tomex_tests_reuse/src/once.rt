@@ -1,4 +1,4 @@
-//! Memory is taken once: the number of blocks that a study takes doesn't depend on its rows.
+//! Memory is allocated once: the number of blocks that a study takes doesn't depend on its rows.
 
 use std::alloc::{AllocError, Global};
 use std::sync::Wait;
@@ -14,7 +14,7 @@ use tomex_tests_fixtures::machines::one_unit_each;
 use tomex_tests_fixtures::{Heap, Try, ample, refusals_of};
 use tomex_timing::evaluate::{times, total};
 
-/// A loop that reads its count behind the program, and leaves another one there: `addi x3,x0,9;
+/// A loop that reads its count from after the program, and leaves another one there: `addi x3,x0,9;
 /// lw x1,24(x0); sw x3,24(x0); addi x1,x1,-1; bne x1,x0,-4; ebreak`, and 200.
 const COUNTED: [u32; 7] = [
     0x00900193, 0x01802083, 0x00302c23, 0xfff08093, 0xfe009ee3, 0x00100073, 200,
@@ -32,21 +32,21 @@ fn bytes_of(other: Global, words: &[u32]) -> Result<Vec<u8>, AllocError> {
     Ok(bytes)
 }
 
-/// The image of these words at 0, in a window of so many bytes.
+/// The image of these words at 0, in a window of `size` bytes.
 fn image_at_0(other: Global, words: &[u32], size: u32) -> Result<Image<Heap>, Fail> {
     let window = Window::new(0, size).ok_or("no window")?;
     let bytes = bytes_of(other, words)?;
     Ok(load(ample(other)?, bytes.as_slice(), window)?)
 }
 
-/// The program of an image, of which nothing is watched.
+/// The program of an image, without watched ranges.
 fn named(other: Global, heap: Heap, image: Image<Heap>) -> Result<Program<Heap>, Fail> {
     let watch = Vec::new(ample(other)?);
     let name = String::from_str(ample(other)?, "program")?;
     Ok(Program::new(heap, name, image, 10_000, watch, 1)?)
 }
 
-/// The program of these words at 0, in a window of so many bytes.
+/// The program of these words at 0, in a window of `size` bytes.
 fn program_of(other: Global, words: &[u32], size: u32) -> Result<Program<Heap>, Fail> {
     let image = image_at_0(other, words, size)?;
     named(other, ample(other)?, image)
@@ -63,7 +63,7 @@ fn rows_of(other: Global, most_stations: u8, most_buses: u8) -> Result<Vec<Confi
     Ok(configs)
 }
 
-/// Both programs, in windows of so many bytes.
+/// Both programs, in windows of these sizes.
 fn programs_of(other: Global, sizes: [u32; 2]) -> Result<Vec<Program<Heap>, Heap>, Fail> {
     let mut programs = Vec::new(ample(other)?);
     programs.push(program_of(other, OVERWRITTEN.as_slice(), sizes[0])?)?;
@@ -71,7 +71,7 @@ fn programs_of(other: Global, sizes: [u32; 2]) -> Result<Vec<Program<Heap>, Heap
     Ok(programs)
 }
 
-/// The study of these programs on these rows, of which an alu station costs 1.
+/// The study of these programs on these rows, at 1 for an alu station.
 fn study_on(
     heap: Heap,
     programs: Vec<Program<Heap>, Heap>,
@@ -84,8 +84,8 @@ fn study_on(
     Ok(Study::new(heap, programs, configs, prices, false)?)
 }
 
-/// The study of both programs, in windows of so many bytes, on rows of 1, 2, 3 and so on alu stations, each of
-/// which costs more than the one before, and of so many buses.
+/// The study of both programs, in windows of these sizes, on rows of 1, 2, 3 and so on alu
+/// stations, each of which costs more than the one before, and of 1, 2, 3 and so on buses.
 fn study_of(
     other: Global,
     sizes: [u32; 2],
@@ -124,7 +124,7 @@ fn cycles_in(other: Global, study: &Study<Heap>) -> Result<Vec<u64>, Fail> {
     Ok(cycles)
 }
 
-/// Whether all rows are finished, with these cycles.
+/// True if all rows are finished, with these cycles.
 fn are_finished(marks: &[Mark], cycles: &[u64]) -> bool {
     let mut same = marks.len() == cycles.len();
     for (mark, wanted) in marks.iter().zip(cycles) {
@@ -133,7 +133,7 @@ fn are_finished(marks: &[Mark], cycles: &[u64]) -> bool {
     same
 }
 
-/// How an exploration came out whose rows are all to be finished, with these cycles.
+/// The outcome of an exploration whose rows must all be finished, with these cycles.
 fn tried(outcome: Result<Outcome<Heap>, SweepError>, cycles: &[u64]) -> Try {
     match outcome {
         Ok(outcome) => Try::right_if(are_finished(outcome.marks.as_slice(), cycles)),
@@ -142,7 +142,7 @@ fn tried(outcome: Result<Outcome<Heap>, SweepError>, cycles: &[u64]) -> Try {
     }
 }
 
-/// How many blocks are taken by the call that runs each row to its end. None where it comes out wrong.
+/// The number of blocks that the call takes that runs each row to its end. `None` if it is wrong.
 fn blocks_of_all(
     other: Global,
     study: &Study<Heap>,
@@ -151,7 +151,7 @@ fn blocks_of_all(
     Ok(refusals_of!(other, heap => tried(run_all(heap, study), cycles)))
 }
 
-/// How an exploration with one worker came out.
+/// The outcome of an exploration with one worker.
 fn explored_alone<R: Threads + Wait + Sync>(
     rt: &R,
     heap: Heap,
@@ -161,7 +161,7 @@ fn explored_alone<R: Threads + Wait + Sync>(
     tried(explore(rt, heap, study, 1, &OpenGate), cycles)
 }
 
-/// How many blocks are taken by an exploration with one worker.
+/// The number of blocks that an exploration with one worker takes.
 fn blocks_of_one<R: Threads + Wait + Sync>(
     rt: &R,
     other: Global,
@@ -171,7 +171,7 @@ fn blocks_of_one<R: Threads + Wait + Sync>(
     Ok(refusals_of!(other, heap => explored_alone(rt, heap, study, cycles)))
 }
 
-/// How many blocks each of both takes on so many rows.
+/// The numbers of blocks that both take on this number of rows.
 fn blocks_of<R: Threads + Wait + Sync>(
     rt: &R,
     other: Global,
@@ -184,11 +184,11 @@ fn blocks_of<R: Threads + Wait + Sync>(
     Ok([all, blocks_of_one(rt, other, &study, cycles.as_slice())?])
 }
 
-/// The windows' sizes, and the blocks of the call that runs each row: marks, the machine, finished rows (three
-/// blocks) and the front; one more where the second window is larger.
+/// The windows' sizes, and the blocks of the call that runs each row: marks, the machine, finished
+/// rows (three blocks) and the front; one more if the second window is larger.
 static BLOCKS: [([u32; 2], u64); 3] = [([4096, 4096], 6), ([8192, 4096], 6), ([4096, 8192], 7)];
 
-/// What is kept of rows grows by doubling, and takes as many blocks for 9 rows as for 12.
+/// Lists over rows grow by doubling, and take as many blocks for 9 rows as for 12.
 #[test]
 fn as_many_blocks_for_more_rows(rt: HostRuntime) -> Result<(), Fail> {
     for (sizes, blocks) in &BLOCKS {
@@ -200,7 +200,7 @@ fn as_many_blocks_for_more_rows(rt: HostRuntime) -> Result<(), Fail> {
     Ok(())
 }
 
-/// A worker makes no machine, so an exploration takes as many blocks whatever the programs' windows.
+/// A worker makes no machine, so an exploration takes the same number of blocks for any windows.
 #[test]
 fn an_exploration_takes_no_window(rt: HostRuntime) -> Result<(), Fail> {
     let alike = blocks_of(&rt, rt.alloc(), [4096, 4096], 9)?[1];
@@ -211,7 +211,7 @@ fn an_exploration_takes_no_window(rt: HostRuntime) -> Result<(), Fail> {
     Ok(())
 }
 
-/// How an exploration by so many workers, of 1 to 32, came out which is to have this front.
+/// The outcome of an exploration with 1 to 32 workers that must have this front.
 fn explored_in<R: Threads + Wait + Sync>(
     rt: &R,
     heap: Heap,
@@ -226,7 +226,8 @@ fn explored_in<R: Threads + Wait + Sync>(
     }
 }
 
-/// How many blocks an exploration by so many workers takes which is to have this front.
+/// The number of blocks that an exploration with this number of workers takes; it must have this
+/// front.
 fn blocks_of_front<R: Threads + Wait + Sync>(
     rt: &R,
     other: Global,
@@ -242,7 +243,7 @@ fn front_of(other: Global, study: &Study<Heap>) -> Result<Vec<FrontRow, Heap>, F
     Ok(run_all(ample(other)?, study)?.front)
 }
 
-/// Each growth is refused in turn where there are enough rows for workers to learn from them.
+/// Each growth is refused in turn, with enough rows for workers to learn from them.
 #[test]
 fn each_growth_of_learning_is_refused(rt: HostRuntime) -> Result<(), Fail> {
     let other = rt.alloc();

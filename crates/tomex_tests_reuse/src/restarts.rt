@@ -1,4 +1,4 @@
-//! Machines that are started again, beside new ones.
+//! Machines that are restarted, compared with new ones.
 
 use std::alloc::{AllocError, Allocator, Global};
 use std::test::Fail;
@@ -14,13 +14,13 @@ static FIRST: [u32; 7] = [
     0x10000413, 0x30000093, 0x00142023, 0x021082b3, 0x00140103, 0x00542223, 0x00100073,
 ];
 
-/// What the first leaves in memory and in its registers, this one reads: `lw x1,256(x0); lw x2,260(x0);
-/// add x3,x1,x8; mul x4,x3,x5; sw x2,256(x0); ebreak`
+/// This program reads what the first one leaves in memory and in registers: `lw x1,256(x0); lw
+/// x2,260(x0); add x3,x1,x8; mul x4,x3,x5; sw x2,256(x0); ebreak`
 static SECOND: [u32; 6] = [
     0x10002083, 0x10402103, 0x008081b3, 0x02518233, 0x10202023, 0x00100073,
 ];
 
-/// The image of a program at 0, in a window of so many bytes.
+/// The image of a program at 0, in a window of `size` bytes.
 fn image_of(other: Global, words: &[u32], size: u32) -> Result<Image<Heap>, Fail> {
     let mut bytes = Vec::new(other);
     for word in words {
@@ -30,12 +30,12 @@ fn image_of(other: Global, words: &[u32], size: u32) -> Result<Image<Heap>, Fail
     Ok(load(ample(other)?, bytes.as_slice(), window)?)
 }
 
-/// A configuration with so many alu stations and a multiplier of this latency.
+/// A configuration with `stations` alu stations and a multiplier of this latency.
 fn config_with(stations: u8, latency: u8) -> Result<Config, Fail> {
     one_unit_each([stations, 1, 1, 1, 1, 1], [1, latency, 1, 1, 1], 1)
 }
 
-/// Whether two machines show the same.
+/// True if two machines have the same state.
 fn are_alike<A: Allocator>(one: &Machine<A>, another: &Machine<A>) -> bool {
     let (mine, same) = (one.tables(), another.tables());
     mine.busy() == same.busy()
@@ -54,7 +54,7 @@ fn end_of<A: Allocator>(machine: Machine<A>) -> Option<End<A>> {
     }
 }
 
-/// Whether two ends are the same.
+/// True if two ends are the same.
 fn leave_alike<A: Allocator>(one: &End<A>, another: &End<A>) -> bool {
     one.pc == another.pc
         && one.steps == another.steps
@@ -62,7 +62,7 @@ fn leave_alike<A: Allocator>(one: &End<A>, another: &End<A>) -> bool {
         && one.memory.bytes() == another.memory.bytes()
 }
 
-/// Whether both machines have ended, and leave the same.
+/// True if both machines have ended, with the same end.
 fn end_alike<A: Allocator>(one: Machine<A>, another: Machine<A>) -> bool {
     match (end_of(one), end_of(another)) {
         (Some(mine), Some(same)) => leave_alike(&mine, &same),
@@ -70,17 +70,16 @@ fn end_alike<A: Allocator>(one: Machine<A>, another: Machine<A>) -> bool {
     }
 }
 
-/// Whether a machine has made no cycle.
+/// True if a machine has made no cycle.
 fn is_new<A: Allocator>(machine: &Machine<A>) -> bool {
     machine.cycle() == 0 && machine.worked() == 0
 }
 
-/// Advances up to a cycle.
 fn advance<A: Allocator>(machine: &mut Machine<A>, to: u32) {
     machine.advance(u64::from(to));
 }
 
-/// Whether two machines show the same after each of the next cycles, and leave the same at their ends.
+/// True if two machines have the same state after each of the next cycles, and the same end.
 fn run_alike<A: Allocator>(mut one: Machine<A>, mut another: Machine<A>) -> bool {
     for cycle in 1..100 {
         if !are_alike(&one, &another) {
@@ -92,7 +91,7 @@ fn run_alike<A: Allocator>(mut one: Machine<A>, mut another: Machine<A>) -> bool
     end_alike(one, another)
 }
 
-/// A machine in memory of so many blocks, which is cut short at a cycle.
+/// A machine in memory of a limited number of blocks, stopped at a cycle.
 fn machine_of<'a>(
     other: Global,
     granted: u64,
@@ -105,7 +104,7 @@ fn machine_of<'a>(
     Ok(machine)
 }
 
-/// Whether a machine that is started again over an image is as a new one of it.
+/// True if a machine that is restarted over an image is like a new one.
 fn restarts<'a>(
     old: Machine<'a, Heap>,
     new: Machine<'a, Heap>,
@@ -118,7 +117,7 @@ fn restarts<'a>(
     }
 }
 
-/// Whether that is so of a machine of one image that is cut short, and of another image.
+/// True if that holds for a machine of one image that was stopped early, and for another image.
 fn is_restarted<'a>(
     other: Global,
     first: &'a Image<Heap>,
@@ -131,10 +130,10 @@ fn is_restarted<'a>(
     Ok(restarts(old, new, second, &after))
 }
 
-/// Cycles at which a machine is cut short: before its first one, in its midst, and after its end.
+/// Cycles at which a machine is stopped: before its first one, in the middle, and after its end.
 static CUTS: [u32; 5] = [0, 3, 8, 12, 100];
 
-/// Whether it is so wherever a machine is cut short.
+/// True if that holds at each of these cycles.
 fn are_restarted(other: Global, first: &Image<Heap>, second: &Image<Heap>) -> Result<bool, Fail> {
     let mut same = true;
     for cut in &CUTS {
@@ -155,7 +154,7 @@ fn a_machine_that_is_started_again_is_as_a_new_one(rt: HostRuntime) -> Result<()
     Ok(())
 }
 
-/// Whether a machine that is refused an image goes on as one that wasn't asked.
+/// True if a machine that can't load an image continues like one that wasn't asked to.
 fn goes_on<'a>(
     old: Machine<'a, Heap>,
     new: Machine<'a, Heap>,
@@ -168,7 +167,7 @@ fn goes_on<'a>(
     }
 }
 
-/// Whether a machine that has no memory for an image's window refuses it, and goes on so.
+/// True if a machine without memory for an image's window refuses it, and continues like that.
 fn refuses<'a>(
     other: Global,
     first: &'a Image<Heap>,
@@ -181,7 +180,7 @@ fn refuses<'a>(
     Ok(goes_on(old, new, large, &after))
 }
 
-/// Whether that is so wherever the machine is cut short.
+/// True if that holds at each of these cycles.
 fn are_refused(other: Global, first: &Image<Heap>, large: &Image<Heap>) -> Result<bool, Fail> {
     let mut same = true;
     for cut in &CUTS {
@@ -190,14 +189,14 @@ fn are_refused(other: Global, first: &Image<Heap>, large: &Image<Heap>) -> Resul
     Ok(same)
 }
 
-/// Whether a machine takes an image in the memory that it has.
+/// True if a machine loads an image into the memory that it has.
 fn takes<'a>(other: Global, first: &'a Image<Heap>, second: &'a Image<Heap>) -> Result<bool, Fail> {
     let (before, after) = (config_with(2, 9)?, config_with(1, 3)?);
     let machine = machine_of(other, 1, first, &before, 0)?;
     Ok(machine.restart(second, &after).is_ok())
 }
 
-/// A larger window wants more memory than the machine has, and an equal or smaller one doesn't.
+/// A larger window needs more memory than the machine has; an equal or smaller one doesn't.
 #[test]
 fn a_refused_restart_changes_nothing(rt: HostRuntime) -> Result<(), Fail> {
     let first = image_of(rt.alloc(), &FIRST, 8192)?;

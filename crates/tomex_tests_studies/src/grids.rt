@@ -1,5 +1,5 @@
-//! Grids of rows and their costs: that the calls succeed where there is memory, and the errors' texts.
-//! Each worked grid is made once.
+//! Grids of rows and their costs: the calls succeed if there is memory; and the errors' texts. Each
+//! worked grid is made once.
 
 use std::alloc::{AllocError, Global};
 use std::test::Fail;
@@ -72,7 +72,7 @@ fn add_most(axes: &mut Axes) -> Result<(), AllocError> {
     add_to(&mut axes.buses, 4)
 }
 
-/// Makes a list as long as a list can be.
+/// Makes a list as long as possible.
 fn lengthen<T: Copy>(list: &mut Vec<T>, value: T) -> Result<(), AllocError> {
     list.resize(16_384, value)
 }
@@ -101,7 +101,7 @@ fn lengthen_options(axes: &mut Axes, list: u32) -> Result<(), AllocError> {
     }
 }
 
-/// One value for each part, but for one of the twelve lists of counts and options.
+/// One value for each part, except for one of the twelve lists of counts and options.
 fn longest(alloc: Global, list: u32) -> Result<Axes, AllocError> {
     let mut axes = single(alloc)?;
     if list < 7 {
@@ -112,23 +112,22 @@ fn longest(alloc: Global, list: u32) -> Result<Axes, AllocError> {
     Ok(axes)
 }
 
-/// A plain configuration but for these stations of alu, mul and div, and buses.
+/// A plain configuration, except for these stations of alu, mul and div, and buses.
 fn config(parts: [u8; 4]) -> Option<Config> {
     let [alu, mul, div, buses] = parts;
     Config::new([alu, mul, div, 1, 1, 1], [PLAIN; 5], buses, 1)
 }
 
-/// Whether the axes are refused for this reason.
+/// True if the axes are refused for this reason.
 fn is_refused(alloc: Global, axes: &Axes, error: GridError) -> bool {
     grid(alloc, axes).err() == Some(error)
 }
 
-/// The rows of these axes.
 fn rows_of(alloc: Global, axes: &Axes) -> Result<Vec<Config>, GridError> {
     grid(alloc, axes)
 }
 
-/// Whether the axes have two rows of these costs.
+/// True if the axes have two rows of these costs.
 fn cost_these(
     alloc: Global,
     axes: &Axes,
@@ -143,7 +142,7 @@ fn cost_these(
     Ok(same)
 }
 
-/// Rows of the largest grid, each by its place and its parts.
+/// Rows of the largest grid, each with its place and its parts.
 static PLACES: [(usize, [u8; 4]); 6] = [
     (0, [1, 1, 1, 1]),
     (3, [1, 1, 1, 4]),
@@ -153,7 +152,7 @@ static PLACES: [(usize, [u8; 4]); 6] = [
     (16_383, [16, 16, 16, 4]),
 ];
 
-/// Whether those rows stand in their places.
+/// True if those rows are in their places.
 fn are_in_place(rows: &[Config]) -> bool {
     let mut same = rows.len() == 16_384;
     for (place, parts) in &PLACES {
@@ -172,7 +171,7 @@ fn most_rows_and_one_bus_more(rt: HostRuntime) -> Result<(), Fail> {
     Ok(())
 }
 
-/// Whether the axes have so many rows, each with these parts.
+/// True if the axes have `count` rows, each with these parts.
 fn gives(alloc: Global, axes: &Axes, count: usize, parts: [u8; 4]) -> Result<bool, GridError> {
     let rows = rows_of(alloc, axes)?;
     let mut same = rows.len() == count;
@@ -210,7 +209,7 @@ fn refusals_in_order(rt: HostRuntime) -> Result<(), Fail> {
     Ok(())
 }
 
-/// One value for each part, where the unit of multiplications costs 50 and there are two buses.
+/// One value for each part; the multiplier costs 50, and there are two buses.
 fn priced(alloc: Global) -> Result<Axes, AllocError> {
     let mut axes = single(alloc)?;
     axes.mul_units = vec![in alloc; UnitOption { price: 50, ..PLAIN }]?;
@@ -230,7 +229,7 @@ fn costs_of_two_rows(rt: HostRuntime) -> Result<(), Fail> {
 /// Buses and widths, in the rows' order.
 static WIDTHS: [(u8, u8); 4] = [(1, 4), (1, 2), (3, 4), (3, 2)];
 
-/// Whether rows are of those buses and widths.
+/// True if rows have those buses and widths.
 fn are_of_widths(rows: &[Config]) -> bool {
     let mut same = rows.len() == 4;
     for (config, wanted) in rows.iter().zip(&WIDTHS) {
@@ -269,7 +268,7 @@ static TEXTS: [(GridError, &str); 4] = [
     (GridError::Memory, "out of memory"),
 ];
 
-/// Whether an error is shown so.
+/// True if an error has this text.
 fn is_shown(alloc: Global, error: GridError, text: &str) -> Result<bool, AllocError> {
     let shown = format!(in alloc; "{error}")?;
     Ok(shown.as_str() == text)

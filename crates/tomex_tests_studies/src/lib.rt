@@ -1,4 +1,4 @@
-//! Tests of grids, programs and studies: they say what no contract does.
+//! Tests of grids, programs and studies: of what no contract says.
 #![tactic(auto)]
 
 #[cfg(test)]

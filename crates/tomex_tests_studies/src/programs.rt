@@ -1,4 +1,4 @@
-//! What no contract says: that the calls succeed where there is memory, and the errors' texts.
+//! What no contract says: the calls succeed if there is memory; and the errors' texts.
 
 use std::alloc::{AllocError, Global};
 use std::test::Fail;
@@ -10,7 +10,7 @@ use tomex_tests_fixtures::image_of;
 use tomex_tests_fixtures::machines::{PLAIN, config_of};
 use tomex_tests_fixtures::programs::PRODUCT_WORDS;
 
-/// The watch of the first 16 bytes.
+/// The range of the first 16 bytes.
 fn first_bytes(alloc: Global) -> Result<Vec<WatchRange>, AllocError> {
     let first = WatchRange {
         address: 0,
@@ -19,7 +19,7 @@ fn first_bytes(alloc: Global) -> Result<Vec<WatchRange>, AllocError> {
     Ok(vec![in alloc; first]?)
 }
 
-/// What becomes of an image as a program with this limit, whose first 16 bytes are watched.
+/// The result of making a program of an image, with this limit and its first 16 bytes watched.
 fn watched(alloc: Global, image: Image, limit: u32) -> Result<Result<Program, ProgramError>, Fail> {
     let watch = first_bytes(alloc)?;
     if limit < 1 || limit > 262_144 || !can_watch(image.window(), &watch) {
@@ -29,7 +29,7 @@ fn watched(alloc: Global, image: Image, limit: u32) -> Result<Result<Program, Pr
     Ok(Program::new(alloc, name, image, limit, watch, 1))
 }
 
-/// The same of these words.
+/// The same for these words.
 fn program_of(
     alloc: Global,
     words: &[u32],
@@ -38,7 +38,7 @@ fn program_of(
     watched(alloc, image_of(alloc, 0, 4096, words)?, limit)
 }
 
-/// Whether these words are refused for this reason.
+/// True if these words are refused for this reason.
 fn is_refused(alloc: Global, words: &[u32], limit: u32, error: ProgramError) -> Result<bool, Fail> {
     Ok(program_of(alloc, words, limit)?.err() == Some(error))
 }
@@ -48,7 +48,7 @@ fn product(alloc: Global) -> Result<Program, Fail> {
     Ok(program_of(alloc, PRODUCT_WORDS.as_slice(), 4)??)
 }
 
-/// Whether a program is the product.
+/// True if a program is the product.
 fn is_product(program: &Program) -> bool {
     program.name() == "mul"
         && program.limit() == 4
@@ -82,7 +82,7 @@ static TEXTS: [(ProgramError, &str); 3] = [
     (ProgramError::Memory, "out of memory"),
 ];
 
-/// Whether an error is shown so.
+/// True if an error has this text.
 fn is_shown(alloc: Global, error: ProgramError, text: &str) -> Result<bool, AllocError> {
     let shown = format!(in alloc; "{error}")?;
     Ok(shown.as_str() == text)
@@ -90,7 +90,7 @@ fn is_shown(alloc: Global, error: ProgramError, text: &str) -> Result<bool, Allo
 
 #[test]
 fn a_fault_is_told(rt: HostRuntime) -> Result<(), Fail> {
-    // addi x1,x0,5, then a word that is no instruction
+    // addi x1,x0,5, then a word that isn't an instruction
     let words = [0x00500093, 0x00000000];
     assert!(rt;
         is_refused(
@@ -106,7 +106,7 @@ fn a_fault_is_told(rt: HostRuntime) -> Result<(), Fail> {
     Ok(())
 }
 
-/// A row of this number of alu stations and two buses, whose unit of multiplications costs 50.
+/// A row of this number of alu stations and two buses, whose multiplier costs 50.
 fn row_of(stations: u8) -> Result<Config, Fail> {
     let mul = UnitOption { price: 50, ..PLAIN };
     config_of(
@@ -117,7 +117,7 @@ fn row_of(stations: u8) -> Result<Config, Fail> {
     )
 }
 
-/// What stations and buses cost.
+/// The prices of stations and buses.
 fn prices() -> Prices {
     Prices::new([10, 100, 0, 0, 0, 0], 7, 0)
 }
@@ -129,7 +129,7 @@ fn study_of_product(alloc: Global) -> Result<Study, Fail> {
     Ok(Study::new(alloc, programs, rows, prices(), false)?)
 }
 
-/// Whether a study has those two rows at their prices.
+/// True if a study has those two rows at their prices.
 fn has_two_rows(study: &Study) -> Result<bool, Fail> {
     let one = row_of(1)?;
     Ok(
@@ -141,7 +141,7 @@ fn has_two_rows(study: &Study) -> Result<bool, Fail> {
     )
 }
 
-/// Whether a study has the product alone.
+/// True if a study has only the product.
 fn has_product(study: &Study) -> bool {
     study.programs().len() == 1
         && study.program("mul").map(|program| program.limit()) == Some(4)
@@ -162,7 +162,7 @@ const BYTE: WatchRange = WatchRange {
     length: 1,
 };
 
-/// As many bytes as are watched at most.
+/// The most bytes that may be watched.
 const MOST: WatchRange = WatchRange {
     address: 0,
     length: 4096,
@@ -180,13 +180,13 @@ const LAST: WatchRange = WatchRange {
     length: 4,
 };
 
-/// That word and the one behind it.
+/// That word and the one after it.
 const BEYOND: WatchRange = WatchRange {
     address: 65_532,
     length: 8,
 };
 
-/// Lists of ranges, each with whether that window has them.
+/// Lists of ranges, and true if that window may have them.
 static RANGES: [(&[WatchRange], bool); 8] = [
     (&[], true),
     (&[LAST], true),

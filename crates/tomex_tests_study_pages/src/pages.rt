@@ -1,5 +1,5 @@
-//! Pages of small studies: a worked one to the byte, one with a name of markup, and one whose front has more rows than
-//! are shown.
+//! Pages of small studies: a worked one to the byte, one with a name that looks like markup, and
+//! one whose front has more rows than are shown.
 
 ghost use Rattle.std.specs.Prelude.{◌≡◌, IfOk};
 ghost use Rattle.tomex_row_runs.specs.StudyFront.{all_rows, front_of_study};
@@ -60,7 +60,7 @@ fn surveyed<R: Threads + Sync, A: Allocator + Clone + Send + Sync + Drop>(
     Ok(survey(rt, alloc, study, 1, &OpenGate)?)
 }
 
-/// The page of a study of that name.
+/// The page of a study with this name.
 fn page_of<R: Threads + Sync>(
     rt: &R,
     alloc: Global,
@@ -88,7 +88,7 @@ fn name_is_no_markup(rt: HostRuntime) -> Result<(), Fail> {
     Ok(())
 }
 
-/// True if a page has a view of that row.
+/// True if a page has a view of this row.
 fn has_view(alloc: Global, page: &str, row: usize) -> Result<bool, AllocError> {
     let start = format!(in alloc; "<section id=\"r{row}\">")?;
     Ok(page.contains(start.as_str()))
@@ -101,7 +101,8 @@ fn sixty_four_rows_of_a_longer_front_are_shown(rt: HostRuntime) -> Result<(), Fa
     for row in [0, 1, 62, 64] {
         assert!(rt; has_view(rt.alloc(), page.as_str(), row)?, "row {row}");
     }
-    // The 64 places are spread over the front, and the last but one goes to the row before this one.
+    // The 64 places are spread over the front, and the second to last goes to the row before this
+    // one.
     assert!(rt; !has_view(rt.alloc(), page.as_str(), 63)?);
     assert!(rt; page.contains("<circle cx=\"392\" cy=\"220\" r=\"2\"><title>row 63:"));
     assert!(rt; !page.contains("href=\"#r63\""));

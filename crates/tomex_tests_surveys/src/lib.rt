@@ -1,4 +1,4 @@
-//! Tests of surveys and of what is printed of them.
+//! Tests of surveys and of their output.
 #![tactic(auto)]
 
 #[cfg(test)]

@@ -69,7 +69,7 @@ fn study_of(alloc: Global) -> Result<Study, Fail> {
     study_on(alloc, programs, rows_of(alloc)?, prices)
 }
 
-/// What an independent implementation prints.
+/// The output of an independent implementation.
 const ROWS: &str =
     "row,cost,cycles,alu,mul,div,load,store,bru,alu_units,alu_latency,mul_units,mul_latency,\
 div_units,div_latency,mem_units,mem_latency,bru_units,bru_latency,buses,mul_cycles,front\n\
@@ -109,7 +109,7 @@ fn surveyed<R: Threads + Sync>(
     Ok(survey(rt, alloc, study, workers, &OpenGate)?)
 }
 
-/// Fails, and says which study it was, unless that is so.
+/// Fails, and names the study, if this is false.
 fn holds_for(turn: u32, is_so: bool) -> Result<(), Fail> {
     if is_so {
         return Ok(());

@@ -1,4 +1,5 @@
-//! Tests of explorations: they say what no contract does, hold workers and refuse threads.
+//! Tests of explorations: of what no contract says, with workers that are held, and with threads
+//! that are refused.
 #![tactic(auto)]
 
 #[cfg(test)]

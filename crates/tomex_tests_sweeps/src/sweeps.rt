@@ -16,7 +16,7 @@ mod random;
 mod refused;
 mod shared;
 
-/// A row of one station a pool, with an alu unit and a multiplier of these latencies.
+/// A row with one station in each pool, with an alu unit and a multiplier of these options.
 fn with_two(alu: UnitOption, mul: UnitOption) -> Result<Config, Fail> {
     config_of([1; 6], [alu, mul, PLAIN, PLAIN, PLAIN], 1, 1)
 }
@@ -31,7 +31,7 @@ fn program_of(alloc: Global, name: &str, words: &[u32], weight: u32) -> Result<P
     Ok(Program::new(alloc, name, image, 262_144, Vec::new(alloc), weight)?)
 }
 
-/// The study of these programs on these rows, which cost what their units do.
+/// The study of these programs on these rows, whose only prices are those of their units.
 fn study_on(alloc: Global, programs: Vec<Program>, rows: Vec<Config>) -> Result<Study, Fail> {
     let counts = [programs.len(), rows.len()];
     if counts[0] == 0 || counts[0] > 8 || counts[1] == 0 || counts[1] > 16_384 {
@@ -57,12 +57,12 @@ fn weighed_study(alloc: Global, options: &[(u8, u32)], weight: u32) -> Result<St
     study_on(alloc, programs, rows)
 }
 
-/// The same, where the loop counts once.
+/// The same, with a weight of 1.
 fn study_of(alloc: Global, options: &[(u8, u32)]) -> Result<Study, Fail> {
     weighed_study(alloc, options, 1)
 }
 
-/// The exploration of a study by so many workers.
+/// The exploration of a study with this number of workers.
 fn explored<R: AllocGlobal + Threads + Wait + Sync, G: Gate + Sync>(
     rt: &R,
     study: &Study,
@@ -75,12 +75,12 @@ fn explored<R: AllocGlobal + Threads + Wait + Sync, G: Gate + Sync>(
     Ok(explore(rt, rt.alloc(), study, workers, gate)?)
 }
 
-/// Whether a study's rows get these marks when each is run to its end.
+/// True if a study's rows get these marks when each is run to its end.
 fn ends_with_marks(alloc: Global, study: &Study, marks: &[Mark]) -> Result<bool, Fail> {
     Ok(run_all(alloc, study)?.marks.as_slice() == marks)
 }
 
-/// Whether so many workers give a study's rows these marks.
+/// True if this number of workers gives a study's rows these marks.
 fn gives_marks<R: AllocGlobal + Threads + Wait + Sync>(
     rt: &R,
     study: &Study,
@@ -90,7 +90,7 @@ fn gives_marks<R: AllocGlobal + Threads + Wait + Sync>(
     Ok(explored(rt, study, workers, &OpenGate)?.marks.as_slice() == marks)
 }
 
-/// Whether so many workers find this front, and gather nothing.
+/// True if this number of workers finds this front, and gathers nothing.
 fn gives_front<R: AllocGlobal + Threads + Wait + Sync>(
     rt: &R,
     study: &Study,
@@ -101,14 +101,14 @@ fn gives_front<R: AllocGlobal + Threads + Wait + Sync>(
     Ok(outcome.gathered == 0 && outcome.front.as_slice() == front)
 }
 
-/// The front of the two rows of which one is slow.
+/// The front of two rows, one of which is slow.
 static FAST: [FrontRow; 1] = [FrontRow {
     row: 0,
     cost: 5,
     cycles: 2000,
 }];
 
-/// Whether an outcome has these marks and that front, and nothing was gathered.
+/// True if an outcome has these marks and that front, and nothing was gathered.
 fn finds_fast_row(outcome: &Outcome, marks: [Mark; 2]) -> bool {
     outcome.marks.as_slice() == marks.as_slice()
         && outcome.front.as_slice() == FAST.as_slice()
@@ -125,8 +125,8 @@ fn slow_row_is_dropped(rt: HostRuntime) -> Result<(), Fail> {
     Ok(())
 }
 
-/// A worker looks at each multiple of 1,024 cycles. At 2,048 these rows have still to run, and 2,000 cycles are
-/// fewer; at the next look they are over.
+/// A worker looks at each multiple of 1,024 cycles. At 2,048 these rows are still running, and
+/// 2,000 cycles are fewer; at the next look they are over.
 #[test]
 fn rows_are_dropped_at_the_first_look_that_may(rt: HostRuntime) -> Result<(), Fail> {
     let study = study_of(rt.alloc(), [(1, 5), (2, 9), (3, 9)].as_slice())?;
@@ -141,7 +141,7 @@ fn rows_are_dropped_at_the_first_look_that_may(rt: HostRuntime) -> Result<(), Fa
     Ok(())
 }
 
-/// Whether so many workers finish three equal rows, and the first two are on the front.
+/// True if this number of workers finishes three equal rows, and the first two are on the front.
 fn are_all_finished<R: AllocGlobal + Threads + Wait + Sync>(
     rt: &R,
     study: &Study,
@@ -162,7 +162,8 @@ fn equal_rows_are_finished(rt: HostRuntime) -> Result<(), Fail> {
     Ok(())
 }
 
-/// The slow row makes 2,500 cycles. At 2,048 of them it counts 4,096, which is more than the fast row's 4,000.
+/// The slow row makes 2,500 cycles. At 2,048 of them, weighted 4,096, it has more than the fast
+/// row's 4,000.
 #[test]
 fn a_look_is_told_by_the_weight(rt: HostRuntime) -> Result<(), Fail> {
     let study = weighed_study(rt.alloc(), [(1, 5), (2, 9)].as_slice(), 2)?;
@@ -173,8 +174,9 @@ fn a_look_is_told_by_the_weight(rt: HostRuntime) -> Result<(), Fail> {
     Ok(())
 }
 
-/// Weights of the product beside the loop, each with the cycles of two rows and with the front: of a fast alu unit,
-/// 2,000 cycles of the loop and 71 of the product, and of a fast multiplier, 6,500 and 26.
+/// Weights of the product, next to the loop of weight 1, each with the cycles of two rows and the
+/// front. The row with a fast alu unit takes 2,000 cycles for the loop and 71 for the product, the
+/// one with a fast multiplier 6,500 and 26.
 static WEIGHED: [(u32, [u64; 2], &[usize]); 5] = [
     (1, [2_071, 6_526], &[0]),
     (99, [9_029, 9_074], &[0]),
@@ -193,12 +195,12 @@ fn study_of_both(alloc: Global, weight: u32) -> Result<Study, Fail> {
     study_on(alloc, programs, vec![in alloc; fast_alu, fast_mul]?)
 }
 
-/// Whether a front is of these rows.
+/// True if a front has these rows.
 fn are_on(front: &[FrontRow], rows: &[usize]) -> bool {
     front.iter().map(|row| row.row).eq(rows.iter().copied())
 }
 
-/// Whether the study's rows take these cycles, and these rows are on its front.
+/// True if the study's rows take these cycles, and these rows are on its front.
 fn fronts<R: AllocGlobal + Threads + Wait + Sync>(
     rt: &R,
     study: &Study,
@@ -211,7 +213,7 @@ fn fronts<R: AllocGlobal + Threads + Wait + Sync>(
     Ok(ran && are_on(found.as_slice(), front))
 }
 
-/// Which of the rows is the better one is the weight's affair.
+/// The weight decides which of the rows is the better one.
 #[test]
 fn weights_choose_the_front(rt: HostRuntime) -> Result<(), Fail> {
     for (weight, cycles, front) in &WEIGHED {

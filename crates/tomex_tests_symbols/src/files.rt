@@ -5,8 +5,8 @@ use std::process::Abort;
 use std::test::Fail;
 use tomex_symbols::{Binding, Kind, Symbol, name_of, symbols};
 
-/// An executable of 44 bytes of code, linked by other means: the functions `_start`, `work` and `last`. Its names begin at
-/// 128, its symbols at 148, its five section headers at 212.
+/// An executable of 44 bytes of code, made by another linker: the functions `_start`, `work` and
+/// `last`. Its names begin at 128, its symbols at 148, its five section headers at 212.
 pub const WHOLE: &[u8; 412] = b"\x7f\x45\x4c\x46\x01\x01\x01\x00\x00\x00\x00\x00\x00\x00\x00\x00\
       \x02\x00\xf3\x00\x01\x00\x00\x00\x00\x10\x00\x00\x34\x00\x00\x00\
       \xd4\x00\x00\x00\x00\x00\x00\x00\x34\x00\x20\x00\x01\x00\x28\x00\
@@ -34,7 +34,7 @@ pub const WHOLE: &[u8; 412] = b"\x7f\x45\x4c\x46\x01\x01\x01\x00\x00\x00\x00\x00
       \x00\x00\x00\x00\x94\x00\x00\x00\x40\x00\x00\x00\x03\x00\x00\x00\
       \x01\x00\x00\x00\x04\x00\x00\x00\x10\x00\x00\x00";
 
-/// How many symbols the file has with these bytes, at their places, changed.
+/// The number of symbols in the file with these bytes, at their places, changed.
 fn count_of(alloc: Global, changes: &[(usize, u8)]) -> Result<usize, Fail> {
     let mut bytes = Vec::from_slice(alloc, WHOLE.as_slice())?;
     for (place, byte) in changes {
@@ -171,7 +171,7 @@ fn kinds_of_symbols(rt: HostRuntime) -> Result<(), Fail> {
     counts(&rt, &[(176, 0x10), (178, 2)], 2)?;
     counts(&rt, &[(176, 0x10), (178, 0)], 2)?;
     counts(&rt, &[(176, 0x10), (178, 5)], 2)?;
-    // names that are not for people, of labels and of functions
+    // internal names, of labels and of functions
     counts(&rt, &[(176, 0x10), (129, b'$')], 2)?;
     counts(&rt, &[(176, 0x10), (129, b'.'), (130, b'L')], 2)?;
     counts(&rt, &[(176, 0x10), (129, b'.'), (130, b'l')], 3)?;

@@ -8,7 +8,7 @@ use std::process::Abort;
 use std::test::Fail;
 use tomex_symbols::{functions_at, symbols};
 
-/// The numbers of the functions of these addresses in a file, none if the addresses don't rise.
+/// The numbers of the functions of these addresses in a file, `None` if the addresses don't rise.
 pub fn numbers_at<A: Allocator + Clone>(
     alloc: A,
     bytes: &[u8],

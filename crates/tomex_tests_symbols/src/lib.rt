@@ -1,5 +1,5 @@
-//! Tests of the symbols of files, and of the functions of addresses: with a file made by other means, spoiled byte by byte,
-//! and with memory refused.
+//! Tests of the symbols of files, and of the functions of addresses: with a file made by another
+//! program, damaged byte by byte, and without memory.
 #![tactic(auto)]
 
 #[cfg(test)]

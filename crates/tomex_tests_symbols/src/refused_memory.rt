@@ -1,4 +1,5 @@
-//! Each growth of a call refused in turn: the call says so, and with memory it gives the right answer.
+//! Each growth of a call refused in turn: the call reports it, and with memory it gives the right
+//! answer.
 
 use crate::files::WHOLE;
 use crate::functions::numbers_at;

@@ -5,7 +5,7 @@ use std::test::Fail;
 use tomex_functions::shown_function;
 use tomex_symbols::{Binding, Kind, Symbol};
 
-/// The name that is these bytes is shown so.
+/// Fails unless the name of these bytes is shown like this.
 fn shows<R: Abort + AllocGlobal>(rt: &R, name: &[u8], text: &str) -> Result<(), Fail> {
     let symbol = Symbol {
         number: 0,

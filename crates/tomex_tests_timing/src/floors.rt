@@ -1,4 +1,5 @@
-//! Floors of small runs, beside those of another implementation of the rules, and beside totals.
+//! Floors of small runs, compared with those of another implementation of the rules, and with
+//! totals.
 
 ghost use Rattle.std.specs.Prelude.{◌<◌, ◌≤◌};
 
@@ -122,7 +123,7 @@ fn the_floor_of_no_steps_is_0(rt: HostRuntime) -> Result<(), Fail> {
     Ok(())
 }
 
-/// Numbers that look random, by a linear congruence.
+/// Pseudorandom numbers, by a linear congruence.
 #[derive(Drop)]
 struct Random {
     state: u32,
@@ -244,7 +245,7 @@ fn bounds(floors: &[u64; 4], width: u8, needs: &Needs) -> bool
     }
 }
 
-/// Whether the floors of a random program's runs on random configurations are as they should be.
+/// True if the floors of a random program's runs on random configurations are right.
 fn are_floors(alloc: Global, random: &mut Random, most: u32) -> Result<bool, Fail>
     requires { (0 < most) × (most < 256) }
 {

@@ -1,4 +1,5 @@
-//! Tests of the recurrence: times, waits and needs of worked examples; of what steps reserve; and of floors.
+//! Tests of the recurrence: times, waits and needs of worked examples, the reservations of steps,
+//! and floors.
 #![tactic(auto)]
 
 #[cfg(test)]

@@ -1,4 +1,4 @@
-//! What small runs lack, beside tables that were made by hand from the rules.
+//! The needs of small runs, compared with tables that were made by hand from the rules.
 
 use std::alloc::{AllocError, Global};
 use std::test::Fail;
@@ -16,7 +16,7 @@ fn trace_of(alloc: Global, words: &[u32]) -> Result<Vec<Step>, Fail> {
     Ok(trace(alloc, &image, 1000)?)
 }
 
-/// What a program's run on a configuration lacks.
+/// The needs of a program's run on a configuration.
 fn needs_of(alloc: Global, words: &[u32], config: &Config) -> Result<Needs, Fail> {
     let steps = trace_of(alloc, words)?;
     if steps.len() > 1000 {
@@ -25,7 +25,7 @@ fn needs_of(alloc: Global, words: &[u32], config: &Config) -> Result<Needs, Fail
     Ok(needs(alloc, steps.as_slice(), config)?)
 }
 
-/// How long each of its steps waits.
+/// The waits of each of its steps.
 fn waits_of(alloc: Global, words: &[u32], config: &Config) -> Result<Vec<Waits>, Fail> {
     let steps = trace_of(alloc, words)?;
     if steps.len() > 1000 {
@@ -55,7 +55,7 @@ fn rest_of(needs: &Needs) -> [u64; 6] {
     ]
 }
 
-/// Whether the needs on a configuration are those of a table, and the rest is this.
+/// True if the needs on a configuration are those of a table, with this rest.
 fn are_needs(needs: &Needs, config: &Config, table: &Table, rest: &[u64; 6]) -> bool {
     let mut same = rest_of(needs) == *rest;
     for (part, row) in Part::ALL.iter().zip(table) {
@@ -64,7 +64,7 @@ fn are_needs(needs: &Needs, config: &Config, table: &Table, rest: &[u64; 6]) -> 
     same
 }
 
-/// Waits in the order of the report by place.
+/// Waits, in the order of the report by address.
 fn waits_from(numbers: &[u64; 8]) -> Waits {
     let [branch, width, station, operand, address, memory, unit, bus] = *numbers;
     Waits {
@@ -87,7 +87,7 @@ fn are_waits(waits: &[Waits], table: &[[u64; 8]]) -> bool {
             .all(|(step, numbers)| *step == waits_from(numbers))
 }
 
-/// Whether a program's run on a configuration lacks what its tables say.
+/// True if the needs of a program's run on a configuration are those of its tables.
 fn lacks(
     alloc: Global,
     words: &[u32],
@@ -192,7 +192,8 @@ fn the_followed_program_waits_for_its_load(rt: HostRuntime) -> Result<(), Fail> 
 /// `mul x3,x3,x0; add x4,x0,x4; sw x4,264(x0); lw x4,256(x0); ebreak`
 static STORE_BEFORE_LOAD: [u32; 5] = [0x020181b3, 0x00400233, 0x10402423, 0x10002203, 0x00100073];
 
-/// Whether a run has this total and waits for operands so long, with these needs of the bus and of the memory's units.
+/// True if a run has this total and these waits for operands, with these needs of the bus and of
+/// the memory's units.
 fn are_shared(needs: &Needs, total: u64, operand: u64, buses: [u64; 2], units: [u64; 2]) -> bool {
     let need = |[peak, stalls]: [u64; 2]| Need { peak, stalls };
     needs.total == total
@@ -209,9 +210,9 @@ fn a_second_bus_may_cost_a_cycle(rt: HostRuntime) -> Result<(), Fail> {
     let two = needs_of(rt.alloc(), &STORE_BEFORE_LOAD, &two_buses)?;
     // The sum waits for the bus, so the store takes the unit after the load.
     assert!(rt; are_shared(&one, 8, 3, [1, 1], [1, 0]));
-    // With two it takes it before the load, which waits for it.
+    // With two buses it takes the unit before the load, which waits for it.
     assert!(rt; are_shared(&two, 9, 2, [2, 0], [1, 1]));
-    // Either configuration's needs say that the other configuration may have other times.
+    // The needs on either configuration say that the other may have other times.
     assert!(rt; !one.suffice(&one_bus, &two_buses));
     assert!(rt; !two.suffice(&two_buses, &one_bus));
     Ok(())
@@ -271,7 +272,7 @@ fn each_cause_is_charged(rt: HostRuntime) -> Result<(), Fail> {
     Ok(())
 }
 
-/// Whether a part isn't needed at all.
+/// True if a part isn't needed at all.
 fn is_idle(needs: &Needs, part: Part) -> bool {
     needs.need(part) == Need { peak: 0, stalls: 0 }
 }
@@ -282,7 +283,7 @@ fn parts_without_stalls_may_be_fewer(rt: HostRuntime) -> Result<(), Fail> {
     let enough = one_unit_each([2, 1, 1, 1, 1, 1], [1, 5, 1, 2, 1], 2)?;
     let fewer = one_unit_each([1, 1, 1, 1, 1, 1], [1, 5, 1, 2, 1], 2)?;
     let needs = needs_of(rt.alloc(), &FOLLOWED, &large)?;
-    // What doesn't divide takes no div station and no div unit.
+    // A program that doesn't divide takes no div station and no div unit.
     assert!(rt; is_idle(&needs, Part::ALL[2]));
     assert!(rt; is_idle(&needs, Part::ALL[8]));
     // Its peaks are enough, and one alu station less isn't.

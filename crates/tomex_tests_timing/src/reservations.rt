@@ -1,4 +1,4 @@
-//! The reservation table with memory, and with each growth of it refused.
+//! The reservation table, with memory, and with each growth refused.
 
 use std::alloc::AllocError;
 use std::test::Fail;
@@ -20,7 +20,7 @@ impl Attempt for Taking {
     }
 }
 
-/// One of one bus is left in the cycle after it.
+/// The only bus is free in the cycle after.
 #[test]
 fn a_taken_bus_is_left_a_cycle_later(rt: HostRuntime) -> Result<(), Fail> {
     assert!(rt; refusals(rt.alloc(), &Taking)? > Some(0));
@@ -45,7 +45,7 @@ impl Attempt for Reserving {
     }
 }
 
-/// Who asks second gets the cycle after it.
+/// The second reservation gets the cycle after the first.
 #[test]
 fn a_reserved_bus_is_left_a_cycle_later(rt: HostRuntime) -> Result<(), Fail> {
     assert!(rt; refusals(rt.alloc(), &Reserving)? > Some(0));

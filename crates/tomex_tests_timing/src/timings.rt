@@ -46,7 +46,7 @@ fn load_times(cycles: [u64; 5], station: u8) -> Times {
     }
 }
 
-/// Whether the second load of a program of four steps has these times, where the first has its own.
+/// True if the second load of a program of four steps has these times, and the first has its own.
 fn are_loads(timed: &[Times], second: Times) -> bool {
     timed.len() == 4 && timed[1] == load_times([2, 4, 5, 6, 7], 0) && timed[2] == second
 }
@@ -88,8 +88,9 @@ fn no_steps_take_no_cycles(rt: HostRuntime) -> Result<(), Fail> {
 /// `addi x5,x0,4; mul x6,x5,x5; jalr x0,0(x6); ebreak; ebreak`
 const INDIRECT: [u32; 5] = [0x00400293, 0x02528333, 0x00030067, 0x00100073, 0x00100073];
 
-/// Programs on machines of so many alu stations, alu units, buses and issues a cycle, each with the issue and the end
-/// of every step. Nothing issues past the jump by a register before it has finished.
+/// Programs with the numbers of alu stations, alu units and buses of their machines, the issue
+/// width, and the issue and the end of each step. Nothing issues after the jump by a register
+/// before it has finished.
 static TIMED: [(&[u32], [u8; 4], &[(u64, u64)]); 5] = [
     (
         &PRODUCT_WORDS,
@@ -114,7 +115,7 @@ static TIMED: [(&[u32], [u8; 4], &[(u64, u64)]); 5] = [
     (&INDIRECT, [2, 1, 1, 4], &[(1, 3), (1, 7), (1, 8), (9, 9)]),
 ];
 
-/// A machine of so many alu stations, alu units, buses and issues a cycle.
+/// A machine with these numbers of alu stations, alu units and buses, and this issue width.
 fn machine_of(parts: [u8; 4]) -> Result<Config, Fail> {
     let [stations, units, buses, width] = parts;
     let alus = UnitOption { units, ..unit(1) };
@@ -122,7 +123,7 @@ fn machine_of(parts: [u8; 4]) -> Result<Config, Fail> {
     config_of([stations, 1, 1, 1, 1, 1], kinds, buses, width)
 }
 
-/// Whether a program's steps issue and end in these cycles on such a machine.
+/// True if a program's steps issue and end in these cycles on such a machine.
 fn issue_and_end(
     alloc: Global,
     words: &[u32],

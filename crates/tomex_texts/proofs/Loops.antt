@@ -1,4 +1,4 @@
--- What a loop has written, one turn later.
+-- The text that a loop has written, one turn later.
 use Rattle.std.proofs.Common.{◌≡◌, ℕ, zero, suc, ◌+◌, ◌<◌, List, [], ◌∷◌, ◌++◌, length, get_or, take, drop, refl, sym}
 use Rattle.std.proofs.Common.{ap, ◌∙◌, arith, add-one, append_assoc}
 use Rattle.std.specs.List.{flat_map}
@@ -8,7 +8,7 @@ use Rattle.tomex_timing.specs.declared.times.Times.{Times}
 use Rattle.tomex_csv_text.specs.Csv.{record_text}
 use Rattle.tomex_texts.specs.TimesReport.{fields_of_step, step_records}
 
--- the piece of one more
+-- the piece of one more item
 flat_map_suc : {X Y : Type 0} (f : X → List Y) (xs : List X) (i : ℕ) (x d : X) → i < length xs → x ≡ get_or xs i d
     → flat_map f (take (suc i) xs) ≡ flat_map f (take i xs) ++ f x
 flat_map_suc f [] i x d within is = absurd (omega (arith, within))

@@ -1,4 +1,4 @@
--- What an ended machine gives.
+-- The end of a machine that has ended.
 use Rattle.std.proofs.Common.{◌≡◌, ℕ, ◌+◌, ◌<◌, ap, sym, ◌∙◌, subst}
 use Rattle.tomex_image.specs.Image.{Loaded}
 use Rattle.tomex_rvexec.specs.declared.end.End.{End}

@@ -1,4 +1,4 @@
--- The front report's records, from what is pushed.
+-- The front report's records, from the fields that are pushed.
 use Rattle.std.proofs.Common.{◌≡◌, ℕ, Bool, zero, suc, ◌+◌, ◌<◌, List, [], ◌∷◌, ◌++◌, length, get_or, take, Some, refl}
 use Rattle.std.proofs.Common.{sym, ap, ◌∙◌, subst, arith, append_assoc}
 use Rattle.std.specs.Prelude.{slice_get, slice_index_or}
@@ -23,7 +23,7 @@ use Rattle.tomex_texts.specs.FrontReport.{station_fields, unit_fields, watch_tex
 use Rattle.tomex_texts.proofs.Ended.{filled}
 use Rattle.tomex_texts.proofs.Watched.{bytes_long, texts_are}
 
--- one after the other
+-- one after another
 pub add : {X : Type 0} (f0 f1 f2 xs ys : List X) → f1 ≡ f0 ++ xs → f2 ≡ f1 ++ ys → f2 ≡ f0 ++ (xs ++ ys)
 add f0 f1 f2 xs ys d e = e ∙ (ap (λ f. f ++ ys) d ∙ append_assoc f0 xs ys)
 
@@ -80,7 +80,7 @@ record_is wide config p e r f0 f1 f2 f3 f4 part name weight ranges program loade
     ∙ (ap (λ (x : List (List ℕ)). x ++ (p.name ∷ (if_wide wide (decimal p.weight) ++ end_fields p.watch e))) first
     ∙ ap (λ (x : List (List ℕ)). row_fields wide r config ++ x) (fields_are wide config p e program loaded is))
 
--- what holds place by place holds of what is read at one
+-- a fact that holds place by place holds for the items that are read at a place
 pub at_read : {A B : Type 0} (Q : A → B → Type 0) (xs : List A) (ys : List B) (k : ℕ) (d : A) (y : B) → AllZip Q xs ys
     → k < length xs → y ≡ get_or ys k y → Q (get_or xs k d) y
 at_read Q [] ys k d y h less f = absurd (omega (arith, less))
@@ -88,7 +88,7 @@ at_read Q (a ∷ xs) [] k d y h less f = absurd h
 at_read Q (a ∷ xs) (b ∷ ys) zero d y h less f = subst (λ z. Q a z) (sym f) h.0
 at_read Q (a ∷ xs) (b ∷ ys) (suc k) d y h less f = at_read Q xs ys k d y h.1 (omega (arith, less)) f
 
--- what holds place by place of the first ones, and of one more
+-- a fact that holds place by place for the first ones, and for one more
 pub one_more : {A B : Type 0} (Q : A → B → Type 0) (xs : List A) (ys zs : List B) (k : ℕ) (x : A) (y : B)
     → AllZip Q (take k xs) ys → k < length xs → x ≡ get_or xs k x → Q x y → zs ≡ ys ++ y ∷ []
     → AllZip Q (take (k + 1) xs) zs

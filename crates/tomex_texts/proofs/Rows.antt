@@ -17,7 +17,7 @@ text_after cycle config steps = tables_text_of (tables_of cycle (history config 
 abbrev product_after : ℕ → List ℕ
 product_after cycle = text_after cycle (with_latency units.Mul two_alu_stations 3) product
 
--- an operand that came, one that is awaited, and two registers that wait
+-- an operand that is there, one that is awaited, and two registers that wait
 product_after_3 : product_after 3
     ≡ codes "cycle 3\n"
     ++ codes "alu1 addi Vj=00000000 Vk=- Qj=- Qk=- A=-\n"
@@ -42,7 +42,7 @@ overwritten_after_4 = refl
 abbrev accesses_after : ℕ → List ℕ
 accesses_after cycle = text_after cycle (with_latency units.Mem two_alu_stations 2) (stored_and_loaded 1)
 
--- loads stand before stores; A is an address
+-- loads are listed before stores; A is an address
 accesses_after_5 : accesses_after 5
     ≡ codes "cycle 5\n"
     ++ codes "load0 lb Vj=00000100 Vk=- Qj=- Qk=- A=00000101\n"

@@ -1,4 +1,4 @@
--- The bytes of watched ranges, one range after the other.
+-- The bytes of watched ranges, one range after another.
 use Rattle.std.proofs.Common.{◌≡◌, ℕ, ◌+◌, ◌-◌, ◌≤◌, nat_le, ◌&&◌, Bool, true, false, List, [], ◌∷◌, ◌++◌, length, map}
 use Rattle.std.proofs.Common.{take, drop, All, refl, sym, ap, ◌∙◌, arith, length-append}
 use Rattle.std.specs.Prelude.{codes}
@@ -24,7 +24,7 @@ second_of true b e = e
 second_of false true e = refl
 second_of false false e = e
 
--- where a range lies
+-- a range lies in a window
 pub record LiesIn (base size : ℕ) (range : WatchRange) : Type 0 where
   pub low : base ≤ range.address
   pub high : range.address + range.length ≤ base + size

@@ -1,4 +1,4 @@
--- How the programs of a configuration end.
+-- The ends of programs on a configuration.
 use Rattle.std.specs.Prelude.{◌≡◌, ℕ, ◌-◌, List, length, take, drop}
 use Rattle.std.specs.List.{flat_map}
 use Rattle.tomex_image.specs.Image.{Loaded}
@@ -12,12 +12,12 @@ use Rattle.tomex_study.specs.Program.{Workload}
 use Rattle.tomex_study.specs.declared.watch.WatchRange.{WatchRange}
 use Rattle.tomex_texts.specs.declared.ends.ProgramEnd.{ProgramEnd}
 
--- the state in which a program ends: the step that ends it leaves it as it is, so it is the one after the
--- most steps that a program may make
+-- the state in which a program ends: the step that ends it leaves it unchanged, so it is the state after the most
+-- steps that a program may make
 unfoldable pub last_state : Loaded → State
 last_state i = state_after i 262144
 
--- how many steps it makes, the one that ends it too
+-- the number of its steps, including the one that ends it
 unfoldable pub count_of : Loaded → ℕ
 count_of i = length (steps_from 262144 (start_of i))
 
@@ -29,7 +29,7 @@ bytes_at base memory range = take range.length (drop (range.address - base) memo
 abbrev pub watched_of : Workload → List ℕ
 watched_of p = flat_map (bytes_at p.image.window.base (last_state p.image).memory) p.watch
 
--- what a program comes to on a configuration: the cycles that its run takes, and its end
+-- the end of a program on a configuration, with the cycles that its run takes
 pub record IsProgramEnd {A : Type 0} (config : Configuration) (p : Workload) (e : ProgramEnd A) : Type 0 where
   pub total : e.total ≡ total config p.image
   pub kind : step_of (last_state p.image) ≡ Ends e.kind

@@ -19,7 +19,7 @@ use Rattle.tomex_csv_text.specs.Csv.{record_text}
 use Rattle.tomex_texts.specs.declared.ends.ProgramEnd.{ProgramEnd}
 use Rattle.tomex_texts.specs.Ends.{bytes_at, count_of, last_state}
 
--- what stands only in reports that show widths and weights
+-- a field that is only in reports that show widths and weights
 abbrev pub if_wide : Bool → List ℕ → List (List ℕ)
 if_wide true text = text ∷ []
 if_wide false text = []
@@ -63,7 +63,7 @@ row_fields wide r config =
     ++ (station_fields config
     ++ (flat_map (unit_fields config) all_units ++ (decimal config.buses ∷ if_wide wide (decimal config.width))))
 
--- texts joined by one space, or `-` where there is none
+-- texts joined by one space, or `-` if there is none
 abbrev pub joined : List (List ℕ) → List ℕ
 joined [] = codes "-"
 joined (x ∷ xs) = x ++ flat_map (λ y. 32 ∷ y) xs
@@ -83,20 +83,20 @@ abbrev pub end_text : Outcome → List ℕ
 end_text (Ends kind) = name_of_end kind
 end_text _ = []
 
--- each range with its own of these bytes, which stand range by range
+-- each range with its own of these bytes, range by range
 abbrev pub watch_texts : List WatchRange → List ℕ → List (List ℕ)
 watch_texts [] bytes = []
 watch_texts (range ∷ ranges) bytes =
     (hex8 range.address ++ (codes ":" ++ flat_map hex2 (take range.length bytes)))
     ∷ watch_texts ranges (drop range.length bytes)
 
--- what an end of a program that watches these ranges is shown as
+-- the fields of the end of a program that watches these ranges
 abbrev pub end_fields : {A : Type 0} → List WatchRange → ProgramEnd A → List (List ℕ)
 end_fields ranges e =
     decimal e.steps ∷ decimal e.total ∷ name_of_end e.kind ∷ joined (nonzero_from 0 e.regs)
     ∷ joined (watch_texts ranges e.watched.items) ∷ []
 
--- what a program comes to on a configuration
+-- the fields of a program on a configuration
 unfoldable pub program_fields : Bool → Configuration → Workload → List (List ℕ)
 program_fields wide config p =
     let s = last_state p.image in

@@ -1,4 +1,4 @@
--- How the programs of front rows end.
+-- The ends of programs on front rows.
 use Rattle.std.specs.Prelude.{◌≡◌, Some, slice_get}
 use Rattle.std.specs.List.{AllZip}
 use Rattle.tomex_config.specs.Configuration.{Configuration}

@@ -15,13 +15,13 @@ use Rattle.tomex_timing.specs.declared.tables.Tag.{Tag}
 abbrev pub tag_text : Tag → List ℕ
 tag_text tag = name_of_pool tag.pool ++ decimal tag.number
 
--- V of an operand: its value, or `-` where it isn't there
+-- V of an operand: its value, or `-` if it isn't there
 abbrev pub v_text : Field → List ℕ
 v_text (Value value) = hex8 value
 v_text (Waits tag) = codes "-"
 v_text Unread = codes "-"
 
--- Q of an operand: the station that it waits for, or `-` where it waits for none
+-- Q of an operand: the station that it waits for, or `-` if it waits for none
 abbrev pub q_text : Field → List ℕ
 q_text (Value value) = codes "-"
 q_text (Waits tag) = tag_text tag

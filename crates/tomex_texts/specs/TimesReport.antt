@@ -17,12 +17,12 @@ header =
     codes "step" ∷ codes "pc" ∷ codes "instr" ∷ codes "issue" ∷ codes "addr" ∷ codes "start" ∷ codes "finish"
     ∷ codes "end" ∷ codes "station" ∷ []
 
--- a cycle, or `-` where there is none
+-- a cycle, or `-` if there is none
 abbrev pub cycle_text : Option ℕ → List ℕ
 cycle_text None = codes "-"
 cycle_text (Some cycle) = decimal cycle
 
--- a station by its pool and number, as `alu0`, or `-` where there is none
+-- a station by its pool and number, as `alu0`, or `-` if there is none
 abbrev pub station_text : Option PoolId → Option ℕ → List ℕ
 station_text (Some pool) (Some number) = name_of_pool pool ++ decimal number
 station_text _ _ = codes "-"

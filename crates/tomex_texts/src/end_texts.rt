@@ -1,4 +1,4 @@
-//! What a program's end is shown as: the registers that aren't zero, and the watched bytes.
+//! The texts of a program's end: the registers that aren't zero, and the watched bytes.
 
 ghost use Rattle.std.specs.Prelude.{◌≡◌, ◌++◌, IfOk, codes, length, map, string_bytes};
 ghost use Rattle.std.specs.List.{flat_map};
@@ -11,7 +11,7 @@ use std::alloc::{AllocError, Global};
 use std::fmt::Write;
 use tomex_study::WatchRange;
 
-/// Texts joined by one space, or `-` where there is none.
+/// Texts joined by one space, or `-` if there is none.
 fn joined(heap: Global, texts: &[String]) -> Result<String, AllocError>
     ensures { IfOk result (λ s. string_bytes s ≡ joined (map string_bytes texts.now)) }
 {
@@ -85,7 +85,7 @@ fn range_texts(heap: Global, ranges: &[WatchRange], bytes: &[u8]) -> Result<Vec<
     Ok(texts)
 }
 
-/// The watched ranges, as `00000100:00030000`, from their bytes, which stand range by range.
+/// The watched ranges, as `00000100:00030000`, from their bytes, range by range.
 pub fn watch_text(heap: Global, ranges: &[WatchRange], bytes: &[u8]) -> Result<String, AllocError>
     requires { length bytes.now ≡ watched_bytes ranges.now }
     ensures { IfOk result (λ s. string_bytes s ≡ joined (watch_texts ranges.now bytes.now)) }

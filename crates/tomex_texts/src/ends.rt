@@ -1,9 +1,9 @@
-//! What the programs of a front row come to.
+//! The ends of programs on a front row.
 
 use std::alloc::{Allocator, Global};
 use tomex_rvexec::EndKind;
 
-/// How a program ends on a row.
+/// The end of a program on a row.
 #[derive(Drop)]
 pub struct ProgramEnd<A: Allocator = Global> {
     /// The cycles that its run takes.

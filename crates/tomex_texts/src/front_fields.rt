@@ -98,7 +98,7 @@ pub fn push_row(
     Ok(())
 }
 
-/// Adds what an end is shown as, of a program that watches these ranges.
+/// Adds the fields of the end of a program that watches these ranges.
 fn push_end<A: Allocator>(
     fields: &mut ByteRecord,
     scratch: &mut String,
@@ -123,7 +123,7 @@ fn push_end<A: Allocator>(
     Ok(())
 }
 
-/// Makes a record the one of a program on a front row.
+/// Fills a record with the fields of a program on a front row.
 pub fn fill_record<A: Allocator>(
     fields: &mut ByteRecord,
     heap: Global,

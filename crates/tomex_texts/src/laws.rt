@@ -7,7 +7,7 @@ ghost use Rattle.tomex_rvexec.specs.Trace.{steps_from};
 ghost use Rattle.tomex_study.specs.Program.{IsProgram, Workload};
 ghost use Rattle.tomex_texts.specs.Ends.{count_of, last_state};
 
-/// What a report says of a program's end is that of its run within its own limit: the report is
+/// The end of a program in a report is that of its run within its own limit, although the report is
 /// defined by the most steps that any program may make.
 #[tactic(auto, using(crate::proofs::Ended::count_within, crate::proofs::Ended::state_within))]
 pub fn limit_changes_no_end()

@@ -1,5 +1,5 @@
-//! The texts of reports: how programs end on a configuration, the columns and fields of the front report, the times
-//! report of a program, and the text of a machine's tables.
+//! The texts of reports: the ends of programs on a configuration, the columns and fields of the
+//! front report, the times report of a program, and the text of a machine's tables.
 #![tactic(auto)]
 
 mod end_texts;

@@ -1,4 +1,4 @@
-//! How programs end on one configuration, by the cycle machine.
+//! The ends of programs on one configuration, by the cycle machine.
 
 ghost use Rattle.std.specs.Prelude.{◌≡◌, ◌≤◌, ◌+◌, length, true, All, IfOk};
 ghost use Rattle.std.specs.List.{AllZip, flat_map};
@@ -14,7 +14,7 @@ use tomex_cycle::Machine;
 use tomex_image::Window;
 use tomex_study::{Program, WatchRange};
 
-/// No program takes more cycles: 67 for each of 262,144 steps.
+/// The most cycles that a program can take: 67 for each of 262,144 steps.
 const MOST_CYCLES: u64 = 17_563_648;
 
 /// The bytes of a range in the memory of a window.
@@ -47,7 +47,7 @@ fn ranges_bytes<A: Allocator>(
     Ok(bytes)
 }
 
-/// How a program ends on a configuration.
+/// The end of a program on a configuration.
 fn program_end<A: Allocator + Clone>(
     alloc: A,
     program: &Program<A>,
@@ -73,7 +73,7 @@ fn program_end<A: Allocator + Clone>(
     })
 }
 
-/// How each program ends on a configuration, in order.
+/// The end of each program on a configuration, in order.
 pub fn each_end<A: Allocator + Clone>(
     alloc: A,
     programs: &[Program<A>],

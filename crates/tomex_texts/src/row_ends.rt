@@ -1,9 +1,9 @@
-//! What a front row comes to.
+//! The ends of all programs on a front row.
 
 use crate::ends::ProgramEnd;
 use std::alloc::{Allocator, Global};
 
-/// How each program ends on a row, in the study's order.
+/// The end of each program on a row, in the study's order.
 #[derive(Drop)]
 pub struct RowEnds<A: Allocator = Global> {
     pub programs: Vec<ProgramEnd<A>, A>,

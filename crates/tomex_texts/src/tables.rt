@@ -8,7 +8,7 @@ use std::alloc::{AllocError, Allocator};
 use std::fmt::{self, Write};
 use tomex_timing::{Busy, Field, Tables, Tag};
 
-/// A station's name.
+/// Shows a station's name.
 #[derive(Clone, Copy)]
 struct Station(Tag);
 
@@ -24,7 +24,7 @@ impl fmt::Display for Station {
     }
 }
 
-/// V of an operand.
+/// Shows V of an operand.
 #[derive(Clone, Copy)]
 struct V(Field);
 
@@ -42,7 +42,7 @@ impl fmt::Display for V {
     }
 }
 
-/// Q of an operand.
+/// Shows Q of an operand.
 #[derive(Clone, Copy)]
 struct Q(Field);
 
@@ -63,7 +63,7 @@ impl fmt::Display for Q {
     }
 }
 
-/// A of a load or store.
+/// Shows A of a load or store.
 #[derive(Clone, Copy)]
 struct Address(Option<u32>);
 
@@ -95,7 +95,7 @@ fn push_station<A: Allocator>(text: &mut String<A>, busy: &Busy) -> Result<(), A
     Ok(())
 }
 
-/// Adds the lines of the stations that are busy.
+/// Adds the lines of the busy stations.
 fn push_stations<A: Allocator>(
     text: &mut String<A>,
     places: &[Option<Busy>],
@@ -143,8 +143,8 @@ fn push_registers<A: Allocator>(
 
 /// The text of the tables after a cycle: a line `cycle N`, then one for each busy station in the
 /// order of pools and numbers, as `mul0 mul Vj=00000005 Vk=- Qj=- Qk=alu1 A=-`, and one for each
-/// register that waits for a station, as `x3 Qi=mul0`. `-` stands where there is no V, Q or A; V and
-/// A are hexadecimal. Every line ends in a line feed.
+/// register that waits for a station, as `x3 Qi=mul0`. A missing V, Q or A is `-`; V and A are
+/// hexadecimal. Every line ends with a line feed.
 pub fn tables_text<A: Allocator>(alloc: A, tables: &Tables) -> Result<Vec<u8, A>, AllocError>
     ensures { IfOk result (λ text. text.items ≡ tables_text_of tables.now) }
 {

@@ -19,7 +19,6 @@ use tomex_study::Program;
 use tomex_timing::Times;
 use tomex_timing::evaluate::{times, total};
 
-/// The names of the columns.
 const COLUMNS: [&str; 9] = [
     "step", "pc", "instr", "issue", "addr", "start", "finish", "end", "station",
 ];
@@ -33,10 +32,9 @@ fn header_of(heap: Global) -> Result<ByteRecord, AllocError>
     Ok(record)
 }
 
-/// What stands before the total's cycles.
+/// The fields before the total's cycles.
 const TOTAL: [&str; 7] = ["total", "-", "-", "-", "-", "-", "-"];
 
-/// The record of the total.
 fn total_record(heap: Global, total: u64) -> Result<ByteRecord, AllocError>
     ensures { IfOk result (λ made. fields_of made ≡ total_fields total) }
 {
@@ -47,7 +45,7 @@ fn total_record(heap: Global, total: u64) -> Result<ByteRecord, AllocError>
     Ok(record)
 }
 
-/// Adds a cycle, or `-` where there is none.
+/// Adds a cycle, or `-` if there is none.
 fn push_cycle(
     fields: &mut ByteRecord,
     scratch: &mut String,
@@ -64,7 +62,7 @@ fn push_cycle(
     }
 }
 
-/// Adds a step's station, or `-` where it has none.
+/// Adds a step's station, or `-` if it has none.
 fn push_station(
     fields: &mut ByteRecord,
     scratch: &mut String,
@@ -86,7 +84,7 @@ fn push_station(
     }
 }
 
-/// Makes a record the one of a step.
+/// Fills a record with the fields of a step.
 fn fill_record(
     fields: &mut ByteRecord,
     scratch: &mut String,
@@ -148,11 +146,11 @@ fn text_of_times<A: Allocator>(
     into_text(writer)
 }
 
-/// The times report of a program on a configuration: CSV with a header, a record for each step in program
-/// order, and last the total. Cycles are counted from 1, steps too. `-` stands where there is no
-/// address cycle or no station.
+/// The times report of a program on a configuration: CSV with a header, a record for each step in
+/// program order, and last the total. Cycles are counted from 1, steps too. A missing address cycle
+/// or station is `-`.
 ///
-/// What `csv` needs for its records it takes of `heap`.
+/// `csv` allocates its records in `heap`.
 pub fn times_report<A: Allocator + Clone>(
     alloc: A,
     heap: Global,

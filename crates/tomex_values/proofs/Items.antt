@@ -1,4 +1,4 @@
--- The values of an array, and the items that they are seen as.
+-- The values of an array, and the items that contracts see.
 use Rattle.std.proofs.Common.{◌≡◌, ◌≢◌, ◌&&◌, ◌<◌, ◌≤◌, ◌+◌, ◌∙◌, ◌++◌, ℕ, zero, suc, Bool, List, [], ◌∷◌, Ok, Err}
 use Rattle.std.proofs.Common.{length, drop, get_or, add-one, ap, sym, refl, arith}
 use Rattle.std.proofs.lemmas.List.{append_assoc, append-nil}
@@ -18,25 +18,25 @@ pub count_items : (vs : List Value) → length vs ≡ items_count (items_view vs
 count_items [] = refl
 count_items (v ∷ vs) = ap suc (count_items vs)
 
--- a test of the one is a test of the other
+-- a test of the values is a test of the items
 pub list_all_items : (test : Data → Bool) (vs : List Value)
     → list_all (λ v. test (view v)) vs ≡ all_items test (items_view vs)
 list_all_items test [] = refl
 list_all_items test (v ∷ vs) = ap (λ b. test (view v) && b) (list_all_items test vs)
 
--- where there are some, their counts are read
+-- if there are any, their counts are read
 pub some_are_read : (place : Place) (key : Key) (most : ℕ) (vs : List Value) → length vs ≢ 0
     → some_counts place key most (items_view vs) ≡ each (number_of place key (between 1 most)) (items_view vs)
 some_are_read place key most [] some = absurd (some refl)
 some_are_read place key most (v ∷ vs) some = refl
 
--- a value of the front, or of the reading behind it
+-- a value of the front, or of the reading after it
 front_more : {X : Type 0} (front : List X) (x : X) (rest : Reading (List X))
     → with_front (front ++ x ∷ []) rest ≡ with_front front (rest >>= (λ xs. Ok (x ∷ xs)))
 front_more front x (Ok xs) = ap Ok (append_assoc front (x ∷ []) xs)
 front_more front x (Err error) = refl
 
--- where the values before a place were read, the one there is read next
+-- if the values before a place were read, the one there is read next
 each_more : {X : Type 0} (read : Data → Reading X) (front : List X) (vs : List Value) (index : ℕ) (v : Value) (x : X)
     (whole : Reading (List X))
     → index < length vs → v ≡ get_or vs index v → read (view v) ≡ Ok x

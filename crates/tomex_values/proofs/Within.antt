@@ -50,7 +50,7 @@ front true true c given = refl
 front true false c given = given
 front false b c given = given
 
--- limits without a step are those of the rows
+-- limits with a step of 1 are those of the definitions of rows
 pub is_between_from : (low high n : ℕ) → is_within (between low high) n ≡ true → is_between low high n ≡ true
 is_between_from low high n given = front (nat_le low n) (nat_le n high) (n % 1 == 0) given
 

@@ -9,7 +9,7 @@ use Rattle.tomex_values.specs.Readings.{Reading, ◌>>=◌}
 use Rattle.tomex_values.specs.Table.{value_at}
 use Rattle.tomex_values.specs.Numbers.{between, number_of}
 
--- how many values there are
+-- the number of values
 abbrev pub items_count : Items → ℕ
 items_count no_items = 0
 items_count (item value values) = suc (items_count values)
@@ -27,7 +27,7 @@ is_integer value = is_some (as_integer value)
 abbrev pub is_table : Data → Bool
 is_table value = is_some (as_table value)
 
--- what a reading gives of each of the values, or the first fault
+-- the values that a reading gives, one for each item, or the first fault
 abbrev pub each : {X : Type 0} → (Data → Reading X) → Items → Reading (List X)
 each read no_items = Ok []
 each read (item value values) = read value >>= (λ x. each read values >>= (λ xs. Ok (x ∷ xs)))
@@ -43,27 +43,27 @@ counts_from place key most None = Err (Kind place key)
 counts_from place key most (Some values) =
     if all_items is_integer values then some_counts place key most values else Err (Kind place key)
 
--- where no array is given, a single count of 1
+-- a single count of 1 if no array is given
 abbrev pub counts_or : Place → Key → ℕ → Option Data → Reading (List ℕ)
 counts_or place key most None = Ok (1 ∷ [])
 counts_or place key most (Some value) = counts_from place key most (as_array value)
 
--- the numbers of stations or buses, or the widths, at a key, from 1 to most; where the key isn't there, a single 1
+-- the numbers of stations or buses, or the widths, at a key, from 1 to most; a single 1 if the key is absent
 unfoldable pub counts_at : Place → Key → ℕ → Members → Reading (List ℕ)
 counts_at place key most members = counts_or place key most (value_at key members)
 
--- tables alone, and at least one
+-- only tables, and at least one
 abbrev pub tables_from : Place → Key → Option Items → Reading Items
 tables_from place key None = Err (Kind place key)
 tables_from place key (Some values) =
     if all_items is_table values then (if items_count values == 0 then Err (Range place key) else Ok values)
     else Err (Kind place key)
 
--- an array that may not be there
+-- an array that may be absent
 abbrev pub tables_or : Place → Key → Option Data → Reading (Option Items)
 tables_or place key None = Ok None
 tables_or place key (Some value) = tables_from place key (as_array value) >>= (λ tables. Ok (Some tables))
 
--- the array of tables at a key, if it is there
+-- the array of tables at a key, if the key is present
 unfoldable pub tables_at : Place → Key → Members → Reading (Option Items)
 tables_at place key members = tables_or place key (value_at key members)

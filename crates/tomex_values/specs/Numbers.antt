@@ -20,7 +20,7 @@ words_between low high = record { low = low; high = high; step = 4 }
 abbrev pub is_within : Limits → ℕ → Bool
 is_within limits n = nat_le limits.low n && nat_le n limits.high && n % limits.step == 0
 
--- a number, tested
+-- a number, after a test of its limits
 abbrev pub number_from : Place → Key → Limits → ℕ → Reading ℕ
 number_from place key limits n = if is_within limits n then Ok n else Err (Range place key)
 

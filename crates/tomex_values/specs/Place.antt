@@ -8,7 +8,7 @@ use Rattle.tomex_values.specs.declared.place.Key.TheVariants as key
 use Rattle.tomex_values.specs.declared.place.Place.{Place}
 use Rattle.tomex_values.specs.declared.place.Place.TheVariants as place
 
--- a key as it is written
+-- a key as studies write it
 abbrev pub key_text : Key → List ℕ
 key_text key.Program = codes "program"
 key_text key.Prices = codes "prices"

@@ -7,18 +7,18 @@ use Rattle.tomex_values.specs.declared.error.DocumentError.TheVariants.{Memory}
 abbrev pub Reading : Type 0 → Type 0
 Reading X = Result X DocumentError
 
--- one reading, and then the one that goes on with its value
+-- one reading, and then one that continues with its value
 infixl 10 ◌>>=◌
 abbrev pub ◌>>=◌ : {X Y : Type 0} → Reading X → (X → Reading Y) → Reading Y
 (Ok x) >>= next = next x
 (Err fault) >>= next = Err fault
 
--- what was returned, seen as the definitions see it, is the reading
+-- the result, as contracts see it, is the reading
 abbrev pub Reads : {X Y : Type 0} → (X → Y) → Reading X → Reading Y → Type 0
 Reads view (Ok x) reading = reading ≡ Ok (view x)
 Reads view (Err fault) reading = reading ≡ Err fault
 
--- the same, or memory was refused
+-- the same, or out of memory
 abbrev pub Gives : {X Y : Type 0} → (X → Y) → Reading X → Reading Y → Type 0
 Gives view (Ok x) reading = reading ≡ Ok (view x)
 Gives view (Err error) reading = error ≢ Memory → reading ≡ Err error

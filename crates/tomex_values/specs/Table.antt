@@ -1,4 +1,4 @@
--- A table of the document: its members, and whether the study knows their keys.
+-- A table of the document: its members, and the test that their keys are known.
 use Rattle.std.specs.Prelude.{ℕ, Bool, false, not, ◌||◌, List, Option, Some, None, Ok, Err, if◌then◌else◌, is_some}
 use Rattle.std.specs.List.{list_any}
 use Rattle.std.specs.Str.{bytes_eq}
@@ -21,7 +21,7 @@ has_key key members = is_some (value_at key members)
 abbrev pub is_one_of : List Key → List ℕ → Bool
 is_one_of keys name = list_any (λ key. bytes_eq (key_text key) name) keys
 
--- a member has none of these keys
+-- a member has another key than these
 abbrev pub has_other_key : List Key → Members → Bool
 has_other_key keys no_members = false
 has_other_key keys (member name value members) = not (is_one_of keys name) || has_other_key keys members
@@ -35,11 +35,11 @@ abbrev pub table_from : Place → Key → Option Members → Reading Members
 table_from place key None = Err (Kind place key)
 table_from place key (Some members) = Ok members
 
--- a value that may not be there, as a table
+-- a value that may be absent, as a table
 abbrev pub table_or : Place → Key → Option Data → Reading Members
 table_or place key None = Ok no_members
 table_or place key (Some value) = table_from place key (as_table value)
 
--- the table at a key, and one without members where the key isn't there
+-- the table at a key, or one without members if the key is absent
 unfoldable pub table_at : Place → Key → Members → Reading Members
 table_at place key members = table_or place key (value_at key members)

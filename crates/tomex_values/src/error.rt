@@ -1,4 +1,4 @@
-//! Why the bytes of a study are no document of one.
+//! Why the bytes of a study aren't a valid document.
 
 ghost use Rattle.std.specs.Prelude.{◌≡◌};
 ghost use Rattle.tomex_values.specs.declared.error.DocumentError.TheVariants.{Memory};
@@ -9,19 +9,19 @@ use std::alloc::{AllocError, AllocFailed};
 /// The first test that a study's document fails.
 #[derive(Debug, Drop)]
 pub enum DocumentError {
-    /// The bytes are no TOML document.
+    /// The bytes aren't a TOML document.
     Syntax,
     /// The place has a key that no study has there.
     UnknownKey(Place),
-    /// The place lacks a key that every study has there.
+    /// The place is missing a key that every study has there.
     MissingKey(Place, Key),
     /// The value of the key is of another kind than a study has there.
     Kind(Place, Key),
-    /// The value of the key is of its kind and outside its limits.
+    /// The value of the key has its kind, but is outside its limits.
     Range(Place, Key),
     /// The axes span more than 16,384 configurations.
     TooMany,
-    /// Memory was refused. It says nothing of the study.
+    /// Out of memory. This says nothing about the study.
     Memory,
 }
 

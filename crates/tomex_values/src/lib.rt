@@ -1,5 +1,5 @@
-//! Values of a TOML document: what stands under a key, as a table, a number or a list, and the refusals,
-//! which tell place and key.
+//! Values of a TOML document: the table, number or list under a key, and the refusals, which name
+//! place and key.
 #![tactic(auto)]
 
 mod error;

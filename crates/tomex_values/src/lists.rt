@@ -30,7 +30,7 @@ fn each_is_integer(values: &[Value]) -> bool
     values.iter().all(|value| value.is_integer())
 }
 
-/// Whether all values are integers.
+/// True if all values are integers.
 pub fn are_integers(values: &[Value]) -> bool
     ensures { result ≡ all_items is_integer (items_view values.now) }
 {
@@ -99,8 +99,8 @@ fn counts_from<A: Allocator>(
     some_counts(alloc, values, place, key, most)
 }
 
-/// The numbers of stations or buses, or the widths, at a key, from 1 to `most`; where the key isn't
-/// there, a single 1.
+/// The numbers of stations or buses, or the widths, at a key, from 1 to `most`; a single 1 if the
+/// key is absent.
 #[tactic(auto, unfolding(crate::specs::Lists::counts_at))]
 pub fn counts_at<A: Allocator>(
     alloc: A,
@@ -117,7 +117,7 @@ pub fn counts_at<A: Allocator>(
     }
 }
 
-/// The tables of an array that has some, and nothing else.
+/// The tables of an array that has at least one, and nothing else.
 pub fn tables_from<'a>(
     value: &'a Value,
     place: Place,
@@ -139,7 +139,7 @@ pub fn tables_from<'a>(
     }
 }
 
-/// The array of tables at a key, if it is there.
+/// The array of tables at a key, if the key is present.
 #[tactic(auto, unfolding(crate::specs::Lists::tables_at))]
 pub fn tables_at<'a>(
     table: &'a Table,

@@ -37,7 +37,7 @@ pub enum Key {
 }
 
 impl Key {
-    /// The key as it is written.
+    /// The key as studies write it.
     pub fn text(self) -> &'static str
         ensures { result.now ≡ key_text self }
     {

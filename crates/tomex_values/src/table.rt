@@ -1,4 +1,4 @@
-//! A table of the document: its members, and whether the study knows their keys.
+//! A table of the document: its members, and the test that their keys are known.
 
 ghost use Rattle.std.specs.Prelude.{◌≡◌, option_map, not, string_bytes};
 ghost use Rattle.std.specs.List.{list_any};
@@ -25,7 +25,7 @@ pub fn value_at<'a>(table: &'a Table, key: Key) -> Option<&'a Value>
     member(table, key.text())
 }
 
-/// Whether there is a value at a key.
+/// True if there is a value at a key.
 pub fn has_key(table: &Table, key: Key) -> bool
     ensures { result ≡ has_key key (table_view table.now) }
 {
@@ -63,7 +63,7 @@ pub fn known_keys(table: &Table, place: Place, keys: &[Key]) -> Result<(), Docum
     }
 }
 
-/// The table at a key, or `empty` where the key isn't there.
+/// The table at a key, or `empty` if the key is absent.
 #[tactic(auto, unfolding(crate::specs::Table::table_at))]
 pub fn table_at<'a>(
     table: &'a Table,

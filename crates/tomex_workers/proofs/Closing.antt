@@ -1,4 +1,4 @@
--- What a worker does with a row that it has in hand.
+-- A worker's steps on a row that it has in hand.
 use Rattle.std.proofs.Common.{◌≡◌, ℕ, ◌+◌, ◌<◌, ◌≤◌, List, [], ◌∷◌, Option, Some, None, slice_get, length, get_or}
 use Rattle.std.proofs.Common.{ap, cond, Bool, true, false}
 use Rattle.std.specs.Prelude.{IfSome, nat_lt}
@@ -21,7 +21,7 @@ use Rattle.tomex_workers.specs.Plans.{IsPlanOf}
 use Rattle.tomex_workers.specs.Seats.{Continues}
 use Rattle.tomex_workers.proofs.Rows.{as_many_rows, cycles_at}
 
--- nothing has happened to a seat
+-- a seat continues itself
 pub continues_itself : (seat : Known) → Continues seat seat
 continues_itself seat = record {
   board = refl;
@@ -39,7 +39,7 @@ continues_on first now new before after = record {
 pub has_it : (hand : List ℕ) (row : ℕ) → hand ≡ row ∷ [] → Has hand row
 has_it hand row is = subst (λ l. Has l row) (sym is) (inl refl)
 
--- nothing is left of a hand of one row when that goes
+-- a hand of one row is empty after that row leaves
 pub none_in_hand : (hand after : List ℕ) (row : ℕ) → hand ≡ row ∷ [] → after ≡ without row hand → after ≡ []
 none_in_hand hand after row is gone =
     gone ∙ (ap (without row) is ∙ ap (λ b. cond b [] (row ∷ [])) (eq-eqb row row refl))
@@ -70,7 +70,7 @@ totals_there s row item programs totals same at are = λ config here.
     subst (λ (r : Configuration). take (length s.programs) totals ≡ totals_on s.programs r) e
     (subst (λ (ps : List Workload). take (length ps) totals ≡ totals_on ps item) same are)
 
--- a row whose totals are known has its cycles, and has made no more of them at its last look
+-- a row whose totals are known has its cycles, and has made no more than those at its last look
 pub known_cycles : (s : DesignSpace) (row : ℕ) (item : Configuration) (known : KnownRow)
     → slice_get s.rows row ≡ Some item → IsKnownRow s.programs item known → known.cycles ≡ get_or (cycles_of s) row 0
 known_cycles s row item known at is = is.cycles ∙ sym (cycles_at s row item at)
@@ -90,7 +90,7 @@ known_made s row item known law at is =
         rw (cycles_at s row item at) (law s.programs item 1 (omega arith)).1
     if_looked false looks = tt
 
--- one row more is noted
+-- one more row is noted
 pub one_noted : (v w : View) (rows items : List ℕ) (i : ℕ) → items ≡ rows → i < length items
     → All (KnowsNotOpen v) (take i rows) → Grows v w → KnowsNotOpen w (get_or items i 0)
     → All (KnowsNotOpen w) (take (i + 1) rows)

@@ -1,3 +1,3 @@
--- What contracts cite: the plan of a study's board, and a worker's seat as it goes on.
+-- Definitions that contracts cite: the plan of a study's board, and a worker's seat over time.
 pub mod Plans
 pub mod Seats

@@ -1,4 +1,4 @@
-//! What a worker does with a row: it claims it, finds out its cycles, and closes it.
+//! A worker's steps on a row: it claims it, finds its cycles, and closes it.
 
 ghost use Rattle.std.specs.Prelude.{◌≡◌, ◌<◌, ◌≤◌, ◌∷◌, [], length, count_by, take, is_some, not, IfSome, OnOk, All};
 ghost use Rattle.std.specs.Prelude.{slice_get, slice_index, Some};
@@ -17,8 +17,8 @@ use tomex_lanes::Lane;
 use tomex_row_runs::{Knowledge, KnownRow, the_last_look_sees_most};
 use tomex_study::Study;
 
-/// What a worker works with: the study, the board that it shares with the others, the gate to which it reports its
-/// rows, and its number.
+/// The things that a worker uses: the study, the board that it shares with the others, the gate to
+/// which it reports its rows, and its number.
 #[derive(Drop)]
 pub(crate) struct Desk<'s, J: Plan, A: Allocator, G: Gate> {
     pub study: &'s Study<A>,
@@ -27,7 +27,7 @@ pub(crate) struct Desk<'s, J: Plan, A: Allocator, G: Gate> {
     pub worker: usize,
 }
 
-/// For how many of the programs no total is known.
+/// The number of programs whose total isn't known.
 fn count_unknown(programs: usize, totals: &[Option<u64>; 8]) -> usize
     ensures { result ≡ count_by (λ t. not (is_some t)) (take programs totals.now) }
 {
@@ -80,8 +80,8 @@ impl<'s, J: Plan, A: Allocator + Clone, G: Gate> Desk<'s, J, A, G> {
         KnownRow::of(programs, &totals[..programs.len()])
     }
 
-    /// Closes a row that the seat has in hand. The programs' totals on it are looked up first, or learnt. If memory is
-    /// refused, the row may stay in hand.
+    /// Closes a row that the seat has in hand. The programs' totals on it are looked up first, or
+    /// learnt. If out of memory, the row may stay in hand.
     fn run_row(
         &self,
         knowledge: &mut Knowledge<'s, A>,
@@ -107,9 +107,10 @@ impl<'s, J: Plan, A: Allocator + Clone, G: Gate> Desk<'s, J, A, G> {
         Ok(())
     }
 
-    /// Tries a row: claims it, and if that succeeds runs and closes it. On Ok the seat has nothing in hand, and knows
-    /// that the row isn't open; whether this worker closed it, or another has it, isn't said. That its mark is lawful,
-    /// whatever it is, is the board's rule. If memory is refused, the row may stay in hand.
+    /// Tries a row: claims it, and if that succeeds runs and closes it. On `Ok` the seat has
+    /// nothing in hand, and knows that the row isn't open; the contract doesn't say if this worker
+    /// closed it or another has it. The board's rule says that its mark is lawful. If out of
+    /// memory, the row may stay in hand.
     fn try_row(
         &self,
         knowledge: &mut Knowledge<'s, A>,
@@ -133,7 +134,8 @@ impl<'s, J: Plan, A: Allocator + Clone, G: Gate> Desk<'s, J, A, G> {
         self.run_row(knowledge, seat, row)
     }
 
-    /// Tries rows until none is left to take, then each of the lane's list once more. None of that list is open then.
+    /// Tries rows until none is left to take, then each of the lane's list again. None of that list
+    /// is open then.
     pub(crate) fn try_all(
         &self,
         alloc: A,
@@ -155,7 +157,7 @@ impl<'s, J: Plan, A: Allocator + Clone, G: Gate> Desk<'s, J, A, G> {
         self.try_listed(&mut knowledge, seat, lane)
     }
 
-    /// Takes rows as long as there are any, but at most as many as the study has, and tries each.
+    /// Takes rows while there are any, but at most as many as the study has, and tries each.
     fn try_taken(
         &self,
         knowledge: &mut Knowledge<'s, A>,

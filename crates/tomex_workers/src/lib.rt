@@ -1,5 +1,5 @@
-//! What a worker does with configurations: it takes them, claims each on the board, finds out its cycles, and closes
-//! it.
+//! A worker's steps on configurations: it takes them, claims each on the board, finds its cycles,
+//! and closes it.
 #![tactic(auto)]
 
 mod desk;

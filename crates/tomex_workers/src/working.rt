@@ -10,9 +10,9 @@ use tomex_board::{Board, Plan, Seat};
 use tomex_lanes::{Lane, Part};
 use tomex_study::Study;
 
-/// All that a worker does: it takes rows until it gets none, its own first, then those that it steals;
-/// each that it claims it runs and closes. Then it tries each row of its own list once more, so that none
-/// of them is open when it ends.
+/// Does a worker's whole work: takes rows until there are none, its own first, then stolen ones,
+/// and runs and closes each one that it claims. Then it tries each row of its own list again, so
+/// that none of them is open when it ends.
 pub fn work<J: Plan, A: Allocator + Clone, G: Gate>(
     alloc: A,
     study: &Study<A>,

@@ -1,4 +1,4 @@
--- How long columns are: a line for the machine, and one for each change.
+-- The lengths of columns: a line for the machine, and one for each change.
 use Rattle.std.proofs.Common.{◌≡◌, ap, cond, refl, sym, suc, ◌<◌, ◌≤◌, List, [], ◌∷◌, ◌++◌, length, map, All}
 use Rattle.std.specs.Prelude.{Bool, true, false, if◌then◌else◌, nat_lt}
 use Rattle.std.proofs.lemmas.Bool.{le-ltb, lt-ltb}
@@ -10,7 +10,7 @@ use Rattle.tomex_tables.specs.Table.{TableColumn}
 use Rattle.tomex_worth.specs.Changes.{changes_of}
 use Rattle.tomex_worth.specs.Worth.{all_headings, columns_of, heading_column, program_column, program_columns}
 
--- a line more than there are changes
+-- one more line than there are changes
 abbrev pub HasLines : DesignSpace → FrontRow → TableColumn → Type 0
 HasLines s own c = length c.entries ≡ suc (length (changes_of s own))
 
@@ -31,18 +31,18 @@ columns_long s own =
     (all_if P (map (program_column s own) s.programs) (nat_lt 1 (length s.programs))
     (all_map P (program_column s own) s.programs (λ p. ap suc (length-map (changes_of s own) _))))
 
--- of several programs each has a column
+-- if there are several programs, each has a column
 pub several_columns : (s : DesignSpace) (own : FrontRow) → 1 < length s.programs
     → map (program_column s own) s.programs ≡ program_columns s own
 several_columns s own several =
     ap (λ (t : Bool). cond t (map (program_column s own) s.programs) []) (sym (lt-ltb 1 (length s.programs) several))
 
--- and a single one has none
+-- if there is only one, it has none
 pub no_column : (s : DesignSpace) (own : FrontRow) → length s.programs ≤ 1 → [] ≡ program_columns s own
 no_column s own one =
     ap (λ (t : Bool). cond t (map (program_column s own) s.programs) []) (sym (le-ltb 1 (length s.programs) one))
 
--- they are pushed one after the other
+-- columns are pushed one after another
 pub all_columns : (s : DesignSpace) (own : FrontRow) (none first all : List TableColumn) → none ≡ []
     → first ≡ none ++ map (heading_column s own) all_headings → all ≡ first ++ program_columns s own
     → all ≡ columns_of s own

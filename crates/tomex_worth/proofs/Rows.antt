@@ -1,4 +1,4 @@
--- The rows of a study: what each of them is, and that changes are among them.
+-- The rows of a study, and the changes among them.
 use Rattle.std.proofs.Common.{◌≡◌, ◌∙◌, ap, ap₂, arith, refl, subst, sym, ℕ, zero, suc, ◌+◌, ◌<◌, List, [], ◌∷◌}
 use Rattle.std.proofs.Common.{length, get_or, All}
 use Rattle.std.specs.List.{flat_map, range_with_len}
@@ -74,7 +74,7 @@ changes_within s own is =
     (All-filter (λ r. differ_at place (config_at s own.row) (config_at s r.row)) (λ r. r.row < length s.rows)
     (all_rows s) (rows_within s is)))
 
--- as many rows are known as there are
+-- the list has as many rows as the study
 pub rows_long : (s : DesignSpace) (rows : List FrontRow) → IsStudy s → rows ≡ all_rows s
     → length rows ≡ length s.rows
 unfolding cycles_of

@@ -28,7 +28,7 @@ totals_there s totals row is within =
     ap (λ (t : List (List ℕ)). get_or t row []) is
     ∙ get_or-map (totals_on s.programs) s.rows row plain [] within
 
--- a row has a total of each program
+-- a row has a total for each program
 pub has_total : (s : DesignSpace) (totals : List (List ℕ)) (given : List ℕ) (row place : ℕ) (p : Workload)
     → totals ≡ totals_of s → row < length s.rows → slice_get s.programs place ≡ Some p
     → given ≡ get_or totals row [] → place < length given

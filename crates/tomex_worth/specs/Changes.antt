@@ -1,6 +1,6 @@
--- What one change of a machine leads to: the rows of a study whose configurations differ from it in one list.
--- A study's lists are the stations of each pool, the options of each kind of unit, the buses and the widths. This is
--- said of configurations, and not of places in a study's lists: so it holds of any list of configurations.
+-- The changes of a machine: the rows of a study whose configurations differ from it in one list. A study's lists are
+-- the stations of each pool, the options of each kind of unit, the buses and the widths. The definitions are about
+-- configurations, not places in a study's lists, so they hold for any list of configurations.
 use Rattle.std.specs.Prelude.{◌≡◌, ℕ, ◌<◌, ◌==◌, Bool, not, if◌then◌else◌, List, length, map}
 use Rattle.std.specs.Prelude.{slice_index_or, All}
 use Rattle.std.specs.List.{filter, flat_map, list_all, range_with_len}

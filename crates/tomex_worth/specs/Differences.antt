@@ -1,15 +1,15 @@
--- Differences as texts: what a number is more or less than another.
+-- Differences of numbers, as texts.
 use Rattle.std.specs.Prelude.{ℕ, ◌+◌, ◌-◌, ◌*◌, ◌/◌, ◌%◌, ◌==◌, nat_lt, if◌then◌else◌, List, ◌++◌, codes}
 use Rattle.std.specs.Fmt.{decimal}
 
 abbrev pub distance : ℕ → ℕ → ℕ
 distance a b = (a - b) + (b - a)
 
--- the sign of what b is more than a, which is another number
+-- the sign of b - a, if the two differ
 abbrev pub sign_of : ℕ → ℕ → List ℕ
 sign_of a b = if nat_lt a b then codes "+" else codes "-"
 
--- how much b is more than a: `+6`, `-9426`, `0`
+-- b - a as a text: `+6`, `-9426`, `0`
 unfoldable pub signed : ℕ → ℕ → List ℕ
 signed a b = if a == b then codes "0" else sign_of a b ++ decimal (distance a b)
 

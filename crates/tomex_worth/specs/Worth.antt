@@ -1,4 +1,4 @@
--- What one part more or less is worth on a machine, as a table.
+-- What one more or one less part is worth on a machine, as a table.
 use Rattle.std.specs.Prelude.{ℕ, suc, ◌*◌, ◌/◌, ◌==◌, nat_lt, if◌then◌else◌, List, [], ◌∷◌, ◌++◌}
 use Rattle.std.specs.Prelude.{codes, length, map, slice_index_or}
 use Rattle.std.specs.List.{list_any}
@@ -23,7 +23,7 @@ use Rattle.tomex_worth.specs.declared.changes.Change.{Change}
 use Rattle.tomex_worth.specs.declared.heading.Heading.{Heading}
 use Rattle.tomex_worth.specs.declared.heading.Heading.TheVariants as headings
 
--- a list's name, as a study has it
+-- a list's name, as studies write it
 abbrev pub name_of_list : Part → List ℕ
 name_of_list (Stations pool) = name_of_pool pool
 name_of_list (Units unit) = codes "unit." ++ name_of_unit unit
@@ -44,7 +44,7 @@ rate_text own other =
     else if other.cost == own.cost then codes "same"
     else hundredths (distance own.cycles other.cycles * 100 / distance own.cost other.cost)
 
--- whether a row is on the front
+-- `yes` if a row is on the front
 abbrev pub front_text : DesignSpace → FrontRow → List ℕ
 front_text s r = if list_any (λ f. f.row == r.row) (front_of_study s) then codes "yes" else codes "-"
 
@@ -59,7 +59,7 @@ name_under headings.Percent = codes "%"
 name_under headings.Rate = codes "rate"
 name_under headings.Front = codes "front"
 
--- what the machine's own line has
+-- the texts of the machine's own line
 abbrev pub own_under : DesignSpace → FrontRow → Heading → List ℕ
 own_under s own headings.Row = decimal own.row
 own_under s own headings.Cost = decimal own.cost
@@ -67,7 +67,7 @@ own_under s own headings.Cycles = decimal own.cycles
 own_under s own headings.Front = front_text s own
 own_under s own heading = codes "-"
 
--- and the line of a change
+-- and of the line of a change
 unfoldable pub text_under : DesignSpace → FrontRow → Heading → Change → List ℕ
 text_under s own headings.Part c = name_of_list c.part
 text_under s own headings.From c = entry_text (config_at s own.row) c.part
@@ -90,7 +90,7 @@ all_headings =
     headings.Part ∷ headings.From ∷ headings.To ∷ headings.Row ∷ headings.Cost ∷ headings.Cycles ∷ headings.Percent
     ∷ headings.Rate ∷ headings.Front ∷ []
 
--- a program's own cycles on the row of that number
+-- a program's own cycles on the row of this number
 abbrev pub total_at : DesignSpace → Workload → ℕ → ℕ
 total_at s p row = total (config_at s row) p.image
 
@@ -113,7 +113,7 @@ abbrev pub row_at : DesignSpace → ℕ → FrontRow
 row_at s n =
     record { row = n; cost = slice_index_or s.costs n 0; cycles = cycles_on s.programs (config_at s n) }
 
--- the table of the machine of that number
+-- the table of the machine of this number
 unfoldable pub worth_table_of : DesignSpace → ℕ → List ℕ
 worth_table_of s n =
     table_of (suc (length (changes_of s (row_at s n)))) (columns_of s (row_at s n))

@@ -1,4 +1,4 @@
-//! The rows of a study that differ from a machine in one list only.
+//! The rows of a study that differ from a machine in only one list.
 
 ghost use Rattle.std.specs.Prelude.{◌≡◌, ◌<◌, ◌++◌, if◌then◌else◌, not, length, All, IfOk, OnOk};
 ghost use Rattle.tomex_row_runs.specs.StudyFront.{all_rows};
@@ -11,10 +11,10 @@ use tomex_prices::same_option;
 use tomex_study::Study;
 use tomex_timing::Part;
 
-/// A row that differs from a machine in one list only.
+/// A row that differs from a machine in only one list.
 #[derive(Clone, Copy, Debug, PartialEq, Eq)]
 pub struct Change {
-    /// The part that the list is of.
+    /// The part of the list.
     pub part: Part,
     pub row: FrontRow,
 }
@@ -29,14 +29,14 @@ pub fn same_entry(a: &Config, b: &Config, part: Part) -> bool
     }
 }
 
-/// True if two entries are the same, but at the place in question if they are not.
+/// True if two entries are as required: different at the place in question, the same elsewhere.
 fn is_as_asked(is_place: bool, same: bool) -> bool
     ensures { result ≡ (if is_place then not same else same) }
 {
     if is_place { !same } else { same }
 }
 
-/// True if they differ in the list at this place, and in no other.
+/// True if two configurations differ in the list at this place, and in no other.
 #[tactic(auto, unfolding(crate::specs::Changes::differ_at))]
 fn differ_at(place: usize, a: &Config, b: &Config) -> bool
     ensures { result ≡ differ_at place a.now b.now }
@@ -73,7 +73,8 @@ fn push_changes_at<A: Allocator>(
     Ok(())
 }
 
-/// The rows that differ from a machine in one list only: list by list, in the order of `Part::ALL`, then by number.
+/// The rows that differ from a machine in only one list: list by list, in the order of `Part::ALL`,
+/// then by number.
 #[tactic(auto, unfolding(crate::specs::Changes::changes_of))]
 pub fn changes_of<A: Allocator>(
     heap: Global,

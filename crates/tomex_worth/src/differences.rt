@@ -10,14 +10,14 @@ use std::fmt::Write;
 use tomex_csv_text::push_hundredths;
 use tomex_pareto::FrontRow;
 
-/// The sign of what `b` is more than `a`.
+/// The sign of `b - a`.
 fn sign_of(a: u64, b: u64) -> &'static str
     ensures { result.now ≡ sign_of a b }
 {
     if a < b { "+" } else { "-" }
 }
 
-/// Adds how much `b` is more than `a`, as in `+6`, `-9426` and `0`.
+/// Adds `b - a`, as in `+6`, `-9426` and `0`.
 #[tactic(auto, unfolding(crate::specs::Differences::signed))]
 pub fn push_signed<A: Allocator>(text: &mut String<A>, a: u64, b: u64) -> Result<(), AllocError>
     ensures { OnOk result (string_bytes text.new ≡ string_bytes text.old ++ signed a b) }
@@ -29,7 +29,7 @@ pub fn push_signed<A: Allocator>(text: &mut String<A>, a: u64, b: u64) -> Result
     write!(text, "{sign}{distance}")
 }
 
-/// How much `b` is more than `a`.
+/// The text of `b - a`.
 pub fn signed(heap: Global, a: u64, b: u64) -> Result<String, AllocError>
     ensures { IfOk result (λ text. string_bytes text ≡ signed a b) }
 {
@@ -38,7 +38,7 @@ pub fn signed(heap: Global, a: u64, b: u64) -> Result<String, AllocError>
     Ok(text)
 }
 
-/// Adds how much `b` is more than `a` in percent of `a`, with one digit after the point, rounded towards 0.
+/// Adds `b - a` in percent of `a`, with one digit after the point, rounded towards 0.
 #[tactic(auto, unfolding(crate::specs::Differences::percent, crate::specs::Differences::tenths))]
 pub fn push_percent<A: Allocator>(text: &mut String<A>, a: u64, b: u64) -> Result<(), AllocError>
     ensures { OnOk result (string_bytes text.new ≡ string_bytes text.old ++ percent a b) }
@@ -53,7 +53,7 @@ pub fn push_percent<A: Allocator>(text: &mut String<A>, a: u64, b: u64) -> Resul
     write!(text, "{sign}{whole}.{tenth}")
 }
 
-/// How much `b` is more than `a` in percent of `a`.
+/// The text of `b - a` in percent of `a`.
 pub fn percent(heap: Global, a: u64, b: u64) -> Result<String, AllocError>
     ensures { IfOk result (λ text. string_bytes text ≡ percent a b) }
 {
@@ -69,7 +69,7 @@ fn dominates(a: FrontRow, b: FrontRow) -> bool
     a.cost <= b.cost && a.cycles <= b.cycles && (a.cost < b.cost || a.cycles < b.cycles)
 }
 
-/// Adds the cycles for 1 of cost between two rows, or why there is no such number.
+/// Adds the cycles for 1 of cost between two rows, or the reason why there is no such number.
 #[tactic(auto, unfolding(crate::specs::Worth::rate_text))]
 pub fn push_rate<A: Allocator>(
     text: &mut String<A>,
@@ -94,7 +94,7 @@ pub fn push_rate<A: Allocator>(
     )
 }
 
-/// Cycles for 1 of cost between two rows, or why there is no such number.
+/// Cycles for 1 of cost between two rows, or the reason why there is no such number.
 pub fn rate_text(heap: Global, own: FrontRow, other: FrontRow) -> Result<String, AllocError>
     ensures { IfOk result (λ text. string_bytes text ≡ rate_text own other) }
 {

@@ -1,4 +1,4 @@
-//! What the columns of the table are of.
+//! The headings of the table's columns.
 
 ghost use Rattle.std.specs.Prelude.{◌≡◌, ◌++◌, IfOk, OnOk, string_bytes};
 ghost use Rattle.tomex_worth.specs.Worth.{entry_text, name_of_list, name_under};
@@ -8,7 +8,7 @@ use std::fmt::Write;
 use tomex_config::Config;
 use tomex_timing::Part;
 
-/// What a column has of a change.
+/// A column's heading: which property of a change it shows.
 #[derive(Clone, Copy)]
 pub enum Heading {
     /// The list in which the rows differ.
@@ -25,7 +25,7 @@ pub enum Heading {
 }
 
 impl Heading {
-    /// All of them, in the table's order.
+    /// All headings, in the table's order.
     pub const ALL: [Heading; 9] = [
         Heading::Part,
         Heading::From,
@@ -56,7 +56,7 @@ impl Heading {
     }
 }
 
-/// Adds a list's name, as a study has it.
+/// Adds a list's name, as studies write it.
 pub fn push_name_of_list<A: Allocator>(text: &mut String<A>, part: Part) -> Result<(), AllocError>
     ensures { OnOk result (string_bytes text.new ≡ string_bytes text.old ++ name_of_list part) }
 {
@@ -68,7 +68,7 @@ pub fn push_name_of_list<A: Allocator>(text: &mut String<A>, part: Part) -> Resu
     }
 }
 
-/// A list's name, as a study has it.
+/// A list's name, as studies write it.
 pub fn name_of_list(heap: Global, part: Part) -> Result<String, AllocError>
     ensures { IfOk result (λ name. string_bytes name ≡ name_of_list part) }
 {

@@ -1,4 +1,5 @@
-//! What one part more or less is worth on a machine: in cost, in cycles, and in cycles for 1 of cost.
+//! What one more or one less part is worth on a machine: in cost, in cycles, and in cycles for 1 of
+//! cost.
 #![tactic(auto)]
 
 mod changes;

@@ -19,7 +19,7 @@ use tomex_study::{Program, Study};
 use tomex_survey::Survey;
 use tomex_tables::{Column, table_of};
 
-/// A machine, and the rows that differ from it in one list only.
+/// A machine, and the rows that differ from it in only one list.
 #[derive(Clone, Copy)]
 struct Machine<'m> {
     own: FrontRow,
@@ -33,7 +33,7 @@ fn is_on(front: &[FrontRow], row: usize) -> bool
     front.iter().any(|f| f.row == row)
 }
 
-/// What the column `front` has of a row.
+/// The text of the column `front` for a row.
 fn front_text(heap: Global, front: &[FrontRow], row: usize) -> Result<String, AllocError>
     ensures { IfOk result (λ text. string_bytes text
         ≡ (if list_any (λ f. f.row == row) front.now then codes "yes" else codes "-")) }
@@ -45,7 +45,7 @@ fn front_text(heap: Global, front: &[FrontRow], row: usize) -> Result<String, Al
     }
 }
 
-/// What the machine's own line has under a heading.
+/// The text under a heading in the machine's own line.
 fn own_under<A: Allocator>(
     heap: Global,
     study: &Study<A>,
@@ -66,7 +66,7 @@ fn own_under<A: Allocator>(
     }
 }
 
-/// What the line of a change has under a heading.
+/// The text under a heading in the line of a change.
 #[tactic(auto, unfolding(crate::specs::Worth::text_under))]
 fn text_under<A: Allocator>(
     heap: Global,
@@ -96,7 +96,6 @@ fn text_under<A: Allocator>(
     }
 }
 
-/// The column of a heading.
 #[tactic(auto, unfolding(crate::specs::Worth::heading_column))]
 fn heading_column<A: Allocator>(
     heap: Global,
@@ -217,10 +216,11 @@ fn push_programs<A: Allocator>(
     Ok(())
 }
 
-/// What each change of one list brings on a machine, the study's configuration of that number, as a table: a line of
-/// names, the machine itself, and a line for each row that differs from it in one list, list by list, then by number.
+/// The effect of each change of one list on a machine, the study's configuration of this number, as
+/// a table: a line of names, the machine itself, and a line for each row that differs from it in
+/// one list, list by list, then by number.
 ///
-/// What is small is taken of `heap`.
+/// Small values are allocated in `heap`.
 pub fn worth_table<A: Allocator>(
     alloc: A,
     heap: Global,

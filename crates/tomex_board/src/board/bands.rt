@@ -1,4 +1,4 @@
-//! Publishing a finished row in its price band, and looking for one that judges another.
+//! Publishing a finished row in its price band, and finding one that judges another.
 
 ghost use Rattle.std.specs.Prelude.{◌≡◌, ◌≢◌, ℕ, ◌+◌, ◌<◌, ◌≤◌, length, min, slice_index, IfSome, IfNone};
 ghost use Rattle.tomex_board.specs.Words.{band_word};
@@ -16,7 +16,7 @@ use crate::words::{NOTHING_YET, band_word, bound_of};
 use std::alloc::Allocator;
 
 impl<J: Plan, A: Allocator> Board<J, A> {
-    /// The second step of `finish`: the band.
+    /// Publishes a finished row in its band: the second step of `finish`.
     pub(super) fn publish(&self, seat: &mut Seat<J>, i: usize, cycles: u64, k: usize)
         requires board { seat.old.board ≡ self.now }
         requires row { i < length J.costs }
@@ -39,7 +39,7 @@ impl<J: Plan, A: Allocator> Board<J, A> {
         words.fetch_min::<Publish<J>>(&mut seat.inner, self.rows + k, word);
     }
 
-    /// Looks at one band: the word there.
+    /// Reads one band: its word.
     fn look_at(&self, seat: &mut Seat<J>, k: usize) -> u64
         requires board { seat.old.board ≡ self.now }
         requires band { k < length (floors_of J.costs) }
@@ -51,7 +51,7 @@ impl<J: Plan, A: Allocator> Board<J, A> {
         words.load::<Look<J>>(&mut seat.inner, self.rows + k)
     }
 
-    /// The least word so far, after a look at the band `k` where it may judge the row.
+    /// The least word so far, after reading the band `k` if it may judge the row.
     fn least_with(&self, seat: &mut Seat<J>, i: usize, k: usize, least: u64) -> u64
         requires board { seat.old.board ≡ self.now }
         requires row { i < length J.costs }
@@ -75,8 +75,9 @@ impl<J: Plan, A: Allocator> Board<J, A> {
         if found < least { found } else { least }
     }
 
-    /// The least bound in the bands that may judge the row: those whose floor is at most its cost. Each
-    /// of them is loaded once, in rising order. `None` where nothing was published in any of them.
+    /// The least bound in the bands that may judge the row: those whose floor is at most its cost.
+    /// Each of them is loaded once, in rising order. `None` if nothing was published in any of
+    /// them.
     pub fn look(&self, seat: &mut Seat<J>, i: usize) -> Option<Bound>
         requires board { seat.old.board ≡ self.now }
         requires row { i < length J.costs }

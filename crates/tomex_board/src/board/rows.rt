@@ -20,8 +20,8 @@ use crate::words::{OPEN, TAKEN, mark_word};
 use std::alloc::Allocator;
 
 impl<J: Plan, A: Allocator> Board<J, A> {
-    /// Takes a row into the seat's hand. False where the row wasn't open at that step: then the seat
-    /// notes that, and its mark where it is closed.
+    /// Takes a row into the seat's hand. False if the row wasn't open at that step: then the seat
+    /// notes that, and the row's mark if it is closed.
     pub fn claim(&self, seat: &mut Seat<J>, i: usize) -> bool
         requires board { seat.old.board ≡ self.now }
         requires row { i < length J.costs }
@@ -37,7 +37,7 @@ impl<J: Plan, A: Allocator> Board<J, A> {
     }
 
     /// Closes a row of the seat's hand as finished, with its cycles, and then publishes it in its
-    /// band, where it has one.
+    /// band, if it has one.
     pub fn finish(&self, seat: &mut Seat<J>, i: usize, cycles: u64)
         requires board { seat.old.board ≡ self.now }
         requires row { i < length J.costs }
@@ -61,7 +61,7 @@ impl<J: Plan, A: Allocator> Board<J, A> {
         }
     }
 
-    /// The first step of `finish`: the mark.
+    /// Marks a row of the hand as finished: the first step of `finish`.
     fn mark_finished(&self, seat: &mut Seat<J>, i: usize, cycles: u64)
         requires board { seat.old.board ≡ self.now }
         requires row { i < length J.costs }

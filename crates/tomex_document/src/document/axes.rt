@@ -28,7 +28,7 @@ struct Counts<A: Allocator> {
     width: Vec<u8, A>,
 }
 
-/// The counts at a key of the axes, made in a clone of the allocator.
+/// The counts at a key of the axes, allocated by a clone of `alloc`.
 fn read_counts<A: Allocator + Clone>(
     alloc: &A,
     table: &Table,
@@ -79,7 +79,7 @@ fn axis_counts<A: Allocator + Clone>(alloc: A, table: &Table) -> Result<Counts<A
     })
 }
 
-/// The options of a kind, made in a clone of the allocator.
+/// The options of a kind, allocated by a clone of `alloc`.
 fn read_options<A: Allocator + Clone>(
     alloc: &A,
     values: Option<&[Value]>,
@@ -101,7 +101,7 @@ struct Options<A: Allocator> {
     bru: Vec<UnitOption, A>,
 }
 
-/// The options that the table of the unit gives, kind by kind, whatever whole is put together from them.
+/// The options that the table of the unit gives, kind by kind, for whatever is made of them.
 fn unit_options<A: Allocator + Clone>(alloc: A, unit: &Table) -> Result<Options<A>, DocumentError>
     ensures { (whole : _) → Gives
         (λ o. whole o.alu.items o.mul.items o.div.items o.mem.items o.bru.items) result

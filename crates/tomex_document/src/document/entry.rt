@@ -83,35 +83,35 @@ impl<A: Allocator> Entry<A> {
         self.name.as_str()
     }
 
-    /// The window that the program's image stands in.
+    /// The window of the program's image.
     pub fn window(&self) -> Window
         ensures value { result ≡ self.now.window }
     {
         self.window
     }
 
-    /// The number of steps within which the program has to end.
+    /// The number of steps within which the program must end.
     pub fn limit(&self) -> u32
         ensures value { result ≡ self.now.limit }
     {
         self.limit
     }
 
-    /// The ranges of memory to be shown.
+    /// The ranges of memory that reports show.
     pub fn watch(&self) -> &[WatchRange]
         ensures value { result.now ≡ self.now.watch }
     {
         self.watch.as_slice()
     }
 
-    /// How often the program's cycles count.
+    /// The factor by which the program's cycles count.
     pub fn weight(&self) -> u32
         ensures value { result ≡ self.now.weight }
     {
         self.weight
     }
 
-    /// Whether the study says so.
+    /// True if the study gives the weight.
     pub fn weighed(&self) -> bool
         ensures value { result ≡ self.now.weighed }
     {

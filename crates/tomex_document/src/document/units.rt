@@ -12,7 +12,7 @@ use tomex_rvdec::UnitId;
 use tomex_values::{DocumentError, Key, Limits, Place, known_keys, number_at, tables_at};
 use toml::{Table, Value};
 
-/// The tables of each kind, where they are there.
+/// The tables of each kind, if the document has them.
 #[derive(Clone, Copy)]
 pub struct UnitTables<'a> {
     pub alu: Option<&'a [Value]>,
@@ -44,7 +44,7 @@ pub fn unit_tables<'a>(table: &'a Table) -> Result<UnitTables<'a>, DocumentError
     })
 }
 
-/// The most units of a kind: branches have a single one.
+/// The most units of a kind: there is only one for branches.
 fn most_units(unit: UnitId) -> u8
     ensures { result ≡ most_units unit }
 {
@@ -98,7 +98,7 @@ fn options_from<A: Allocator>(
     Ok(options)
 }
 
-/// The options of a kind; where its key isn't there, one unit of latency 1 for nothing.
+/// The options of a kind; if its key is absent, one unit of latency 1 and price 0.
 pub fn options_of<A: Allocator>(
     alloc: A,
     values: Option<&[Value]>,

@@ -1,4 +1,4 @@
-//! The ranges of memory that a program's entry asks to be shown.
+//! The ranges of memory that a program's entry asks reports to show.
 
 ghost use Rattle.std.specs.Prelude.{◌≡◌, ◌≤◌, length, IfOk, true, All};
 ghost use Rattle.std.specs.List.{list_all};

@@ -1,4 +1,4 @@
-//! Where costs and cycles stand in the picture.
+//! The places of costs and cycles in the picture.
 
 ghost use Rattle.std.specs.Prelude.{◌≡◌, ◌≤◌};
 ghost use Rattle.std.specs.List.{fold};
@@ -28,7 +28,7 @@ pub struct Point {
 }
 
 impl Span {
-    /// From a value to the same value.
+    /// The span of only this value.
     fn only(value: u64) -> Self
         ensures { result ≡ only value }
     {
@@ -38,7 +38,7 @@ impl Span {
         }
     }
 
-    /// As far as this value too.
+    /// Extends the span to include `value`.
     fn widened(self, value: u64) -> Self
         ensures { result ≡ widened self value }
     {
@@ -48,8 +48,7 @@ impl Span {
         }
     }
 
-    /// How far a value of the span is from the least, if the greatest is so far from it; halfway where it is the only
-    /// one.
+    /// `value`'s position on an axis of length `far`; the middle if all values are equal.
     #[tactic(auto, unfolding(crate::specs::Axes::along))]
     fn along(self, far: u64, value: u64) -> u64
         ensures inside { result ≤ far }
@@ -65,7 +64,7 @@ impl Span {
 }
 
 impl Axes {
-    /// With a row's cost and cycles.
+    /// Extends the axes to include a row's cost and cycles.
     fn with_row(self, row: FrontRow) -> Self
         ensures { result ≡ with_row self row }
     {
@@ -75,7 +74,7 @@ impl Axes {
         }
     }
 
-    /// Where a cost stands, in points from the left.
+    /// The position of a cost, in points from the left.
     #[tactic(auto, unfolding(crate::specs::Axes::x_of))]
     pub fn x_of(self, cost: u64) -> u64
         ensures is { result ≡ x_of self cost }
@@ -84,7 +83,7 @@ impl Axes {
         136 + self.costs.along(512, cost)
     }
 
-    /// Where cycles stand, in points from the top.
+    /// The position of cycles, in points from the top.
     #[tactic(auto, unfolding(crate::specs::Axes::y_of))]
     pub fn y_of(self, cycles: u64) -> u64
         ensures is { result ≡ y_of self cycles }
@@ -93,7 +92,7 @@ impl Axes {
         360 - self.cycles.along(280, cycles)
     }
 
-    /// Where a row stands.
+    /// The point of a row.
     pub fn point_of(self, row: FrontRow) -> Point
         ensures is { result ≡ point_of self row }
         ensures x { result.x ≤ 648 }
@@ -106,7 +105,7 @@ impl Axes {
     }
 }
 
-/// Axes that reach as far as these rows too.
+/// Axes that are extended to include these rows.
 fn with_rows(from: Axes, rows: &[FrontRow]) -> Axes
     ensures { result ≡ fold with_row from rows.now }
 {

@@ -1,4 +1,4 @@
-//! All rows as dots: one path, whose strokes go down over points one below the other.
+//! All rows as dots: one path, whose strokes go down over dots one below another.
 
 ghost use Rattle.std.specs.Prelude.{◌≡◌, ◌<◌, ◌+◌, ◌-◌, ◌++◌, ◌*◌, ℕ, Bool, false, ◌&&◌, not, if◌then◌else◌};
 ghost use Rattle.std.specs.Prelude.{drop, length, map, nat_eq, slice_index_or, OnOk, IfOk, string_bytes};
@@ -18,7 +18,7 @@ const COLUMNS: usize = 513;
 /// Points from top to bottom, from 80 to 360.
 const LINES: usize = 281;
 
-/// The place in a table of the point at which a row stands.
+/// The place, in the table of points, of a row's point.
 fn place_of(axes: &Axes, row: FrontRow) -> usize
     ensures is { result ≡ (x_of axes.now row.cost - 136) * 281 + (y_of axes.now row.cycles - 80) }
     ensures within { result < 513 * 281 }
@@ -27,7 +27,7 @@ fn place_of(axes: &Axes, row: FrontRow) -> usize
     (at.x - 136) as usize * LINES + (at.y - 80) as usize
 }
 
-/// The table of the points at which rows stand.
+/// The table of points: true if a row has that point.
 fn table_of<A: Allocator>(
     alloc: A,
     axes: &Axes,
@@ -52,7 +52,7 @@ fn begins(column: &[bool], line: usize) -> bool
     column[line] && (line == 0 || !column[line - 1])
 }
 
-/// How many dots follow that of a line downwards without a gap.
+/// The number of dots that follow below a line's without a gap.
 fn reach(column: &[bool], line: usize) -> usize
     requires { line < length column.now }
     ensures { result ≡ prefix_len (λ dot. dot) (drop (line + 1) column.now) }
@@ -73,7 +73,7 @@ fn push_stroke<A: Allocator>(
     write!(text, "M{x} {y}v{far}")
 }
 
-/// Adds the stroke that begins at a line of a column, if one does.
+/// Adds the stroke that begins at a line of a column, if there is one.
 fn push_stroke_at<A: Allocator>(
     text: &mut String<A>,
     x: usize,
@@ -125,7 +125,7 @@ fn push_dots<A: Allocator + Clone>(
     Ok(())
 }
 
-/// How wide strokes are; they are narrower if rows are many.
+/// The width of strokes; they are narrower if there are many rows.
 fn width_of(rows: usize) -> usize
     ensures { result ≡ width_of rows }
 {

@@ -25,7 +25,7 @@ pub fn is_shown(shown: &[FrontRow], row: usize) -> bool
     shown.iter().any(|r| r.row == row)
 }
 
-/// Adds what a link to a row's view begins with.
+/// Adds the start of a link to a row's view.
 #[tactic(auto, unfolding(crate::specs::LinkedPlot::link_start))]
 pub fn push_link_start<A: Allocator>(text: &mut String<A>, row: usize) -> Result<(), AllocError>
     ensures { OnOk result (string_bytes text.new ≡ string_bytes text.old ++ link_start row) }
@@ -68,7 +68,7 @@ fn push_linked_circle<A: Allocator>(
     }
 }
 
-/// Adds a line with it.
+/// Adds a line with a row's point, which is a link if the row is shown.
 #[tactic(auto, unfolding(crate::specs::LinkedPlot::linked_line))]
 fn push_linked_line<A: Allocator>(
     text: &mut String<A>,
@@ -84,7 +84,7 @@ fn push_linked_line<A: Allocator>(
     text.push_str("\n")
 }
 
-/// Adds the rows' points, a line each.
+/// Adds the rows' points, each on a line.
 fn push_linked_lines<A: Allocator>(
     text: &mut String<A>,
     axes: &Axes,
@@ -125,7 +125,7 @@ fn push_linked_rows<A: Allocator>(
     text.push_str("</g>\n</svg>\n")
 }
 
-/// Adds the picture of a front, drawn over dots for all rows, of which there are `all`.
+/// Adds the picture of a front, drawn over dots for all rows, `all` in number.
 #[tactic(auto, unfolding(crate::specs::LinkedPlot::linked_over))]
 fn push_linked_over<A: Allocator + Clone>(
     text: &mut String<A>,
@@ -155,7 +155,8 @@ fn push_linked_over<A: Allocator + Clone>(
 /// Adds the picture that `rows_picture` gives, except that the circle of each row that is shown is a link to the row's
 /// view in the page.
 ///
-/// `rows` are all rows of the study, `front` those of its front. What is small is taken of `heap`.
+/// `rows` are all rows of the study, `front` those of its front. Small values are allocated in
+/// `heap`.
 pub fn push_linked_picture<A: Allocator + Clone>(
     text: &mut String<A>,
     alloc: A,

@@ -8,7 +8,7 @@ use crate::plot::ticks::step_of;
 use std::alloc::{AllocError, Allocator};
 use std::fmt::Write;
 
-/// What stands at a value of an axis.
+/// The marks at a value of an axis.
 #[derive(Clone, Copy)]
 pub enum Mark {
     CostLine,
@@ -17,7 +17,7 @@ pub enum Mark {
     CyclesNumber,
 }
 
-/// The values that a mark stands at are of this span.
+/// The span whose values have this mark.
 fn span_of(axes: &Axes, mark: Mark) -> Span
     ensures { result ≡ span_of axes.now mark }
 {
@@ -50,7 +50,7 @@ fn push_mark_at<A: Allocator>(
     }
 }
 
-/// Adds what stands at each tick.
+/// Adds the marks at each tick.
 #[tactic(auto, unfolding(crate::specs::Plot::marks_of))]
 pub fn push_marks<A: Allocator>(
     text: &mut String<A>,

@@ -15,7 +15,7 @@ use std::alloc::{AllocError, Allocator, Global};
 use tomex_pareto::FrontRow;
 use tomex_study::Study;
 
-/// The picture of a front, drawn over dots for all rows, of which there are `all`.
+/// The picture of a front, drawn over dots for all rows, `all` in number.
 #[tactic(auto, unfolding(crate::specs::RowsPlot::picture_over))]
 fn picture_over<A: Allocator + Clone>(
     alloc: A,
@@ -44,7 +44,7 @@ fn picture_over<A: Allocator + Clone>(
 /// The front of a study as the picture that `front_picture` gives, drawn over faint dots for all rows. The axes span
 /// all rows.
 ///
-/// What is small is taken of `heap`.
+/// Small values are allocated in `heap`.
 pub fn rows_picture<A: Allocator + Clone>(
     alloc: A,
     heap: Global,

@@ -10,15 +10,14 @@ use std::alloc::{AllocError, Allocator, Global};
 use std::fmt::Write;
 use tomex_pareto::FrontRow;
 
-/// A point whose row's number stands beside it.
+/// A point with its row's number beside it.
 #[derive(Clone, Copy)]
 pub struct Named {
     pub at: Point,
-    /// How many digits the number has.
+    /// The number of digits of the row's number.
     pub digits: usize,
 }
 
-/// Adds a circle.
 #[tactic(auto, unfolding(crate::specs::Plot::circle_at))]
 fn push_circle_at<A: Allocator>(
     text: &mut String<A>,
@@ -31,7 +30,7 @@ fn push_circle_at<A: Allocator>(
     write!(text, "<circle cx=\"{x}\" cy=\"{y}\" r=\"{radius}\">")
 }
 
-/// Adds what a circle says where it is pointed at.
+/// Adds a circle's tooltip.
 #[tactic(auto, unfolding(crate::specs::Plot::row_title))]
 fn push_row_title<A: Allocator>(text: &mut String<A>, row: FrontRow) -> Result<(), AllocError>
     ensures { OnOk result (string_bytes text.new ≡ string_bytes text.old ++ row_title row) }
@@ -43,7 +42,7 @@ fn push_row_title<A: Allocator>(text: &mut String<A>, row: FrontRow) -> Result<(
     )
 }
 
-/// Adds a row's point, which says what it is where it is pointed at.
+/// Adds a row's point, with a tooltip.
 #[tactic(auto, unfolding(crate::specs::Plot::circle))]
 pub fn push_circle<A: Allocator>(
     text: &mut String<A>,
@@ -73,14 +72,14 @@ fn push_circle_line<A: Allocator>(
     text.push_str("\n")
 }
 
-/// How large points are, in points of the picture; they are smaller if rows are many.
+/// The radius of rows' points, in points of the picture; it is smaller if there are many rows.
 pub fn radius_of(rows: usize) -> u64
     ensures { result ≡ radius_of rows }
 {
     if rows <= 64 { 4 } else { 2 }
 }
 
-/// Adds the rows' points, a line each.
+/// Adds the rows' points, each on a line.
 pub fn push_circles<A: Allocator>(
     text: &mut String<A>,
     axes: &Axes,
@@ -97,7 +96,7 @@ pub fn push_circles<A: Allocator>(
     Ok(())
 }
 
-/// Whether a number at this point would not stand on the last one.
+/// True if a number at this point would not overlap the last one.
 fn has_room(last: Option<Named>, at: Point) -> bool
     ensures { result ≡ has_room last at }
 {
@@ -121,7 +120,7 @@ fn push_number<A: Allocator>(text: &mut String<A>, at: Point, row: usize) -> Res
     write!(text, "<text x=\"{x}\" y=\"{y}\">{row}</text>\n")
 }
 
-/// A point whose row's number stands beside it.
+/// A point with its row's number beside it.
 fn named_at(heap: Global, at: Point, row: usize) -> Result<Named, AllocError>
     ensures { IfOk result (λ n. n ≡ named_at at row) }
 {

@@ -1,4 +1,4 @@
-//! The staircase over which all rows lie.
+//! The staircase above which all rows lie.
 
 ghost use Rattle.std.specs.Prelude.{◌≡◌, ◌++◌, codes, OnOk, string_bytes};
 ghost use Rattle.tomex_front_views.specs.Plot.{move_to, staircase, steps_down};
@@ -32,7 +32,7 @@ fn push_down<A: Allocator>(text: &mut String<A>, from: u64, to: u64) -> Result<(
     Ok(())
 }
 
-/// Adds the moves from a point to each row: right, and then down.
+/// Adds the moves from a point to each row: right, then down.
 fn push_steps<A: Allocator>(
     text: &mut String<A>,
     axes: &Axes,

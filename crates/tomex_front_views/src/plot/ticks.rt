@@ -3,7 +3,7 @@
 ghost use Rattle.std.specs.Prelude.{◌≡◌, ◌<◌, ◌*◌, nat_le};
 ghost use Rattle.tomex_front_views.specs.Axes.{step_of};
 
-/// True if six steps are at least as long as a distance.
+/// True if six steps are at least as long as the distance `far`.
 fn is_enough(far: u64, step: u64) -> bool
     ensures { result ≡ nat_le far (6 * step) }
 {

@@ -15,7 +15,7 @@ use tomex_pareto::FrontRow;
 use tomex_study::Study;
 use tomex_tables::{Column, table_of};
 
-/// What a front row has under a heading.
+/// The number under a heading for a front row.
 #[tactic(auto, unfolding(crate::specs::FrontTable::number_under))]
 fn number_under<A: Allocator>(study: &Study<A>, heading: Heading, row: FrontRow) -> u64
     requires { row.row < length study.now.rows }
@@ -29,7 +29,6 @@ fn number_under<A: Allocator>(study: &Study<A>, heading: Heading, row: FrontRow)
     }
 }
 
-/// The column of a heading.
 #[tactic(auto, unfolding(crate::specs::FrontTable::heading_column))]
 fn heading_column<A: Allocator>(
     heap: Global,
@@ -85,7 +84,7 @@ fn push_setting<A: Allocator>(
     Ok(())
 }
 
-/// Adds the columns of what rows of the study differ in.
+/// Adds the columns of the settings in which rows of the study differ.
 fn push_settings<A: Allocator>(
     columns: &mut Vec<Column>,
     heap: Global,
@@ -113,7 +112,7 @@ fn column_of(heap: Global, name: &str, cycles: &[u64]) -> Result<Column, AllocEr
     Ok(column)
 }
 
-/// Adds a column for each program, where there are several.
+/// Adds a column for each program, if there are several.
 fn push_programs<A: Allocator>(
     columns: &mut Vec<Column>,
     heap: Global,
@@ -152,11 +151,13 @@ fn push_each_program<A: Allocator>(
     Ok(())
 }
 
-/// The front of a study as a table: a line of names, and then a line a row of the front, with its number, cost and
-/// cycles, the cycles that it saves over the row before for 1 of cost, what rows of the study differ in, and, of
-/// several programs, the cycles of each.
+/// The front of a study as a table: a line of names, and then a line for each row of the front,
+/// with its number, cost and cycles, the cycles that it saves over the row before for 1 of cost,
+/// the settings in which rows of the study differ, and, if there are several programs, the cycles
+/// of each.
 ///
-/// `cycles` are those of each program on each row of the front. What is small is taken of `heap`.
+/// `cycles` are those of each program on each row of the front. Small values are allocated in
+/// `heap`.
 pub fn front_table<A: Allocator>(
     alloc: A,
     heap: Global,

@@ -1,4 +1,4 @@
-//! What the columns of the front's table are of.
+//! The headings of the front's table.
 
 ghost use Rattle.std.specs.Prelude.{◌≡◌, ◌++◌, ◌==◌, not, IfOk, OnOk, string_bytes};
 ghost use Rattle.std.specs.List.{list_any};
@@ -10,7 +10,7 @@ use tomex_config::Config;
 use tomex_rvdec::{PoolId, UnitId};
 use tomex_timing::Part;
 
-/// What a configuration says of itself.
+/// A setting of a configuration.
 #[derive(Clone, Copy)]
 pub enum Setting {
     Count(Part),
@@ -18,7 +18,7 @@ pub enum Setting {
     Latency(UnitId),
 }
 
-/// What a column has of a configuration.
+/// A column's heading: what it shows for a configuration.
 #[derive(Clone, Copy)]
 pub enum Heading {
     Row,
@@ -28,7 +28,7 @@ pub enum Heading {
 }
 
 impl Setting {
-    /// All of them, in the order of the front report's columns.
+    /// All settings, in the order of the front report's columns.
     pub const ALL: [Setting; 18] = [
         Setting::Count(Part::Stations(PoolId::Alu)),
         Setting::Count(Part::Stations(PoolId::Mul)),
@@ -50,7 +50,7 @@ impl Setting {
         Setting::Count(Part::Width),
     ];
 
-    /// What a configuration says.
+    /// Its value for a configuration.
     pub fn of(self, config: &Config) -> u64
         ensures { result ≡ setting_of config.now self }
     {
@@ -74,7 +74,6 @@ impl Setting {
         }
     }
 
-    /// Its name.
     fn name(self, heap: Global) -> Result<String, AllocError>
         ensures { IfOk result (λ name. string_bytes name ≡ name_of_setting self) }
     {
@@ -83,7 +82,7 @@ impl Setting {
         Ok(name)
     }
 
-    /// Whether one of the configurations says something else.
+    /// True if one of the configurations has another value than `usual`.
     fn is_other(self, usual: u64, rows: &[Config]) -> bool
         ensures { result ≡ list_any (λ config. not (setting_of config self == usual)) rows.now }
     {
@@ -95,7 +94,7 @@ impl Setting {
         false
     }
 
-    /// Whether two of the configurations differ in it.
+    /// True if two of the configurations differ in it.
     #[tactic(auto, unfolding(crate::specs::FrontTable::differs))]
     pub fn differs(self, rows: &[Config]) -> bool
         ensures { result ≡ differs rows.now self }

@@ -1,4 +1,4 @@
-//! What rows of the front save over the rows before them.
+//! The savings of rows of the front over the rows before them.
 
 ghost use Rattle.std.specs.Prelude.{◌≡◌, IfOk, string_bytes};
 ghost use Rattle.tomex_front_views.specs.FrontTable.{rate_after, rate_column};
@@ -8,7 +8,7 @@ use tomex_csv_text::push_hundredths;
 use tomex_pareto::FrontRow;
 use tomex_tables::Column;
 
-/// How many cycles a row takes fewer than the row before, for 1 of what it costs more.
+/// The cycles that a row saves over the row before, for 1 of extra cost.
 fn rate_after(heap: Global, before: Option<FrontRow>, row: FrontRow) -> Result<String, AllocError>
     ensures { IfOk result (λ text. string_bytes text ≡ rate_after before row) }
 {

@@ -1,4 +1,4 @@
-//! What an ELF file asks for, or the first test that fails.
+//! The executable of an ELF file, or the first test that fails.
 ghost use Rattle.std.specs.Prelude.{◌≡◌, ◌+◌, ◌*◌, ◌%◌, ◌<◌, ◌≤◌, IfOk, IfErr, length, [], Some, None};
 ghost use Rattle.std.specs.List.{All};
 ghost use Rattle.tomex_image.specs.ElfTests.{Fits, IsEntry, elf_tests, table_tests};
@@ -13,7 +13,7 @@ use crate::elf::segments::Segments;
 use crate::error::ImageError;
 use crate::window::Window;
 
-/// What a file that passes all tests asks for: its segments and the address of its first
+/// The executable in a file that passes all tests: its segments and the address of its first
 /// instruction.
 #[derive(Drop)]
 pub struct Executable {
@@ -59,7 +59,7 @@ fn segments_in(
     Ok(segments)
 }
 
-/// What an ELF file asks for, or the first test that fails.
+/// The executable of an ELF file, or the first test that fails.
 pub fn executable_of(bytes: &[u8], window: Window) -> Result<Executable, ImageError>
     ensures passed { IfOk result (λ r. first_failing (elf_tests bytes.now window) ≡ None) }
     ensures segments { IfOk result (λ r. r.segments ≡ segments_of bytes.now) }

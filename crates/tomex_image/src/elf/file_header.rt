@@ -1,4 +1,4 @@
-//! The file header (System V ABI, "ELF Header"): 52 bytes, and what is asked of them.
+//! The file header (System V ABI, "ELF Header"): 52 bytes, and their tests.
 ghost use Rattle.std.specs.Prelude.{◌≡◌, ◌+◌, ◌*◌, ◌<◌, ◌≤◌, IfNone, length};
 ghost use Rattle.tomex_image.specs.ElfTests.{file_tests};
 ghost use Rattle.tomex_image.specs.FileHeader.{entry_of, header_count, header_offset, is_riscv};
@@ -11,7 +11,7 @@ use crate::error::ImageError;
 /// The size of the file header, in bytes.
 const FILE_HEADER_SIZE: usize = 52;
 
-// Where the fields stand in the file, in bytes, by the standard's names.
+// Offsets of the fields in the file, in bytes, by the standard's names.
 const EI_CLASS: usize = 4;
 
 const EI_DATA: usize = 5;
@@ -30,7 +30,7 @@ const E_PHENTSIZE: usize = 42;
 
 const E_PHNUM: usize = 44;
 
-// What the fields are to be: 32 bits, low byte first, the current version, executable, RISC-V.
+// The required values: 32 bits, low byte first, the current version, executable, RISC-V.
 const ELFCLASS32: u8 = 1;
 
 const ELFDATA2LSB: u8 = 1;
@@ -41,7 +41,7 @@ const ET_EXEC: u16 = 2;
 
 const EM_RISCV: u16 = 243;
 
-/// Whether the file is one of 32 bits, low byte first, of version 1, for RISC-V.
+/// True if the file has 32 bits, low byte first, version 1, and is for RISC-V.
 fn is_for_riscv(bytes: &[u8]) -> bool
     requires { 52 ≤ length bytes.now }
     ensures { result ≡ is_riscv bytes.now }
@@ -52,7 +52,7 @@ fn is_for_riscv(bytes: &[u8]) -> bool
         && read_half(bytes, E_MACHINE) == EM_RISCV
 }
 
-/// Where the program headers stand in the file, and how many there are.
+/// Where the program headers are in the file, and how many.
 #[derive(Clone, Copy)]
 pub struct HeaderTable {
     pub offset: usize,

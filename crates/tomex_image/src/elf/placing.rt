@@ -8,7 +8,7 @@ use crate::elf::program_header::ProgramHeader;
 use crate::window::Window;
 use std::alloc::{AllocError, Allocator};
 
-/// Copies what the file holds of a segment into the memory of the window.
+/// Copies the file's part of a segment into the memory of the window.
 fn place(memory: &mut [u8], bytes: &[u8], window: Window, header: &ProgramHeader)
     requires filled { length memory.old ≡ window.size }
     requires fits { Fits window (length bytes.now) header.now }
@@ -28,8 +28,8 @@ fn place(memory: &mut [u8], bytes: &[u8], window: Window, header: &ProgramHeader
 
 /// The memory of the window with the segments in it, and zeros elsewhere.
 ///
-/// The last segment is copied first: where two of them filled one byte, the earlier one would hold
-/// it, as in the definition. Files of which that is true are refused, so the order is no matter.
+/// The last segment is copied first: if two of them filled one byte, the earlier one's would stay,
+/// as in the definition. Such files are refused, so the order doesn't matter.
 pub fn memory_of<A: Allocator>(
     alloc: A,
     bytes: &[u8],

@@ -14,7 +14,7 @@ const PT_LOAD: u32 = 1;
 /// `p_type` of a segment that names an interpreter, as dynamic linking does.
 const PT_INTERP: u32 = 3;
 
-/// The fields of a program header that count here. Sizes and the offset in the file are in bytes.
+/// The fields of a program header that matter here. Sizes and the offset in the file are in bytes.
 #[derive(Clone, Copy, Debug, PartialEq, Eq)]
 pub struct ProgramHeader {
     /// `p_type`
@@ -30,7 +30,7 @@ pub struct ProgramHeader {
 }
 
 impl ProgramHeader {
-    /// A header of no meaning, which fills places that hold no segment.
+    /// A header without meaning, for places that hold no segment.
     pub const BLANK: ProgramHeader = ProgramHeader {
         kind: 0,
         offset: 0,
@@ -39,28 +39,28 @@ impl ProgramHeader {
         memory_size: 0,
     };
 
-    /// Whether the header asks for an interpreter.
+    /// True if the header asks for an interpreter.
     pub fn names_interpreter(&self) -> bool
         ensures { result ≡ names_interpreter self.now }
     {
         self.kind == PT_INTERP
     }
 
-    /// Whether the header is one of a loadable segment.
+    /// True if the header is that of a loadable segment.
     pub fn is_loadable(&self) -> bool
         ensures { result ≡ is_loadable self.now }
     {
         self.kind == PT_LOAD
     }
 
-    /// Whether the header is one of a loadable segment that takes memory.
+    /// True if the header is that of a loadable segment that takes memory.
     pub fn takes_memory(&self) -> bool
         ensures { result ≡ takes_memory self.now }
     {
         self.is_loadable() && self.memory_size > 0
     }
 
-    /// Whether the two segments have a byte of memory in common.
+    /// True if the two segments have a byte of memory in common.
     pub fn shares_byte(&self, other: &ProgramHeader) -> bool
         ensures { result ≡ shares_byte self.now other.now }
     {

@@ -1,4 +1,4 @@
-//! What is asked of a program header, after the segments of the headers before it.
+//! The tests of a program header, given the segments of the earlier headers.
 ghost use Rattle.std.specs.Prelude.{◌≡◌};
 ghost use Rattle.std.specs.List.{list_any};
 ghost use Rattle.tomex_image.specs.ElfTests.{header_tests};
@@ -10,7 +10,7 @@ use crate::elf::segments::MOST_SEGMENTS;
 use crate::error::ImageError;
 use crate::window::Window;
 
-/// Whether so many bytes from that address on lie in the window.
+/// True if `count` bytes from `address` on lie in the window.
 pub fn is_within(window: Window, address: u32, count: u32) -> bool
     ensures { result ≡ lies_in window address count }
 {
@@ -18,14 +18,14 @@ pub fn is_within(window: Window, address: u32, count: u32) -> bool
     window.base() <= address && u64::from(address) + u64::from(count) <= end
 }
 
-/// Whether one of the segments has a byte of memory in common with the header's.
+/// True if one of the segments shares a byte of memory with the header's.
 fn overlaps_any(segments: &[ProgramHeader], header: &ProgramHeader) -> bool
     ensures { result ≡ list_any (λ s. shares_byte s header.now) segments.now }
 {
     segments.iter().any(|segment| segment.shares_byte(header))
 }
 
-/// The first test of a header that fails, after those segments. The file has `len` bytes.
+/// The first test that a header fails, given the earlier segments. The file has `len` bytes.
 pub fn header_refusal(
     window: Window,
     len: usize,

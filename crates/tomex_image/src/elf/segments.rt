@@ -1,11 +1,11 @@
-//! The segments of a file, which lie in the value itself and take no memory.
+//! The segments of a file, kept in the value itself: they take no memory.
 ghost use Rattle.std.specs.Prelude.{◌≡◌, ◌<◌, ◌≤◌, [], ◌∷◌, ◌++◌, length};
 ghost use Rattle.tomex_image.specs.declared.elf.segments.TheConstants.{MOST_SEGMENTS};
 
 use crate::elf::program_header::ProgramHeader;
 use std::marker::Model;
 
-/// The most segments that a file may have which take memory.
+/// The most segments with memory that a file may have.
 pub const MOST_SEGMENTS: usize = 16;
 
 /// The headers of the segments that take memory, in the order of the file.

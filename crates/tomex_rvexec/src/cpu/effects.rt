@@ -1,4 +1,4 @@
-//! What instructions do to the machine: writes of registers, jumps, loads and stores.
+//! The effects of instructions on the machine: writes of registers, jumps, loads and stores.
 
 use super::Cpu;
 use crate::outcome::{Fault, FaultKind, Stepped};
@@ -20,7 +20,7 @@ impl<'a, A: Allocator> Cpu<'a, A> {
         }
     }
 
-    /// Goes on to the next instruction, past the top of 2^32 to address 0.
+    /// Continues at the next instruction; after the top of 2^32 that is address 0.
     pub(super) fn go_on(&mut self) -> Stepped
         ensures next { result ≡ Stepped.Next }
         ensures pc { self.new ≡ record self.old { pc = next_pc self.old } }
@@ -29,7 +29,7 @@ impl<'a, A: Allocator> Cpu<'a, A> {
         Stepped::Next
     }
 
-    /// Writes the register and goes on to the next instruction.
+    /// Writes the register and continues at the next instruction.
     pub(super) fn write(&mut self, r: u8, value: u32) -> Result<Stepped, Fault>
         requires { r < 32 }
         ensures { Answers (writes self.old r value) self.old result self.new }
@@ -38,8 +38,8 @@ impl<'a, A: Allocator> Cpu<'a, A> {
         Ok(self.go_on())
     }
 
-    /// The target of a jump, which has to be a multiple of 4. Whether it is in memory is for
-    /// the next fetch to say.
+    /// The target of a jump, which must be a multiple of 4. The next fetch tests that it is in
+    /// memory.
     fn aligned(&self, target: u32) -> Result<u32, Fault>
         ensures ok { IfOk result (λ t. (t ≡ target) × (nat_eq (target % 4) 0 ≡ true)) }
         ensures err { IfErr result (λ e. (nat_eq (target % 4) 0 ≡ false)
@@ -64,7 +64,7 @@ impl<'a, A: Allocator> Cpu<'a, A> {
         Ok(Stepped::Next)
     }
 
-    /// Goes to the target where the branch is taken. A branch that isn't never faults.
+    /// Goes to the target if the branch is taken. A branch that isn't never faults.
     pub(super) fn branch(&mut self, taken: bool, target: u32) -> Result<Stepped, Fault>
         ensures { Answers (branches self.old taken target) self.old result self.new }
     {

@@ -1,4 +1,4 @@
-//! Two threads on one board, a seat each. No call waits: the turns are the tests' own.
+//! Two threads on one board, each with a seat. No call waits: the turns are the tests' own.
 
 ghost use Rattle.std.specs.Prelude.{◌≡◌, length, IfOk};
 ghost use Rattle.tomex_board.specs.Plans.{IsPlan};
@@ -12,10 +12,10 @@ use std::thread;
 use std::thread::{Threads, join};
 use tomex_board::{Board, Bound, Plan, Seat};
 
-/// Turns that a thread waits for another, at most.
+/// The most turns that a thread waits for another.
 const TURNS: u32 = 10_000_000;
 
-/// Claims every row, upwards or downwards: for each row, whether the claim was true.
+/// Claims every row, upwards or downwards. For each row, true if the claim succeeded.
 fn claim_all<J: Plan>(
     alloc: Global,
     board: &Board<J>,
@@ -35,7 +35,7 @@ fn claim_all<J: Plan>(
     Ok(won)
 }
 
-/// How many rows were won by exactly one.
+/// The number of rows that exactly one thread won.
 fn differing(up: &[bool], down: &[bool]) -> u32 {
     let mut once = 0u32;
     for (first, second) in up.iter().zip(down) {
@@ -46,7 +46,7 @@ fn differing(up: &[bool], down: &[bool]) -> u32 {
     once
 }
 
-/// How many rows exactly one of two threads won, where both claim all of them.
+/// The number of rows that exactly one of two threads won, if both claim all of them.
 fn won_once<J: Plan + Send + Sync, R: Threads + Sync>(
     rt: &R,
     alloc: Global,
@@ -82,7 +82,7 @@ fn each_row_is_claimed_once(rt: HostRuntime) -> Result<(), Fail> {
     Ok(())
 }
 
-/// Says that it began, and looks until something was published that may judge row 1.
+/// Reports that it began, and looks until something was published that may judge row 1.
 fn look_until(board: &Board<TwoRows>, mut seat: Seat<TwoRows>, began: &AtomicU64) -> Option<Bound>
     requires board { seat.board ≡ board.now }
 {

@@ -10,7 +10,7 @@ use tomex_rvexec::{Fault, FaultKind, RunError, run};
 
 /// Programs, each with the kind and the place of its fault.
 static FAULTY: [(&[u32], FaultKind, u32); 3] = [
-    // addi x1,x0,5, and a word that is no instruction
+    // addi x1,x0,5, and a word that isn't an instruction
     (&[0x00500093, 0], FaultKind::Illegal, 4),
     // lui x1,16; jalr x0,0(x1)
     (&[0x000100b7, 0x00008067], FaultKind::Fetch, 65536),
@@ -18,12 +18,12 @@ static FAULTY: [(&[u32], FaultKind, u32); 3] = [
     (&[0xffc02083, 0x00100073], FaultKind::Access, 0),
 ];
 
-/// Whether the next tick answers this fault.
+/// True if the next tick reports this fault.
 fn faults<A: Allocator>(machine: &mut Machine<A>, wanted: Fault) -> bool {
     matches!(tick(machine), Progress::Faulted(fault) if fault == wanted)
 }
 
-/// The machine goes on up to this fault, and then stays where it is.
+/// Fails unless the machine runs up to this fault, and then stays there.
 fn comes_to<A: Allocator>(machine: &mut Machine<A>, wanted: Fault) -> Result<(), Fail> {
     for _ in 0..10 {
         if faults(machine, wanted) {
@@ -35,19 +35,19 @@ fn comes_to<A: Allocator>(machine: &mut Machine<A>, wanted: Fault) -> Result<(),
     Err("no such fault".into())
 }
 
-/// Whether the in-order run faults so.
+/// True if the in-order run has this fault.
 fn is_faulty(rt: &HostRuntime, image: &Image, wanted: Fault) -> bool {
     matches!(run(rt.alloc(), image, 10), Err(RunError::Fault(fault)) if fault == wanted)
 }
 
-/// The in-order run of a program and its machine come to this fault.
+/// Fails unless the in-order run of a program and its machine have this fault.
 fn is_told(rt: &HostRuntime, config: &Config, words: &[u32], wanted: Fault) -> Result<(), Fail> {
     let image = image_at_0(rt, words)?;
     holds(is_faulty(rt, &image, wanted), "another fault of the run")?;
     comes_to(&mut machine_of(rt, &image, config)?, wanted)
 }
 
-/// The machine of this configuration answers the faults of the in-order runs.
+/// Fails unless the machine of this configuration reports the faults of the in-order runs.
 fn are_told(rt: &HostRuntime, config: &Config) -> Result<(), Fail> {
     for (words, kind, pc) in &FAULTY {
         let wanted = Fault {
@@ -59,7 +59,7 @@ fn are_told(rt: &HostRuntime, config: &Config) -> Result<(), Fail> {
     Ok(())
 }
 
-/// On a wide machine the second of a cycle's instructions is told too.
+/// On a wide machine, a fault of a cycle's second instruction is reported too.
 #[test]
 fn of_each_kind(rt: HostRuntime) -> Result<(), Fail> {
     are_told(&rt, &machine_config([1; 6], [1; 4], 1)?)?;

@@ -1,4 +1,4 @@
-//! The machine beside the in-order run and the recurrence, on random programs.
+//! The machine compared with the in-order run and the recurrence, on random programs.
 
 ghost use Rattle.std.specs.Prelude.{◌≤◌};
 
@@ -48,8 +48,8 @@ impl Random {
         values[turn % values.len()]
     }
 
-    /// An instruction, to stand at an address. x6 keeps zero, x8 and x9 keep bases below 512; jumps
-    /// lead forward by two or three instructions.
+    /// A random instruction for an address. x6 keeps zero, x8 and x9 keep bases below 512; jumps go
+    /// forward by two or three instructions.
     fn instruction(&mut self, address: u32) -> u32 {
         let sources = self.data() << 15 | self.data() << 20;
         let dest = self.one_of(&[0, 10, 11, 12, 13, 14]) << 7;
@@ -126,7 +126,7 @@ fn field(older: &[Done], operand: Option<Operand>, cycle: u64) -> Field {
     }
 }
 
-/// What the station of a step shows after a cycle, while it is busy.
+/// The tables' entry for the station of a step after a cycle, while it is busy.
 fn shown(older: &[Done], d: &Done, cycle: u64) -> Option<Busy> {
     if cycle < d.at.issue || d.at.end <= cycle {
         return None;
@@ -149,7 +149,7 @@ fn shown(older: &[Done], d: &Done, cycle: u64) -> Option<Busy> {
     })
 }
 
-/// The busy stations after a cycle are those of the times.
+/// Fails unless the busy stations after a cycle are those of the times.
 fn agree_on_stations(tables: &Tables, steps: &[Done], cycle: u64) -> Result<(), Fail> {
     let mut count = 0usize;
     for i in 0..steps.len() {
@@ -166,7 +166,7 @@ fn agree_on_stations(tables: &Tables, steps: &[Done], cycle: u64) -> Result<(), 
     holds(found == count, "a station too many")
 }
 
-/// The tables after a cycle are those of the times.
+/// Fails unless the tables after a cycle are those of the times.
 fn agree(tables: &Tables, steps: &[Done], cycle: u64) -> Result<(), Fail> {
     agree_on_stations(tables, steps, cycle)?;
     for register in 0..32u8 {
@@ -176,8 +176,8 @@ fn agree(tables: &Tables, steps: &[Done], cycle: u64) -> Result<(), Fail> {
     holds(tables.cycle() == cycle, "tables of another cycle")
 }
 
-/// Advances by so many cycles and one, and says whether the machine answers and stops as it must, where the total is
-/// `all`.
+/// Advances by `by` cycles and one. True if the machine returns and stops as it must, given the
+/// total `all`.
 fn advances<A: Allocator>(machine: &mut Machine<A>, by: u32, all: u64) -> bool {
     let cycle = machine.cycle();
     if 1000000 < cycle || 1000000 < by {
@@ -188,8 +188,8 @@ fn advances<A: Allocator>(machine: &mut Machine<A>, by: u32, all: u64) -> bool {
     running == (to < all) && machine.cycle() == to.min(all)
 }
 
-/// Advances a machine by 1 to 200 cycles at a time, over cycles in which nothing happens too, and compares where each
-/// stops.
+/// Advances a machine by 1 to 200 cycles at a time, over cycles in which nothing happens too, and
+/// compares where each advance stops.
 fn compare_stops<A: Allocator>(
     machine: &mut Machine<A>,
     steps: &[Done],
@@ -309,7 +309,6 @@ static ROWS: [Row; 10] = [
     ([16; 6], MANY, OF_MANY, 8, 4),
 ];
 
-/// The configuration of a row.
 fn config_of_row(row: &Row) -> Result<Config, Fail> {
     let (stations, units, latencies, buses, width) = *row;
     let mut kinds = latencies.map(unit);
@@ -355,7 +354,8 @@ static FOUR: [u32; 6] = [
     0x00100513, 0x00250513, 0x02a505b3, 0x00358613, 0x00150513, 0x00100073,
 ];
 
-/// `addi x0,x10,1`; `fence`; `ecall`; `jal x0` to the next one; `bne x0,x0,8`; `sw x10,256(x0)`
+/// `addi x0,x10,1`; `fence`; `ecall`; `jal x0` to the next instruction; `bne x0,x0,8`; `sw
+/// x10,256(x0)`
 static OTHERS: [u32; 6] = [
     0x00150013, 0x0ff0000f, 0x00000073, 0x0040006f, 0x00001463, 0x10a02023,
 ];
@@ -374,12 +374,12 @@ fn compare_changed(
     compare_rows(rt, changed.as_slice(), WIDE_ROWS.as_slice(), random)
 }
 
-/// Four instructions that may issue in one cycle, with another one in the place of each in turn.
+/// Four instructions that may issue in one cycle, with another one in place of each in turn.
 #[test]
 fn each_slot_of_a_wide_cycle(rt: HostRuntime) -> Result<(), Fail> {
     let mut random = Random { state: 88172645 };
     for slot in 0..4 {
-        // jalr x5 to the next one
+        // jalr x5 to the next instruction
         let jalr = 0x000002e7 | (4 * slot as u32 + 4) << 20;
         compare_changed(&rt, slot, jalr, &mut random)?;
         for word in &OTHERS {

@@ -13,10 +13,10 @@ use tomex_rvdec::{PoolId, decode};
 use tomex_tests_fixtures::programs::PRODUCT_WORDS;
 use tomex_timing::{Busy, Field, Tables, Tag};
 
-/// What a station shows: its tag, the word of its instruction, both operands, and an address.
+/// The entry of a station: its tag, the word of its instruction, both operands, and an address.
 type Station = (Tag, u32, Field, Field, Option<u32>);
 
-/// Whether a busy station shows this.
+/// True if a busy station shows this.
 fn shows(busy: &Busy, station: &Station) -> Result<bool, Fail> {
     let (tag, word, j, k, a) = *station;
     let instr = decode(word).ok_or("no instruction")?;
@@ -30,7 +30,7 @@ fn shows(busy: &Busy, station: &Station) -> Result<bool, Fail> {
     Ok(*busy == wanted)
 }
 
-/// Whether these registers have a Qi, and no others.
+/// True if these registers have a Qi, and no others.
 fn await_these(registers: &[Option<Tag>; 32], status: &[(usize, Tag)]) -> bool {
     let mut qi = [None; 32];
     for (register, tag) in status {
@@ -41,7 +41,7 @@ fn await_these(registers: &[Option<Tag>; 32], status: &[(usize, Tag)]) -> bool {
     *registers == qi
 }
 
-/// The tables show these stations, in this order, and these registers with a Qi.
+/// Fails unless the tables show these stations, in this order, and these registers with a Qi.
 fn show(tables: &Tables, stations: &[Station], status: &[(usize, Tag)]) -> Result<(), Fail> {
     let mut wanted = stations.iter();
     for busy in tables.busy().iter().flatten() {
@@ -75,7 +75,7 @@ fn tables_after(
     }
 }
 
-/// What the tables of a program show after a cycle.
+/// A program, a cycle, and the tables after it.
 struct Shown {
     words: &'static [u32],
     pools: [u8; 6],
@@ -117,7 +117,7 @@ const BRU_0: Tag = Tag {
     number: 0,
 };
 
-/// A long multiplication, which waits for nothing.
+/// A long multiplication, which waits for no operand.
 const SLOW: Station = (MUL_0, WRITTEN_TWICE[0], Value(0), Value(65536), None);
 
 static SHOWN: [Shown; 7] = [
@@ -184,7 +184,7 @@ static SHOWN: [Shown; 7] = [
         ],
         status: &[(6, MUL_0)],
     },
-    // What issues beside its producers takes their tags.
+    // An instruction that issues in its producers' cycle takes their tags.
     Shown {
         words: &PRODUCT_WORDS,
         pools: TWO_ALU,
@@ -200,7 +200,7 @@ static SHOWN: [Shown; 7] = [
     },
 ];
 
-/// The tables of its program show what it says.
+/// Fails unless the tables of its program are these.
 fn compare(rt: &HostRuntime, shown: &Shown) -> Result<(), Fail> {
     let config = machine_config(shown.pools, shown.parts, shown.width)?;
     let tables = tables_after(rt, shown.words, &config, shown.cycle)?;
@@ -215,7 +215,7 @@ fn worked_tables(rt: HostRuntime) -> Result<(), Fail> {
     Ok(())
 }
 
-/// Whether the run goes on through a million ticks and one.
+/// True if the run continues through a million ticks and one.
 fn runs_on<A: Allocator>(machine: &mut Machine<A>) -> bool {
     for _ in 0..1000001 {
         if !matches!(tick(machine), Progress::Running) {
@@ -225,7 +225,7 @@ fn runs_on<A: Allocator>(machine: &mut Machine<A>) -> bool {
     true
 }
 
-/// A machine that knows a run before it makes it can't have this one: `jal x0,0` has no end.
+/// No machine can know this run in advance: `jal x0,0` has no end.
 #[test]
 fn a_jump_to_itself_runs_on(rt: HostRuntime) -> Result<(), Fail> {
     let config = machine_config([1; 6], [1; 4], 1)?;

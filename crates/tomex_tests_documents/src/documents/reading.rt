@@ -1,4 +1,4 @@
-//! Whole studies, with their programs' files: what they come to, and damaged ones.
+//! Whole studies, with their programs' files: their results, and damaged ones.
 
 use super::studies::{STUDY_L, STUDY_M};
 use std::alloc::Global;
@@ -9,7 +9,7 @@ use tomex_study::{Program, Study, WatchRange};
 use tomex_study_reader::{StudyError, file_names, read_study};
 use tomex_tests_fixtures::programs::{ELF, LOOP, PRODUCT};
 
-/// What a study and its files come to.
+/// The result of reading a study and its files.
 fn reading<R: AllocGlobal>(
     rt: &R,
     study: &[u8],
@@ -22,7 +22,7 @@ fn reading<R: AllocGlobal>(
     Ok(read_study(rt.alloc(), rt.alloc(), study, copies.as_slice()))
 }
 
-/// The text of the refusal of a study and its files, an empty one for a study that is read.
+/// The text of the refusal of a study and its files, empty for a study that is read.
 fn refusal<R: AllocGlobal>(rt: &R, study: &str, files: &[&[u8]]) -> Result<String, Fail> {
     match reading(rt, study.as_bytes(), files)? {
         Ok(_) => Ok(String::new(rt.alloc())),
@@ -35,7 +35,7 @@ const WHOLE: &str = "[[program]]\nname = \"first\"\nfile = \"a\"\nlimit = 4\nwat
     [prices]\nalu = 10\nmul = 100\nbus = 7\n[axes]\nalu = [2, 1]\nbuses = [2]\n\
     [[unit.mul]]\nprice = 50\n";
 
-/// Whether a row has so many alu stations and two buses.
+/// True if a row has this number of alu stations and two buses.
 fn is_row(row: Option<&Config>, stations: u8) -> bool {
     match row {
         Some(config) => config.stations(PoolId::Alu) == stations && config.buses() == 2,
@@ -43,7 +43,8 @@ fn is_row(row: Option<&Config>, stations: u8) -> bool {
     }
 }
 
-/// Whether a program has this name and limit, and this file's bytes in a window of this base and size.
+/// True if a program has this name and limit, and this file's bytes in a window of this base and
+/// size.
 fn is_program(program: &Program, name: &str, limit: u32, window: [u32; 2], file: &[u8]) -> bool {
     let image = program.image();
     program.name() == name
@@ -52,7 +53,7 @@ fn is_program(program: &Program, name: &str, limit: u32, window: [u32; 2], file:
         && image.memory().starts_with(file)
 }
 
-/// Whether its programs are what it says.
+/// True if its programs are as stated.
 fn are_its_programs(programs: &[Program]) -> bool {
     let watched = WatchRange {
         address: 8,
@@ -102,7 +103,7 @@ const LIMITED: &str = "[[program]]\nname = \"first\"\nfile = \"a\"\nlimit = 4\n\
 
 const ZEROS: &[u8; 4] = b"\x00\x00\x00\x00";
 
-/// The files of its programs, and the text of its refusal, an empty one where it is read.
+/// The files of its programs, and the text of its refusal, empty if it is read.
 static FAILING: [(&[u8], &[u8], &str); 7] = [
     (PRODUCT, PRODUCT, ""),
     (b"", ZEROS, "program first: image: empty"),
@@ -126,8 +127,8 @@ fn the_first_program_that_fails_is_named(rt: HostRuntime) -> Result<(), Fail> {
     Ok(())
 }
 
-/// The file with this byte at this place, and so many more program headers after the first one, each of them `apart`
-/// bytes of memory after the one before.
+/// The file with this byte at this place, and `more` program headers after the first one, each
+/// `apart` bytes of memory after the one before.
 fn elf_with(alloc: Global, place: usize, byte: u8, more: u8, apart: u8) -> Result<Vec<u8>, Fail> {
     let elf = ELF.as_slice();
     let mut file = elf[..84].to_vec(alloc)?;
@@ -144,8 +145,8 @@ fn elf_with(alloc: Global, place: usize, byte: u8, more: u8, apart: u8) -> Resul
     Ok(file)
 }
 
-/// A place in the file and the byte there, how many more segments there are, how far apart, and the text of the
-/// refusal, an empty one where it is read.
+/// A place in the file and the byte there, the number of further segments, their distance, and the
+/// text of the refusal, empty if it is read.
 static IMAGES: [(usize, u8, u8, u8, &str); 9] = [
     (0, 0x7f, 0, 0, ""),
     (18, 0x3e, 0, 0, "program a: image: not RISC-V"),
@@ -174,7 +175,7 @@ fn each_refusal_of_an_image_is_named(rt: HostRuntime) -> Result<(), Fail> {
     Ok(())
 }
 
-/// Whether two refusals of a study have one text.
+/// True if two refusals of a study have the same text.
 fn are_alike<R: AllocGlobal>(
     rt: &R,
     refused: &StudyError,
@@ -185,8 +186,8 @@ fn are_alike<R: AllocGlobal>(
     Ok(same && told.starts_with("study: "))
 }
 
-/// Whether a damaged study of one program is read with a file that runs, or refused by name as its document is without
-/// files.
+/// True if a damaged study of one program is read with a file that runs, or refused with the same
+/// text as its document without files.
 fn is_answered<R: AllocGlobal>(rt: &R, study: &[u8]) -> Result<bool, Fail> {
     let read = reading(rt, study, &[LOOP.as_slice()])?;
     match (read, file_names(rt.alloc(), rt.alloc(), study)) {

@@ -1,6 +1,6 @@
 //! Vectors computed by C programs that gcc compiled, in C's own arithmetic of 64 and 128 bits.
 
-/// Two operands, and what MUL, MULH, MULHSU, MULHU, DIV, DIVU, REM and REMU give of them.
+/// Two operands, and the results of MUL, MULH, MULHSU, MULHU, DIV, DIVU, REM and REMU on them.
 pub static PRODUCTS: [(u32, u32, [u32; 8]); 27] = [
     (
         0x00000000,
@@ -223,7 +223,8 @@ pub static PRODUCTS: [(u32, u32, [u32; 8]); 27] = [
 /// The word that is shifted.
 pub const SHIFTED: u32 = 0x9abc_def1;
 
-/// It shifted by 0, 1 and so on up to 31: to the left, to the right, and with its sign copied.
+/// That word, shifted by 0, 1 and so on up to 31: to the left, to the right, and with its sign
+/// copied.
 pub static SHIFTS: [[u32; 3]; 32] = [
     [0x9abcdef1, 0x9abcdef1, 0x9abcdef1],
     [0x3579bde2, 0x4d5e6f78, 0xcd5e6f78],

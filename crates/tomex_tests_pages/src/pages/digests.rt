@@ -8,7 +8,7 @@ use tomex_image::Image;
 use tomex_study::Program;
 use tomex_tests_fixtures::image_of;
 
-/// So many units of this latency.
+/// `units` units of this latency.
 fn units(units: u8, latency: u8) -> UnitOption {
     UnitOption {
         units,
@@ -35,7 +35,7 @@ fn page_of(
     Ok(animation(alloc, alloc, study, &program, 0, config, first, count)?)
 }
 
-/// Fails if a text hasn't this length and digest.
+/// Fails unless a text has this length and digest.
 fn is_digest(text: &[u8], length: usize, digest: u64) -> Result<(), Fail> {
     let mut hash = 0xcbf29ce484222325u64;
     for byte in text {
@@ -48,7 +48,7 @@ fn is_digest(text: &[u8], length: usize, digest: u64) -> Result<(), Fail> {
     }
 }
 
-/// Loads, a store that one of them waits for, and results that wait for the bus.
+/// Loads, a store for which one of them waits, and results that wait for the bus.
 #[test]
 fn a_run_from_its_first_cycle_on(rt: HostRuntime) -> Result<(), Fail> {
     let words = [
@@ -75,7 +75,7 @@ fn a_run_from_its_first_cycle_on(rt: HostRuntime) -> Result<(), Fail> {
     is_digest(text.as_slice(), 56674, 0x124d32afe1439734)
 }
 
-/// A long run, of which few steps are on the page.
+/// A long run, with few of its steps on the page.
 #[test]
 fn three_cycles_of_many(rt: HostRuntime) -> Result<(), Fail> {
     let words = [0x000010b7, 0xbb808093, 0xfff08093, 0xfe009ee3, 0x00100073];

@@ -1,6 +1,7 @@
-//! What all pages of the product have in common, as an independent implementation writes them.
+//! The parts that all pages of the product have in common, as an independent implementation writes
+//! them.
 
-/// Up to the title.
+/// The page up to the title.
 pub const HEAD: &str = "\
 <!DOCTYPE html>
 <html lang=\"en\">

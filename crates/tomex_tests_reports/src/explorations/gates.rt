@@ -4,10 +4,10 @@ use std::sync::atomic::{AtomicU64, Ordering};
 use std::thread;
 use tomex_sweep::Gate;
 
-/// Turns that a worker is held, at most.
+/// The most turns that a worker is held.
 const TURNS: u32 = 10_000_000;
 
-/// Waits until there were so many calls, and says whether there were.
+/// Waits until there were `wanted` calls; true if there were.
 fn wait_for(calls: &AtomicU64, wanted: u64) -> bool {
     for _ in 0..TURNS {
         if calls.load(Ordering::SeqCst) >= wanted {
@@ -18,7 +18,7 @@ fn wait_for(calls: &AtomicU64, wanted: u64) -> bool {
     false
 }
 
-/// Holds the first caller, whoever it is, until there is a second call.
+/// Holds the first caller until there is a second call.
 #[derive(Drop)]
 pub struct FirstWaits {
     calls: AtomicU64,
@@ -33,7 +33,7 @@ impl FirstWaits {
         }
     }
 
-    /// Whether the second call came while the first was held.
+    /// True if the second call came while the first was held.
     pub fn has_opened(&self) -> bool {
         self.opened.load(Ordering::SeqCst) == 1
     }
@@ -48,7 +48,7 @@ impl Gate for FirstWaits {
     }
 }
 
-/// Holds the call for row 0, whoever makes it, until so many calls for other rows came, from a row on.
+/// Holds the call for row 0 until there were a number of calls for other rows, from a row on.
 #[derive(Drop)]
 pub struct RowWaits {
     from: usize,
@@ -67,7 +67,7 @@ impl RowWaits {
         }
     }
 
-    /// Whether these calls came while row 0 was held, which was called for once.
+    /// True if these calls came while row 0 was held, and row 0 was called for once.
     pub fn has_opened(&self) -> bool {
         self.opened.load(Ordering::SeqCst) == 1
     }

@@ -1,4 +1,4 @@
-//! What a study's rows cost, how many cycles they take, and which of them dominate which, found out without a survey.
+//! The costs, cycles and dominations of a study's rows, computed without a survey.
 
 use std::alloc::{AllocError, Global};
 use std::test::Fail;
@@ -22,7 +22,7 @@ pub(super) fn totals_on(
     Ok(totals)
 }
 
-/// Cycles by program, each as often as its weight says.
+/// The weighted sum of the programs' cycles.
 fn weighed(programs: &[Program], totals: &[u64]) -> u64 {
     let mut cycles = 0u64;
     for (program, total) in programs.iter().zip(totals) {
@@ -31,7 +31,7 @@ fn weighed(programs: &[Program], totals: &[u64]) -> u64 {
     cycles
 }
 
-/// A price as it is stated, unless it is the one that is replaced.
+/// The stated price, unless it is the replaced one.
 fn price_now(price: Price, stated: u32, replaced: Option<(Price, u64)>) -> u64 {
     match replaced {
         Some((other, now)) if other == price => now,
@@ -39,7 +39,7 @@ fn price_now(price: Price, stated: u32, replaced: Option<(Price, u64)>) -> u64 {
     }
 }
 
-/// What the stations of a configuration cost.
+/// The cost of a configuration's stations.
 fn stations_cost(config: &Config, prices: &Prices, replaced: Option<(Price, u64)>) -> u64 {
     let mut cost = 0u64;
     for pool in PoolId::ALL {
@@ -49,7 +49,6 @@ fn stations_cost(config: &Config, prices: &Prices, replaced: Option<(Price, u64)
     cost
 }
 
-/// What its options cost.
 fn options_cost(config: &Config, replaced: Option<(Price, u64)>) -> u64 {
     let mut cost = 0u64;
     for unit in UnitId::ALL {
@@ -60,7 +59,7 @@ fn options_cost(config: &Config, replaced: Option<(Price, u64)>) -> u64 {
     cost
 }
 
-/// What a configuration costs, with this price replaced.
+/// The cost of a configuration with this price replaced.
 pub(super) fn cost(config: &Config, prices: &Prices, replaced: Option<(Price, u64)>) -> u64 {
     let bus = price_now(Price::Bus, prices.bus(), replaced);
     let width = price_now(Price::Width, prices.width(), replaced);
@@ -95,7 +94,7 @@ pub(super) fn repriced(
     Ok(FrontRow { cost, ..row })
 }
 
-/// True if a row costs no more than another and takes no more cycles, and is not its equal.
+/// True if a row costs no more than another and takes no more cycles, and isn't equal to it.
 pub(super) fn dominates(a: FrontRow, b: FrontRow) -> bool {
     a.cost <= b.cost && a.cycles <= b.cycles && (a.cost != b.cost || a.cycles != b.cycles)
 }

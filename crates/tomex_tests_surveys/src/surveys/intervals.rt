@@ -1,5 +1,5 @@
-//! A row of the front stays on it at exactly the prices of its interval: others are tried, and all rows' costs and
-//! dominations found out by hand.
+//! A row of the front stays on it at exactly the prices of its interval: other prices are tried,
+//! and all rows' costs and dominations computed by hand.
 
 ghost use Rattle.std.specs.Prelude.{◌≡◌};
 ghost use Rattle.tomex_row_runs.specs.StudyFront.{all_rows, front_of_study};
@@ -12,8 +12,8 @@ use tomex_pareto::FrontRow;
 use tomex_prices::{Price, PriceRange, interval_of, prices, rows_with};
 use tomex_study::Study;
 
-/// Values of a price to be tried: the ends of an interval and the values next to them, the least and the greatest, the
-/// stated one, and some at random.
+/// Values of a price to try: the ends of an interval and the values next to them, the least and the
+/// greatest, the stated one, and some at random.
 fn values(range: PriceRange, stated: u64, random: &mut Random) -> [u64; 12] {
     let PriceRange { least, most } = range;
     [
@@ -32,7 +32,7 @@ fn values(range: PriceRange, stated: u64, random: &mut Random) -> [u64; 12] {
     ]
 }
 
-/// True if a row is undominated with this price replaced. A rival that takes more cycles is not looked at.
+/// True if a row is undominated with this price replaced. Skips rivals that take more cycles.
 fn stays(
     study: &Study,
     plain: &[FrontRow],
@@ -70,7 +70,7 @@ fn is_exact(
     Ok(true)
 }
 
-/// True if that is so of this price for all rows of the front.
+/// True if that holds for this price and all rows of the front.
 fn are_exact(
     alloc: Global,
     study: &Study,
@@ -93,7 +93,7 @@ fn are_exact(
     Ok(true)
 }
 
-/// True if that is so of all prices of a study.
+/// True if that holds for all prices of a study.
 fn all_are_exact(
     alloc: Global,
     study: &Study,

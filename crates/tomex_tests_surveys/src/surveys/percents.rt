@@ -1,5 +1,5 @@
-//! All prices may be wrong by the percentage that is printed of a row, and not by one percent more: each rival is tried
-//! at the prices that are worst against it.
+//! All prices may be wrong by a row's printed percentage, and not by one percent more: each rival
+//! is tried at the prices that are worst against it.
 
 ghost use Rattle.std.specs.Prelude.{◌≡◌};
 ghost use Rattle.tomex_prices.specs.Prices.{prices_of};
@@ -15,7 +15,8 @@ use tomex_prices::{Price, percent, prices};
 use tomex_rvdec::{PoolId, UnitId};
 use tomex_study::Study;
 
-/// What a row and a rival cost if a price is multiplied by `up` if the row pays it more often, and else by `down`.
+/// The costs of a row and a rival if each price is multiplied by `up` if the row pays it more
+/// often, else by `down`.
 #[derive(Drop)]
 struct Worst {
     up: u64,
@@ -25,7 +26,7 @@ struct Worst {
 }
 
 impl Worst {
-    /// Adds a price that both pay as often as is said.
+    /// Adds a price that the two pay this often.
     fn pay(&mut self, price: u32, own: u8, rival: u8) {
         let factor = if own > rival { self.up } else { self.down };
         let price = factor.wrapping_mul(u64::from(price));
@@ -35,7 +36,6 @@ impl Worst {
             .wrapping_add(price.wrapping_mul(u64::from(rival)));
     }
 
-    /// Adds all options.
     fn pay_options(&mut self, own: &Config, rival: &Config) {
         for unit in UnitId::ALL {
             let (a, b) = (own.option(unit), rival.option(unit));
@@ -48,7 +48,7 @@ impl Worst {
         }
     }
 
-    /// Adds all that two configurations pay.
+    /// Adds all prices that two configurations pay.
     fn pay_all(&mut self, study: &Study, own: &Config, rival: &Config) {
         let prices = study.prices();
         for pool in PoolId::ALL {
@@ -64,7 +64,7 @@ impl Worst {
     }
 }
 
-/// True if a rival dominates a row if the prices are multiplied so.
+/// True if a rival dominates a row at prices multiplied like this.
 fn is_beaten_by(
     study: &Study,
     own: FrontRow,
@@ -92,7 +92,7 @@ fn is_beaten_by(
     Ok(by_hand::dominates(rival, own))
 }
 
-/// True if some rival does.
+/// True if some rival dominates a row at such prices.
 fn is_beaten(
     study: &Study,
     plain: &[FrontRow],
@@ -108,7 +108,7 @@ fn is_beaten(
     Ok(false)
 }
 
-/// True if this is the greatest percentage by which all prices may be wrong. 100 stands for all prices whatever.
+/// True if this is the greatest percentage by which all prices may be wrong. 100 means any prices.
 fn is_greatest(
     study: &Study,
     plain: &[FrontRow],
@@ -125,7 +125,7 @@ fn is_greatest(
     Ok(stays && is_beaten(study, plain, own, 101 + percent, 99 - percent)?)
 }
 
-/// True if what is printed of each row of a front is the greatest such percentage.
+/// True if the printed percentage of each row of a front is the greatest one.
 fn are_greatest(
     alloc: Global,
     study: &Study,

@@ -12,7 +12,7 @@ use tomex_pareto::FrontRow;
 use tomex_study::Study;
 use tomex_survey::Survey;
 
-/// What plain runs of a study's programs come to.
+/// The results of plain runs of a study's programs.
 #[derive(Drop)]
 struct PlainRuns {
     /// The programs' cycles, row after row.
@@ -37,7 +37,7 @@ impl PlainRuns {
         })
     }
 
-    /// True if a survey comes to these totals, rows and front.
+    /// True if a survey has these totals, rows and front.
     fn are_of(&self, totals: &[u64], survey: &Survey) -> bool {
         self.totals.as_slice() == totals
             && self.rows.as_slice() == survey.rows()
@@ -56,7 +56,7 @@ fn totals_in(alloc: Global, study: &Study, survey: &Survey) -> Result<Vec<u64>, 
     Ok(totals)
 }
 
-/// True if this number of workers finds out what plain runs come to.
+/// True if this number of workers gets the results of plain runs.
 fn finds_these<R: Threads + Sync>(
     rt: &R,
     alloc: Global,

@@ -14,7 +14,6 @@ const ACCESSES: [u32; 6] = [
     0x01000193, 0x01802083, 0x00302c23, 0xfff18193, 0xfe019ae3, 0x00100073,
 ];
 
-/// `ebreak`
 const EBREAK: u32 = 0x00100073;
 
 /// Units, latencies and prices of options: some differ in their price only, and some cost nothing.
@@ -147,7 +146,7 @@ impl Random {
         }
     }
 
-    /// 40 instructions with no branch.
+    /// 40 instructions without a branch.
     fn straight(&mut self, alloc: Global) -> Result<Vec<u32>, Fail> {
         let mut words = Vec::new(alloc);
         for _ in 0..40u32 {
@@ -157,7 +156,7 @@ impl Random {
         Ok(words)
     }
 
-    /// A loop of products, a loop of accesses, and instructions with no branch.
+    /// A loop of products, a loop of accesses, and instructions without a branch.
     fn programs(&mut self, alloc: Global) -> Result<Vec<Program>, Fail> {
         let weights = [u32::from(self.few()), u32::from(self.few())];
         let straight = self.straight(alloc)?;

@@ -1,5 +1,6 @@
-//! Several prices move at once, each by a share of its way to the end of its interval: the row stays on the front if the
-//! shares add up to no more than the whole, and may leave it if they add up to more.
+//! Several prices move at once, each by a share of the way to the end of its interval: the row
+//! stays on the front if the shares add up to no more than the whole, and may leave it if they add
+//! up to more.
 
 ghost use Rattle.std.specs.Prelude.{◌≡◌};
 ghost use Rattle.tomex_row_runs.specs.StudyFront.{all_rows, front_of_study};
@@ -14,10 +15,10 @@ use tomex_prices::{Price, PriceRange, interval_of, prices, rows_with};
 use tomex_rvdec::{PoolId, UnitId};
 use tomex_study::Study;
 
-/// A price, and what it is after a move.
+/// A price, and its value after a move.
 type Moved = (Price, u64);
 
-/// What a price is after the move.
+/// The value of a price after the move.
 fn price_after(moved: &[Moved], price: Price) -> u64 {
     for (other, now) in moved {
         if *other == price {
@@ -27,7 +28,7 @@ fn price_after(moved: &[Moved], price: Price) -> u64 {
     0
 }
 
-/// What a configuration costs after the move.
+/// The cost of a configuration after the move.
 fn cost_after(config: &Config, moved: &[Moved]) -> u64 {
     let bus = price_after(moved, Price::Bus);
     let mut cost = bus.wrapping_mul(u64::from(config.buses()));
@@ -64,7 +65,8 @@ fn stays(study: &Study, plain: &[FrontRow], row: FrontRow, moved: &[Moved]) -> R
     Ok(true)
 }
 
-/// A price that has moved by this percentage of its way to an end of its interval, to the greatest one if `up`.
+/// A price that has moved by this percentage of the way to an end of its interval, the greatest one
+/// if `up`.
 fn moved_by(stated: u64, range: PriceRange, up: bool, percent: u64) -> u64 {
     if up {
         let way = range.most.saturating_sub(stated);
@@ -118,7 +120,8 @@ fn move_of(
     Ok(moved)
 }
 
-/// At how many of 20 random moves, whose shares add up to at most this percentage, a row leaves the front.
+/// The number of 20 random moves, whose shares add up to at most this percentage, at which a row
+/// leaves the front.
 fn leaves(
     alloc: Global,
     study: &Study,
@@ -139,7 +142,8 @@ fn leaves(
     Ok(count)
 }
 
-/// How often rows of a front leave it: at moves of shares that add up to at most the whole, and at most to ten times it.
+/// How often rows of a front leave it: at moves of shares that add up to at most the whole, and to
+/// at most ten times the whole.
 fn all_leaves(
     alloc: Global,
     study: &Study,

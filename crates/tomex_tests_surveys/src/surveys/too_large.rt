@@ -10,8 +10,9 @@ use tomex_study::Study;
 use tomex_tests_fixtures::machines::{PLAIN, config_of, priced};
 use tomex_tests_fixtures::programs::PRODUCT_WORDS;
 
-/// This number of rows, all of which are on the front: they differ only in the prices of four options each, which no
-/// other row has, and the sum of these is the same. So relevant prices are four for each row.
+/// This number of rows, all of which are on the front: they differ only in the prices of four
+/// options each, which no other row has, and the sum of these is the same. So there are four
+/// relevant prices for each row.
 fn equals(alloc: Global, count: u32) -> Result<Study, Fail> {
     let mut rows = Vec::new(alloc);
     for price in 0..count.min(1_000) {
@@ -22,7 +23,7 @@ fn equals(alloc: Global, count: u32) -> Result<Study, Fail> {
     study_on(alloc, programs, rows, Prices::new([0; 6], 0, 0))
 }
 
-/// How many lines the table has of this number of equal rows, or none if it is too large.
+/// The number of lines in the table of this number of equal rows; `None` if it is too large.
 fn lines<R: Threads + Sync>(rt: &R, alloc: Global, count: u32) -> Result<Option<usize>, Fail> {
     let study = equals(alloc, count)?;
     let survey = surveyed(rt, alloc, &study, 2)?;
@@ -33,7 +34,7 @@ fn lines<R: Threads + Sync>(rt: &R, alloc: Global, count: u32) -> Result<Option<
     }
 }
 
-/// 257 rows have 257 times 1,028 intervals, which are more than 262,144.
+/// 257 rows have 257 times 1,028 intervals, more than 262,144.
 #[test]
 fn too_many_intervals_are_refused(rt: HostRuntime) -> Result<(), Fail> {
     assert!(rt; lines(&rt, rt.alloc(), 40)? == Some(42));

@@ -1,5 +1,5 @@
-//! The table of a machine of a full grid: a line for each row that differs from it in one list, and what is said of
-//! these rows is so.
+//! The table of a machine of a full grid: a line for each row that differs from it in one list, and
+//! the lines are true.
 
 use super::random::Random;
 use super::{by_hand, holds_for, surveyed};
@@ -33,7 +33,7 @@ fn grid(alloc: Global) -> Result<Vec<Config>, Fail> {
     Ok(rows)
 }
 
-/// In how many lists two of these rows differ.
+/// The number of lists in which two of these rows differ.
 fn differences(a: &Config, b: &Config) -> u8 {
     u8::from(a.stations(PoolId::Alu) != b.stations(PoolId::Alu))
         + u8::from(a.option(UnitId::Mul) != b.option(UnitId::Mul))
@@ -46,7 +46,7 @@ fn word(line: &str, place: usize) -> &str {
     line.split_whitespace().nth(place).unwrap_or("")
 }
 
-/// True if a text is how much a number is more than another, with its sign.
+/// True if a text is the difference `to - from`, with its sign.
 fn is_difference(text: &str, from: u64, to: u64) -> bool {
     match text.parse::<i64>() {
         Ok(difference) => from.checked_add_signed(difference) == Some(to),
@@ -68,7 +68,7 @@ fn is_rate(text: &str, own: FrontRow, other: FrontRow) -> bool {
     }
 }
 
-/// What the column `front` has of a row.
+/// The text of the column `front` for a row.
 fn front_word(plain: &[FrontRow], row: FrontRow) -> &'static str {
     if by_hand::is_undominated(plain, row) {
         "yes"
@@ -77,7 +77,7 @@ fn front_word(plain: &[FrontRow], row: FrontRow) -> &'static str {
     }
 }
 
-/// True if what a line says of a row is so.
+/// True if a line about a row is true.
 fn says_what_is_so(line: &str, plain: &[FrontRow], own: FrontRow, other: FrontRow) -> bool {
     line.split_whitespace().count() == COLUMNS
         && is_difference(word(line, 4), own.cost, other.cost)
@@ -99,7 +99,7 @@ fn is_machine(line: &str, plain: &[FrontRow], own: FrontRow) -> bool {
         && word(line, 8) == front_word(plain, own)
 }
 
-/// True if a line is of a row that differs from the machine in one list, and what it says is so.
+/// True if a line is about a row that differs from the machine in one list, and is true.
 fn is_right(study: &Study, plain: &[FrontRow], own: FrontRow, line: &str) -> Result<bool, Fail> {
     let row = word(line, 3).parse::<usize>()?;
     let other = *plain.get(row).ok_or("no such row")?;
@@ -108,7 +108,8 @@ fn is_right(study: &Study, plain: &[FrontRow], own: FrontRow, line: &str) -> Res
     Ok(differences(a, b) == 1 && says_what_is_so(line, plain, own, other))
 }
 
-/// True if that is so of all lines of a table after the machine's own, and there are as many as there are such rows.
+/// True if that holds for all lines of a table after the machine's own, and there are as many lines
+/// as such rows.
 fn is_table(study: &Study, plain: &[FrontRow], own: FrontRow, text: &str) -> Result<bool, Fail> {
     for line in text.lines().skip(2) {
         if !is_right(study, plain, own, line)? {

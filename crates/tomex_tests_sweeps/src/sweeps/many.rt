@@ -15,7 +15,7 @@ struct Counting<'a> {
 }
 
 impl<'a> Counting<'a> {
-    /// Whether each row was called for once.
+    /// True if each row was called for once.
     fn is_once_each(&self) -> bool {
         self.calls
             .iter()
@@ -31,7 +31,7 @@ impl<'a> Gate for Counting<'a> {
     }
 }
 
-/// So many counts of calls.
+/// A count of calls for each of `rows` rows.
 fn counts(alloc: Global, rows: usize) -> Result<Vec<AtomicU64>, AllocError> {
     let mut calls = Vec::new(alloc);
     for _ in 0..rows {
@@ -40,13 +40,13 @@ fn counts(alloc: Global, rows: usize) -> Result<Vec<AtomicU64>, AllocError> {
     Ok(calls)
 }
 
-/// Whether an outcome marks so many rows, the first of them as finished.
+/// True if an outcome marks `rows` rows, the first of them as finished.
 fn marks_all(outcome: &Outcome, rows: usize) -> bool {
     let is_finished = outcome.marks.first() == Some(&Mark::Finished(2000));
     is_finished && outcome.gathered == 0 && outcome.marks.len() == rows
 }
 
-/// Whether so many workers run each row of a study once, and finish the first.
+/// True if this number of workers runs each row of a study once, and finishes the first.
 fn is_run_once<R: AllocGlobal + Threads + Wait + Sync>(
     rt: &R,
     study: &Study,
@@ -61,7 +61,7 @@ fn is_run_once<R: AllocGlobal + Threads + Wait + Sync>(
     Ok(marks_all(&outcome, rows) && gate.is_once_each())
 }
 
-/// A row that may be dropped, equal rows, and one row alone.
+/// A row that may be dropped, equal rows, and a single row.
 static STUDIES: [&[(u8, u32)]; 3] = [&[(1, 5), (10, 9), (1, 9)], &[(1, 5); 7], &[(1, 5)]];
 
 #[test]

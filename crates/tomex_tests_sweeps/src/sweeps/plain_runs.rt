@@ -1,4 +1,4 @@
-//! Marks and fronts of random studies, beside those of plain runs of each row.
+//! Marks and fronts of random studies, compared with those of plain runs of each row.
 
 use super::random::Random;
 use super::{gives_front, gives_marks};
@@ -19,7 +19,8 @@ fn cycles_of(alloc: Global, program: &Program, config: &Config) -> Result<u64, F
     Ok(total(times(alloc, steps, config)?.as_slice()))
 }
 
-/// A row's cycles after a given number of them, from its programs' totals and their weights.
+/// A row's weighted cycles after it has made a number of them, from its programs' totals and their
+/// weights.
 fn weighed(totals: &[(u64, u64)], made: u64) -> u64 {
     let mut left = made;
     let mut sum = 0u64;
@@ -39,7 +40,7 @@ fn plain(totals: &[(u64, u64)]) -> u64 {
     sum
 }
 
-/// Whether a row is seen to be worse than that bound: it is looked at at each multiple of 1,024 cycles.
+/// True if a look at a row, at a multiple of 1,024 cycles, shows that it is worse than that bound.
 fn is_dropped(totals: &[(u64, u64)], all: u64, bound: u64) -> bool {
     for look in 1..1_000u64 {
         let made = look * 1024;
@@ -97,7 +98,7 @@ fn totals_of(
     Ok(totals)
 }
 
-/// The marks that one worker gives which runs each row.
+/// The marks that one worker gives by running each row.
 fn marks_of(alloc: Global, study: &Study) -> Result<Vec<Mark>, Fail> {
     let mut marks = Vec::new(alloc);
     for (config, cost) in study.rows().iter().zip(study.costs()) {
@@ -108,7 +109,7 @@ fn marks_of(alloc: Global, study: &Study) -> Result<Vec<Mark>, Fail> {
     Ok(marks)
 }
 
-/// Fails, and says which study it was, unless that is so.
+/// Fails, and names the study, if this is false.
 fn holds_for(turn: u32, is_so: bool) -> Result<(), Fail> {
     if is_so {
         return Ok(());
@@ -116,7 +117,7 @@ fn holds_for(turn: u32, is_so: bool) -> Result<(), Fail> {
     Err(Fail::new(format_args!("study {turn}")))
 }
 
-/// Whether one worker marks a study's rows as plain runs of them do.
+/// True if one worker marks a study's rows as plain runs of them do.
 fn is_marked_so<R: AllocGlobal + Threads + Wait + Sync>(
     rt: &R,
     study: &Study,
@@ -125,8 +126,8 @@ fn is_marked_so<R: AllocGlobal + Threads + Wait + Sync>(
     gives_marks(rt, study, 1, marks.as_slice())
 }
 
-/// Whether one worker marks 10 studies, random from this seed on, as plain runs do. A test that goes through more of
-/// them would take more than a minute before anything is proved.
+/// True if one worker marks 10 studies, random from this seed on, as plain runs do. A test of more
+/// studies would take more than a minute before anything is proved.
 fn marks_are_those_of_plain_runs<R: AllocGlobal + Threads + Wait + Sync>(
     rt: &R,
     seed: u32,
@@ -239,7 +240,7 @@ fn studies_191_to_200_are_marked_as_by_plain_runs(rt: HostRuntime) -> Result<(),
     marks_are_those_of_plain_runs(&rt, 69069)
 }
 
-/// Whether each number of workers gives the front of all rows.
+/// True if each number of workers gives the front of all rows.
 fn is_front_of_all<R: AllocGlobal + Threads + Wait + Sync>(
     rt: &R,
     study: &Study,
@@ -252,7 +253,8 @@ fn is_front_of_all<R: AllocGlobal + Threads + Wait + Sync>(
     Ok(same)
 }
 
-/// Whether any number of workers gives the front of all rows, on 5 studies, random from this seed on.
+/// True if any number of workers gives the front of all rows, on 5 studies, random from this seed
+/// on.
 fn fronts_are_those_of_all_rows<R: AllocGlobal + Threads + Wait + Sync>(
     rt: &R,
     seed: u32,

@@ -39,7 +39,7 @@ impl Random {
         }
     }
 
-    /// So many units, at a price that few others have.
+    /// An option, at a price that few others have.
     fn option(&mut self) -> UnitOption {
         UnitOption {
             units: self.few(),
@@ -48,7 +48,6 @@ impl Random {
         }
     }
 
-    /// The stations of each pool.
     fn stations(&mut self) -> [u8; 6] {
         [
             self.few(),
@@ -60,7 +59,7 @@ impl Random {
         ]
     }
 
-    /// The units of each kind, where those of branches are plain.
+    /// The units of each kind; those of branches are plain.
     fn units(&mut self) -> [UnitOption; 5] {
         [
             self.option(),
@@ -78,7 +77,6 @@ impl Random {
         config_of(stations, units, self.few(), self.few())
     }
 
-    /// So many rows.
     fn rows(&mut self, alloc: Global, count: u32) -> Result<Vec<Config>, Fail> {
         let mut rows = Vec::new(alloc);
         for _ in 0..count {

@@ -1,4 +1,4 @@
-//! A thread that is refused.
+//! A thread that can't be started.
 
 use super::study_of;
 use core::thread::Stack;
@@ -7,7 +7,7 @@ use std::test::Fail;
 use std::thread::Threads;
 use tomex_sweep::{OpenGate, Stacks, Study, SweepError, explore_on};
 
-/// No thread gets the stack that this worker asks for.
+/// Stacks, of which one worker's is too large for any thread.
 #[derive(Drop)]
 struct Absurd {
     worker: usize,
@@ -23,7 +23,7 @@ impl Stacks for Absurd {
     }
 }
 
-/// Whether so many workers, of whom this one's thread is refused, say so.
+/// True if this number of workers report that this one's thread is refused.
 fn is_told<R: AllocGlobal + Threads + Wait + Sync>(
     rt: &R,
     study: &Study,

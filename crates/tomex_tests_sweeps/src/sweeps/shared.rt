@@ -1,4 +1,4 @@
-//! Runs that rows share: how many programs are new to a worker on the rows that it takes.
+//! Runs that rows share: the number of programs that are new to a worker on the rows that it takes.
 
 use super::random::PRODUCTS;
 use super::{explored, program_of, study_on};
@@ -45,7 +45,7 @@ fn counted<R: AllocGlobal + Threads + Wait + Sync>(
     ])
 }
 
-/// A row with so many stations of dividers, and with so many dividers.
+/// A row with `stations` stations for divisions, and with `units` dividers.
 fn divided(stations: u8, units: u8) -> Result<Config, Fail> {
     let divider = UnitOption {
         units,
@@ -56,7 +56,7 @@ fn divided(stations: u8, units: u8) -> Result<Config, Fail> {
     config_of([1, 1, stations, 1, 1, 1], units, 1, 1)
 }
 
-/// Rows that differ in the dividers and their stations, of which a loop of products has no use.
+/// Rows that differ in the dividers and their stations, which a loop of products doesn't use.
 fn dividers(alloc: Global, counts: u8) -> Result<Vec<Config>, Fail> {
     let mut rows = Vec::new(alloc);
     for stations in 1..=counts {
@@ -75,8 +75,8 @@ fn divided_study(alloc: Global, counts: u8) -> Result<Study, Fail> {
     study_on(alloc, vec![in alloc; products, plain]?, rows)
 }
 
-/// Each of two programs is evaluated once if only a part differs that neither uses, and each row has its turn, however
-/// few they are.
+/// Each of two programs is evaluated once if only a part differs that neither uses, and each row
+/// has its turn.
 #[test]
 fn rows_that_cannot_differ_share_a_run(rt: HostRuntime) -> Result<(), Fail> {
     assert!(rt; counted(&rt, &divided_study(rt.alloc(), 16)?)? == [64, 2]);

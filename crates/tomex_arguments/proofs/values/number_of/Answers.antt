@@ -1,5 +1,6 @@
--- The number is that of the text in the rows, and it is the only one that may be.
-use Rattle.std.proofs.Common.{◌≡◌, ◌≤◌, ◌∙◌, ap, sym, subst, refl, arith, ℕ, List, Option, Some, None, Ok, Err, Result, rules}
+-- The number is that of the text in the rows, and it is the only possible one.
+use Rattle.std.proofs.Common.{◌≡◌, ◌≤◌, ◌∙◌, ap, sym, subst, refl, arith, ℕ, List, Option, Some, None, Ok, Err}
+use Rattle.std.proofs.Common.{Result, rules}
 use Rattle.std.specs.Str.Parse.{ParsesUnsigned, ExplainsUnsignedError, HasUnsignedDigitsIfOk}
 use Rattle.std.specs.declared.num.ParseIntError.{ParseIntError}
 use Rattle.clap.specs.Words.{ReadsOne, Row, found_of, one_text}
@@ -39,12 +40,12 @@ returns-in-Some-clause-number c =
     c.get_one.result c.in-Some.number c.get_one.ensures.none
     c.get_one.ensures.value c.in-Some.is (search rules) (search rules)
 
--- a text is read as no more than one number
+-- a text is read as at most one number
 one_number : (text : List ℕ) (m n : ℕ) → ParsesUnsigned {E = ParseIntError} 32 10 text (Ok m)
     → ParsesUnsigned {E = ParseIntError} 32 10 text (Ok n) → m ≡ n
 one_number text m n a b = a.1 ∙ sym b.1
 
--- where the library reads a text as no number, it is none
+-- if the library doesn't read a text as a number, it isn't one
 no_number : (text : List ℕ) (e : ParseIntError) (n : ℕ) → ParsesUnsigned {E = ParseIntError} 32 10 text (Err e)
     → ParsesUnsigned {E = ParseIntError} 32 10 text (Ok n) → ⊥
 no_number text e n a b = a b.0
@@ -56,7 +57,7 @@ within_bounds rows id least greatest number (t, found, parses, from, to) = (from
 some_is : {m n : ℕ} → Some m ≡ Some n → m ≡ n
 some_is e = cc
 
--- the number that stands in the rows is the one that was read
+-- the number in the rows is the one that was read
 number_is : (f : Found) (id : Text) (least greatest : ℕ) (read : Option ℕ) (number : ℕ)
     → (one_text f id ≡ None → read ≡ None)
     → ((t : List ℕ) → one_text f id ≡ Some t → ReadsOne Gives t read)

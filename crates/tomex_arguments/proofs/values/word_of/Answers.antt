@@ -1,4 +1,4 @@
--- The word stands in the rows.
+-- The word is in the rows.
 use Rattle.std.proofs.Common.{◌∙◌, ap, sym, option_map}
 use Rattle.clap.specs.Words.{found_of}
 use Rattle.clap.proofs.WalkLemmas.{first_value-rows}

@@ -1,4 +1,4 @@
--- The words stand in the rows.
+-- The words are in the rows.
 use Rattle.std.proofs.Common.{◌≡◌, ◌∙◌, ◌++◌, ap, sym, refl, codes, List, [], ◌∷◌, Some, map, option_map}
 use Rattle.std.specs.Borrow.{Bor}
 use Rattle.std.specs.List.{flat_map, join_by}

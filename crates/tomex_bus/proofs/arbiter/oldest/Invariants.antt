@@ -2,7 +2,7 @@ use Rattle.std.proofs.Common.{ℕ, ◌≡◌, ◌<◌, ◌≤◌, true, slice_in
 use Rattle.tomex_sets.specs.Sets.{has}
 use Rattle.tomex_bus.proofs.arbiter.oldest.Given as goal
 
--- no member that was looked at is older
+-- no visited member is older
 abbrev pub invariant-members : goal.invariant-members
 invariant-members l = record {
   below : l.best < 128;

@@ -1,4 +1,4 @@
--- A product that is above the limit stays above it, since no length to come is 0.
+-- A product that is above the limit stays above it, since no remaining length is 0.
 use Rattle.std.proofs.Common.{get_or, arith}
 use Rattle.std.proofs.Math.Nat.{mul-le-mul_right, mul-le-mul}
 use Rattle.tomex_config.proofs.Lengths.{product_positive, splits, too_many}

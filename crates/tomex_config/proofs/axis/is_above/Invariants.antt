@@ -1,4 +1,4 @@
--- The configurations so far aren't too many, and no length to come is 0.
+-- The configurations so far aren't too many, and no remaining length is 0.
 use Rattle.std.proofs.Common.{◌≡◌, ◌*◌, ◌≤◌, false, drop}
 use Rattle.tomex_config.specs.Grid.{product, has_zero}
 use Rattle.tomex_config.proofs.axis.is_above.Given as goal

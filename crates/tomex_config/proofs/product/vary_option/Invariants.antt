@@ -1,4 +1,4 @@
--- The configurations so far, and of the configuration at hand the values so far.
+-- The configurations so far, and the current configuration with the values so far.
 use Rattle.std.proofs.Common.{◌≡◌, ◌++◌, take, map}
 use Rattle.tomex_config.specs.Configuration.{with_option}
 use Rattle.tomex_config.specs.Vary.{vary}

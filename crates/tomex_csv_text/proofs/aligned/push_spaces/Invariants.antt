@@ -1,4 +1,4 @@
--- The spaces to come.
+-- The remaining spaces.
 use Rattle.std.proofs.Common.{◌≡◌, ◌++◌, codes}
 use Rattle.std.specs.Prelude.{string_bytes}
 use Rattle.std.specs.List.{repeat}

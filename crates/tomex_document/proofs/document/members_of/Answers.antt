@@ -1,4 +1,4 @@
--- What the reader of TOML promises, in the words of the definition.
+-- What the contract of the TOML parser says, in the words of the definition.
 use Rattle.std.proofs.Common.{◌≡◌, List, ℕ, refl, inl, inr, None, Some, Ok, Err}
 use Rattle.std.proofs.lemmas.Bool.{cases_Bool, false≢true}
 use Rattle.std.proofs.lemmas.Str.{is_utf8-from_IsUtf8, IsUtf8-from_is_utf8}

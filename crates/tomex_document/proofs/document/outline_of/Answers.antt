@@ -6,7 +6,7 @@ use Rattle.tomex_values.proofs.Outcomes.{goes_on, stops}
 use Rattle.tomex_values.specs.Readings.{Gives, Reading, ◌>>=◌}
 use Rattle.tomex_document.proofs.document.outline_of.Goals as goal
 
--- what the rest gives is what the whole gives
+-- the whole gives what the rest gives
 rest_gives : {X Y Z : Type 0} (view : Z → Y) (result : Reading Z) (reading : Reading X) (next : X → Reading Y) (x : X)
     → reading ≡ Ok x → Gives view result (next x) → Gives view result (reading >>= next)
 rest_gives view result reading next x given rest = rw given rest

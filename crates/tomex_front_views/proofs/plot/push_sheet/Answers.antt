@@ -1,4 +1,4 @@
--- One piece after the other.
+-- One piece after another.
 use Rattle.std.specs.Prelude.{codes, string_bytes}
 use Rattle.tomex_csv_text.proofs.Pieces.{joined}
 use Rattle.tomex_front_views.specs.Plot.{sheet, title_place, white_sheet}

@@ -1,4 +1,4 @@
--- One step more is gathered.
+-- One more step is gathered.
 use Rattle.std.proofs.Common.{None, refl, rules, ◌<◌, ap, ◌∙◌}
 use Rattle.std.specs.Option.{ForSome}
 use Rattle.tomex_konata.specs.Kept.{written_in}

@@ -1,4 +1,4 @@
--- What is gathered behind the steps so far.
+-- The entries that are gathered after the steps so far.
 use Rattle.tomex_konata.proofs.Steps.{AreGathered}
 use Rattle.tomex_konata.proofs.entries.entries_of.Given as goal
 

@@ -1,4 +1,4 @@
--- The changes of one step more.
+-- The changes of one more step.
 use Rattle.std.proofs.Common.{◌∙◌, ◌++◌, List, ap}
 use Rattle.std.specs.List.{flat_map}
 use Rattle.std.proofs.lemmas.List.{take_all}

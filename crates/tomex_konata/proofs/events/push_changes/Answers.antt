@@ -1,4 +1,4 @@
--- One cycle more.
+-- One more cycle.
 use Rattle.std.proofs.Common.{refl, sym, ap, arith, ◌∙◌}
 use Rattle.tomex_konata.proofs.Turns.{all_changed, change_again, change_once}
 use Rattle.tomex_konata.proofs.events.push_changes.Goals as goal

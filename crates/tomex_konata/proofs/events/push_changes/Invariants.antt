@@ -1,4 +1,4 @@
--- The changes so far, and those of the cycles to come.
+-- The changes so far, and those of the remaining cycles.
 use Rattle.std.proofs.Common.{◌≡◌, ◌++◌, drop, map}
 use Rattle.tomex_konata.specs.Kept.{change_cycles, change_in, changes_of, once}
 use Rattle.tomex_konata.proofs.events.push_changes.Given as goal

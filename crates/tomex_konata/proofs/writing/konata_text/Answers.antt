@@ -1,4 +1,4 @@
--- The steps shown are those that were asked for, within the limits of an excerpt.
+-- The steps shown are the requested ones, within the limits of an excerpt.
 use Rattle.std.proofs.Common.{arith, rules}
 use Rattle.tomex_konata.proofs.Bounds.{logged}
 use Rattle.tomex_konata.proofs.writing.konata_text.Goals as goal

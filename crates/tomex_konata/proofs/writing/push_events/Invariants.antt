@@ -1,4 +1,4 @@
--- The text so far, and that of the events to come. No more steps have gone out than there were events.
+-- The text so far, and that of the remaining events. No more steps have gone out than there were events.
 use Rattle.std.proofs.Common.{◌≡◌, ◌≤◌, ◌++◌, drop}
 use Rattle.std.specs.Prelude.{string_bytes}
 use Rattle.tomex_konata.specs.Kept.{written}

@@ -6,7 +6,7 @@ use Rattle.tomex_lanes.proofs.Dealing.{set_same}
 use Rattle.std.proofs.lemmas.Result.{on_ok_weaker}
 use Rattle.tomex_lanes.proofs.lanes.connect.Goals as goal
 
--- the victim's lane is written back as it was, and the thief's with one list more
+-- the victim's lane is written back unchanged, and the thief's with one more list
 pub returns : goal.returns
 returns g c = λ thief victim mine theirs.
     let items : List Dealt = c.args.lanes.now.items in

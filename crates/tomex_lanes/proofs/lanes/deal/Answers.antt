@@ -1,4 +1,4 @@
--- One lane more; and each lane is connected to all others, one after another.
+-- One more lane; and each lane is connected to all others, one after another.
 use Rattle.std.proofs.Common.{◌≡◌, ◌<◌, ◌+◌, ◌-◌, ◌%◌, ◌++◌, ◌∷◌, [], ℕ, suc, ap, ◌∙◌, sym, subst, length, All, Some}
 use Rattle.std.proofs.Common.{arith, refl}
 use Rattle.std.specs.Prelude.{slice_get, slice_set}

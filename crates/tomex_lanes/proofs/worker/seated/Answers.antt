@@ -1,4 +1,4 @@
--- One more seat is split off; the last lane gets the seat at hand.
+-- One more seat is split off; the last lane gets the current seat.
 use Rattle.std.proofs.Common.{◌≡◌, ◌≤◌, ◌<◌, length, rules, arith}
 use Rattle.std.specs.Vec.Iter.{into_iter_items}
 use Rattle.tomex_lanes.proofs.Seating.{none_dealt, can_split, next_dealt, all_dealt}

@@ -1,4 +1,4 @@
--- So many seats were split off, each with one number; the seat has the others.
+-- Seats were split off, each with one number; the seat has the others.
 use Rattle.std.specs.Vec.Iter.{into_iter_items}
 use Rattle.tomex_lanes.proofs.Seating.{IsDealing}
 use Rattle.tomex_lanes.proofs.worker.seated.Given as goal

@@ -1,7 +1,7 @@
 use Rattle.tomex_membuf.proofs.Older.{AreLooked}
 use Rattle.tomex_membuf.proofs.order.passes.Given as goal
 
--- the older ones that were looked at let it
+-- the older ones that were visited let it pass
 abbrev pub invariant-members : goal.invariant-members
 invariant-members l = AreLooked l.pools.slots l.pools.issue_numbers l.issue_number l.rest l.station l.cycle
 

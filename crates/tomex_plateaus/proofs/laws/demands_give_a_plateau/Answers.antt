@@ -1,4 +1,4 @@
--- A configuration on the plateau serves the run as its own configuration does.
+-- A configuration on the plateau gives the run the same cycles as its own.
 use Rattle.tomex_plateaus.proofs.Telling.{own_lies_on, total_of_plateau}
 use Rattle.tomex_plateaus.proofs.laws.demands_give_a_plateau.Goals as goal
 

@@ -1,4 +1,4 @@
--- The relevant ones of the prices so far, and those of options that only rows to come have.
+-- The relevant ones of the prices so far, and those of options that only remaining rows have.
 use Rattle.std.proofs.Common.{◌≡◌, ◌+◌, ◌≤◌, drop, length, map, take}
 use Rattle.std.specs.List.{filter}
 use Rattle.tomex_prices.specs.Prices.{choices_of, is_relevant}

@@ -1,4 +1,4 @@
--- At the end no rivals are to come; a row stays at exactly the prices between the ends.
+-- At the end no rivals remain; a row stays at exactly the prices between the ends.
 use Rattle.std.proofs.Common.{refl}
 use Rattle.std.proofs.lemmas.List.{drop_all}
 use Rattle.tomex_prices.proofs.SoFar.{ends_at_first, ends_at_last}

@@ -1,4 +1,4 @@
--- The ends so far, and those of the rivals to come, are those of all.
+-- The ends so far, with those of the remaining rivals, are those of all.
 use Rattle.std.proofs.Common.{drop}
 use Rattle.tomex_prices.proofs.SoFar.{AreEndsOf}
 use Rattle.tomex_prices.proofs.intervals.interval.Given as goal

@@ -1,4 +1,4 @@
--- What the prices so far add up to.
+-- The sum of the prices so far.
 use Rattle.std.proofs.Common.{◌≡◌, ◌*◌, ◌≤◌, ◌^◌, sum_by, take}
 use Rattle.std.specs.Int.{abs_diff}
 use Rattle.tomex_prices.specs.Price.{paid, stated}

@@ -1,4 +1,4 @@
--- At first no percentage is above 100; rivals are rows of the study.
+-- No percentage is above 100 at first; rivals are rows of the study.
 use Rattle.std.proofs.Common.{arith, ◌≤◌}
 use Rattle.tomex_prices.proofs.AllRows.{rows_within}
 use Rattle.tomex_prices.proofs.LeastPercent.{percent_few}

@@ -1,4 +1,4 @@
--- The least of the rivals so far, and of those to come.
+-- The least of the rivals so far, and of the remaining ones.
 use Rattle.std.proofs.Common.{◌≡◌, ◌≤◌, drop}
 use Rattle.std.specs.Prelude.{min}
 use Rattle.tomex_prices.specs.Percent.{least_percent}

@@ -1,4 +1,4 @@
--- There is a row for each configuration; one row more.
+-- There is a row for each configuration; one more row.
 use Rattle.std.proofs.Common.{◌<◌, arith, length}
 use Rattle.tomex_pareto.specs.declared.front_row.FrontRow.{FrontRow}
 use Rattle.tomex_row_runs.specs.Cycles.{cycles_of}

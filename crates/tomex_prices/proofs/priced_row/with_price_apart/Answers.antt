@@ -1,4 +1,4 @@
--- A cost is what it is without the price, and the price as often as it is paid.
+-- A cost is the cost without the price, plus the price as often as it is paid.
 use Rattle.std.proofs.Common.{◌≡◌, ◌∙◌, ◌+◌, ◌-◌, ◌*◌, ℕ, arith, ap, refl, sym}
 use Rattle.tomex_config.specs.Configuration.{Configuration, IsWithinLimits}
 use Rattle.tomex_config.specs.Cost.{IsPriceList, PriceList, cost_of}

@@ -1,4 +1,4 @@
--- The prices so far, and those of options that only rows to come have.
+-- The prices so far, and those of options that only remaining rows have.
 use Rattle.std.proofs.Common.{◌≡◌, ◌++◌, drop, map, take}
 use Rattle.tomex_prices.specs.declared.price.Price.TheVariants.{Choice}
 use Rattle.tomex_prices.specs.Prices.{choices_of}

@@ -1,4 +1,4 @@
--- The entries so far, and those to come.
+-- The entries so far, and the remaining ones.
 use Rattle.std.proofs.Common.{◌≡◌, ◌∷◌, ◌++◌, drop, map}
 use Rattle.std.specs.Fmt.{decimal}
 use Rattle.tomex_prices.specs.PricesTable.{name_of_heading, now_under, number_under}

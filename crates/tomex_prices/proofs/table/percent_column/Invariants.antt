@@ -1,4 +1,4 @@
--- The entries so far, and those to come.
+-- The entries so far, and the remaining ones.
 use Rattle.std.proofs.Common.{◌≡◌, ◌∷◌, ◌++◌, drop, map}
 use Rattle.std.specs.Prelude.{codes}
 use Rattle.tomex_prices.specs.Percent.{percent_of, percent_text}

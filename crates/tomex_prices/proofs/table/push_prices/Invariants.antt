@@ -1,4 +1,4 @@
--- The columns so far, and those to come.
+-- The columns so far, and the remaining ones.
 use Rattle.std.proofs.Common.{◌≡◌, ◌++◌, drop, map}
 use Rattle.tomex_prices.specs.PricesTable.{price_column}
 use Rattle.tomex_prices.proofs.table.push_prices.Given as goal

@@ -1,4 +1,4 @@
--- The line of one more.
+-- The line of one more refusal.
 use Rattle.std.proofs.Common.{ap, List, ℕ, ◌++◌, refl}
 use Rattle.std.specs.List.{flat_map}
 use Rattle.tomex_refusals.specs.Refusals.{all_refusals, line_of, refusal_lines}

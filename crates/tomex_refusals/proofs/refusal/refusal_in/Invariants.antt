@@ -1,4 +1,4 @@
--- What is first among the refusals to come is first among all.
+-- The first among the remaining refusals is the first of all.
 use Rattle.tomex_refusals.specs.Refusals.{all_refusals}
 use Rattle.tomex_refusals.proofs.Found.{IsFirstFrom}
 use Rattle.tomex_refusals.proofs.refusal.refusal_in.Given as goal

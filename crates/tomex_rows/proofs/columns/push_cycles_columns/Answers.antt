@@ -1,4 +1,4 @@
--- One program's column more.
+-- One more program's column.
 use Rattle.tomex_rows.specs.RowsReport.{cycles_column}
 use Rattle.tomex_rows.proofs.Lines.{one_column}
 use Rattle.tomex_rows.proofs.columns.push_cycles_columns.Goals as goal

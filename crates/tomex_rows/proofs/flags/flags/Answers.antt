@@ -1,4 +1,4 @@
--- One row more is flagged.
+-- One more row is flagged.
 use Rattle.tomex_rows.proofs.Flagged.{all_flagged, none_flagged, one_flagged}
 use Rattle.tomex_rows.proofs.flags.flags.Goals as goal
 

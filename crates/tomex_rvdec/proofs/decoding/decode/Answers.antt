@@ -1,4 +1,4 @@
--- What the table's rows give is the table as a function.
+-- The table's rows give the same as the table as a function.
 use Rattle.std.proofs.Common.{◌≡◌, ℕ, ◌<◌, ◌^◌, Option, Some, None, IfSome, IfNone, sym}
 use Rattle.tomex_rvdec.specs.Instruction.{Instruction}
 use Rattle.tomex_rvdec.specs.Meaning.{Means, meaning}

@@ -1,4 +1,4 @@
--- A step goes on, ends the run or faults, and is the next of those that the run has.
+-- A step continues, ends the run or faults, and is the next one of the run's list.
 use Rattle.std.proofs.Common.{◌≡◌, ◌++◌, ◌∙◌, ap, subst, sym, arith}
 use Rattle.std.proofs.lemmas.List.{length_push}
 use Rattle.tomex_rvexec.specs.Machine.{Goes, State, step_of}

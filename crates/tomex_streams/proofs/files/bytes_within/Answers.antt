@@ -1,15 +1,15 @@
--- What was read within the limit is all that there was.
+-- The bytes that were read within the limit are all bytes of the file.
 use Rattle.std.proofs.Common.{◌≡◌, ◌≤◌, ◌+◌, ◌∙◌, ap, subst, ℕ, List, [], ◌++◌, length, take, Option, Some, None}
 use Rattle.std.proofs.Common.{IfSome, arith, rules}
 use Rattle.std.proofs.lemmas.Grind.{common_steps}
 use Rattle.std.specs.Option.{option_map}
 use Rattle.tomex_streams.proofs.files.bytes_within.Goals as goal
 
--- fewer than were asked for are all
+-- fewer bytes than requested are all bytes
 all_of_few : (most : ℕ) (held got : List ℕ) → got ≡ take (most + 1) held → length got ≤ most → got ≡ held
 all_of_few most held got e few = grind (arith, common_steps)
 
--- the same of what is known, where nothing stood in front
+-- the same for known bytes, if nothing came before
 all_that_was : (known : Option (List ℕ)) (most limit : ℕ) (front got : List ℕ) → limit ≡ most + 1 → front ≡ []
     → IfSome (option_map (take limit) known) (λ xs. got ≡ front ++ xs) → length got ≤ most
     → IfSome known (λ held. got ≡ held)

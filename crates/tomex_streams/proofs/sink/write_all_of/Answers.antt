@@ -1,4 +1,4 @@
--- A put that took something leads on from what was written so far.
+-- A put that took something continues what was written so far.
 use Rattle.std.proofs.Common.{rules, ◌∙◌}
 use Rattle.tomex_streams.proofs.Pieces.{take-then_take, appends_both}
 use Rattle.tomex_streams.proofs.sink.write_all_of.Goals as goal

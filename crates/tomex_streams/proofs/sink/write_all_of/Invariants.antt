@@ -1,4 +1,4 @@
--- The loop of `write_all_of`: what was written so far.
+-- The loop of `write_all_of`: the bytes that were written so far.
 use Rattle.std.proofs.Common.{length, ◌-◌, ◌≡◌, ◌≤◌, take, ℕ, List, Option}
 use Rattle.std.specs.Io.KnownBytes.{Appends}
 use Rattle.tomex_streams.proofs.sink.write_all_of.Given as goal

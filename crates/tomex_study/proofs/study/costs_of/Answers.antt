@@ -1,4 +1,4 @@
--- One configuration more has its cost, and says of itself that it is within the limits.
+-- One more configuration has its cost, and its law says that it is within the limits.
 use Rattle.std.proofs.Common.{◌∙◌, ap, map}
 use Rattle.std.proofs.lemmas.List.{take_all}
 use Rattle.tomex_config.specs.Configuration.{Configuration, IsWithinLimits}

@@ -1,4 +1,4 @@
--- The costs so far, and that their configurations are within the limits.
+-- The costs so far; their configurations are within the limits.
 use Rattle.std.proofs.Common.{◌≡◌, All, map, take}
 use Rattle.tomex_config.specs.Configuration.{IsWithinLimits}
 use Rattle.tomex_config.specs.Cost.{cost_of}

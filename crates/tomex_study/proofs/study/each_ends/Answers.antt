@@ -1,4 +1,4 @@
--- Each program says of itself that it ends.
+-- Each program's law says that it ends.
 use Rattle.tomex_study.specs.Program.{IsProgram}
 use Rattle.tomex_study.proofs.Each.{one_more, all_of}
 use Rattle.tomex_study.proofs.study.each_ends.Goals as goal

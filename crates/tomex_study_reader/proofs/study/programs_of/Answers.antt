@@ -1,4 +1,4 @@
--- The files before the one at hand are programs; it is one more, or the first that is refused.
+-- The files before the current one are programs; it is one more, or the first that is refused.
 use Rattle.tomex_study_reader.proofs.Studies.{all_programs, first_refusal, item_is, pushed, seen_is}
 use Rattle.tomex_study_reader.proofs.study.programs_of.Goals as goal
 

@@ -1,4 +1,4 @@
--- A document has 1 to 8 programs, and its files are as many.
+-- A document has 1 to 8 programs, and as many files.
 use Rattle.std.proofs.Common.{◌∙◌, ap, arith, length, inl, refl}
 use Rattle.std.proofs.lemmas.List.{length-map}
 use Rattle.std.proofs.lemmas.Result.{err_from_is_err_and}

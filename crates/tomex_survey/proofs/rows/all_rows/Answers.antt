@@ -1,4 +1,4 @@
--- One row more, whose cycles are the weighed sum of its totals.
+-- One more row, whose cycles are the weighted sum of its totals.
 use Rattle.std.proofs.Common.{◌≡◌, ◌<◌, ◌≤◌, ◌∙◌, ap, arith, get_or, length, subst, sym, take, All, List, ℕ, []}
 use Rattle.tomex_config.specs.Configuration.{plain}
 use Rattle.tomex_row_runs.specs.Cycles.{cycles_on, totals_on}

@@ -1,4 +1,4 @@
--- The rows so far, and those to come.
+-- The rows so far, and the remaining ones.
 use Rattle.std.proofs.Common.{◌≡◌, ◌++◌, drop}
 use Rattle.tomex_pareto.specs.Front.{rows_from}
 use Rattle.tomex_row_runs.specs.Cycles.{cycles_of}

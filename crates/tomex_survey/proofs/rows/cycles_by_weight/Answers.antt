@@ -1,4 +1,4 @@
--- One program's cycles more, which are small.
+-- One more program's cycles, which are small.
 use Rattle.std.proofs.Common.{◌≡◌, arith, length, refl, sym}
 use Rattle.tomex_row_runs.proofs.Totals.{as_many_totals, no_cycles}
 use Rattle.tomex_survey.proofs.Weighing.{all_weighed, one_weighed, weighed_small}

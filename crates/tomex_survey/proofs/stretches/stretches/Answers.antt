@@ -1,4 +1,4 @@
--- One worker's stretch more.
+-- One more worker's stretch.
 use Rattle.std.proofs.Common.{All, refl, rules, subst, sym}
 use Rattle.std.proofs.lemmas.List.Elements.{All-push}
 use Rattle.tomex_survey.specs.Stretches.{IsWithin}

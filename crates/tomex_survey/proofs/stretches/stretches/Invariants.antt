@@ -1,4 +1,4 @@
--- The stretches so far, and those of the workers to come.
+-- The stretches so far, and those of the remaining workers.
 use Rattle.std.proofs.Common.{◌≡◌, ◌-◌, ◌++◌, All, map}
 use Rattle.std.specs.List.{range_with_len}
 use Rattle.tomex_survey.specs.Stretches.{IsWithin, stretch_of, stretches_of}

@@ -1,4 +1,4 @@
--- The parts so far, and those to come.
+-- The parts so far, and the remaining ones.
 use Rattle.std.proofs.Common.{◌≡◌, ◌++◌}
 use Rattle.std.specs.List.{flat_map}
 use Rattle.std.specs.Vec.Iter.{into_iter_items}

@@ -1,4 +1,4 @@
--- The totals on one row more.
+-- The totals on one more row.
 use Rattle.std.proofs.Common.{◌<◌, ◌∙◌, arith, length, take}
 use Rattle.std.proofs.lemmas.Option.{slice_get-get_or}
 use Rattle.tomex_config.specs.Configuration.{plain}

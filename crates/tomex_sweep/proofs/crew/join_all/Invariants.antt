@@ -1,4 +1,4 @@
--- What the parts have, and what the handles that are left promise.
+-- What the parts have, and what the remaining handles will return.
 use Rattle.std.proofs.Common.{◌≡◌, ◌++◌, map, false}
 use Rattle.std.specs.Vec.Iter.{into_iter_items}
 use Rattle.tomex_sweep.specs.Crews.{given_by, owed_by}

@@ -1,4 +1,4 @@
--- What the handles promise, and then what the workers that are left owe; all of these can start.
+-- What the handles will return, then what the remaining workers must; all of these can start.
 use Rattle.std.proofs.Common.{◌≡◌, ◌++◌, map, All, length}
 use Rattle.std.specs.Vec.Iter.{into_iter_items}
 use Rattle.tomex_sweep.specs.Crews.{CanStart, owed_by}

@@ -1,4 +1,4 @@
--- One row more is closed, by a run where nobody had closed it.
+-- One more row is closed, by a run if no worker had closed it.
 use Rattle.std.proofs.Common.{◌≡◌, ◌<◌, ◌≤◌, ◌∙◌, length, List, sym, subst, ap, rules, arith}
 use Rattle.tomex_config.specs.Configuration.{Configuration}
 use Rattle.tomex_lanes.specs.Parts.{is_closed}

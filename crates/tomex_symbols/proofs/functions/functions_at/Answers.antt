@@ -1,4 +1,4 @@
--- One address more.
+-- One more address.
 use Rattle.std.proofs.Common.{◌+◌, ◌∙◌, arith, get_or}
 use Rattle.tomex_symbols.proofs.Best.{functions_more, numbered_moved}
 use Rattle.tomex_symbols.proofs.Swept.{swept_later}

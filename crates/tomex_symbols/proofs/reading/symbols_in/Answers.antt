@@ -1,4 +1,4 @@
--- One entry more; at the end all symbols have their numbers in the table.
+-- One more entry; at the end all symbols have their numbers in the table.
 use Rattle.std.proofs.Common.{◌≡◌, ◌/◌, sym, subst, append_assoc, rules}
 use Rattle.tomex_symbols.specs.Functions.{AreNumbered}
 use Rattle.tomex_symbols.specs.Symbols.{symbols_from}

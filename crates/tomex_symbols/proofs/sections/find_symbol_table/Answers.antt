@@ -1,4 +1,4 @@
--- The next section is the first symbol table, or is passed.
+-- The next section is the first symbol table, or is skipped.
 use Rattle.std.proofs.Common.{◌<◌, ◌∙◌, sym, arith}
 use Rattle.tomex_symbols.specs.Sections.{section_count}
 use Rattle.tomex_symbols.proofs.Tables.{table_found, table_passed}

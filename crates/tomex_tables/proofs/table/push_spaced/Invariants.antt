@@ -1,4 +1,4 @@
--- The text so far, and the entries to come.
+-- The text so far, and the remaining entries.
 use Rattle.std.proofs.Common.{◌≡◌, ◌++◌, drop}
 use Rattle.std.specs.Prelude.{string_bytes}
 use Rattle.std.specs.List.{flat_map}

@@ -1,4 +1,4 @@
--- The line of one turn more.
+-- The line of one more turn.
 use Rattle.tomex_tables.specs.Table.{entries_line}
 use Rattle.tomex_tables.proofs.Loops.{number_more}
 use Rattle.tomex_tables.proofs.table.table_of.Goals as goal

@@ -1,4 +1,4 @@
--- The text so far, and the lines to come.
+-- The text so far, and the remaining lines.
 use Rattle.std.proofs.Common.{◌≡◌, ◌-◌, ◌++◌}
 use Rattle.std.specs.Prelude.{string_bytes}
 use Rattle.std.specs.List.{flat_map, range_with_len}

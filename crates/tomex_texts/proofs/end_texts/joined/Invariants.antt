@@ -1,4 +1,4 @@
--- The text so far, and the texts to come, each after a space.
+-- The text so far, and the remaining texts, each after a space.
 use Rattle.std.proofs.Common.{◌≡◌, ◌++◌, ◌∷◌, drop, map}
 use Rattle.std.specs.Prelude.{string_bytes}
 use Rattle.std.specs.List.{flat_map}

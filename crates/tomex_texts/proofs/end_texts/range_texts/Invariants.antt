@@ -1,4 +1,4 @@
--- The texts so far, and those of the ranges to come, whose bytes are left.
+-- The texts so far, and those of the remaining ranges, whose bytes are left.
 use Rattle.std.proofs.Common.{◌≡◌, ◌++◌, drop, length, map}
 use Rattle.std.specs.Prelude.{string_bytes}
 use Rattle.tomex_study.specs.Watch.{watched_bytes}

@@ -1,4 +1,4 @@
--- The texts so far, and those of the registers to come.
+-- The texts so far, and those of the remaining registers.
 use Rattle.std.proofs.Common.{◌≡◌, ◌++◌, drop, map}
 use Rattle.std.specs.Prelude.{string_bytes}
 use Rattle.tomex_texts.specs.FrontReport.{nonzero_from}

@@ -1,4 +1,4 @@
--- One part after the other.
+-- One part after another.
 use Rattle.std.proofs.Common.{◌∙◌}
 use Rattle.tomex_texts.proofs.Records.{row_pushed}
 use Rattle.tomex_texts.proofs.front_fields.push_row.Goals as goal

@@ -1,4 +1,4 @@
--- The names stand in their order, that of weights among them where these are shown.
+-- The names are in their order, with that of weights if these are shown.
 use Rattle.std.proofs.Common.{◌≡◌, ℕ, Bool, true, false, List, [], ◌∷◌, ◌++◌, refl}
 use Rattle.std.specs.Prelude.{codes}
 use Rattle.tomex_texts.specs.FrontReport.{if_wide, program_columns, row_columns}

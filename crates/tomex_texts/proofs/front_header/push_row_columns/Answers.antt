@@ -1,4 +1,4 @@
--- The names stand in their order, that of widths among them where these are shown.
+-- The names are in their order, with that of widths if these are shown.
 use Rattle.std.proofs.Common.{◌≡◌, Bool, true, false, ℕ, List, [], ◌∷◌, ◌++◌, append_assoc, ◌∙◌, ap}
 use Rattle.std.specs.Prelude.{codes}
 use Rattle.std.proofs.lemmas.Result.{on_ok_weaker}

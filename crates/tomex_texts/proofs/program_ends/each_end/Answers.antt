@@ -1,4 +1,4 @@
--- One program more.
+-- One more program.
 use Rattle.tomex_texts.proofs.Records.{one_more}
 use Rattle.tomex_texts.proofs.program_ends.each_end.Goals as goal
 

@@ -1,4 +1,4 @@
--- No program takes more cycles than the machine is asked for, so it has ended, in the last state.
+-- No program takes more cycles than the machine advances to, so it has ended, in the last state.
 use Rattle.std.proofs.Common.{◌∙◌}
 use Rattle.tomex_row_runs.proofs.Machines.{to_end}
 use Rattle.tomex_row_runs.proofs.Totals.{ends_at_most}

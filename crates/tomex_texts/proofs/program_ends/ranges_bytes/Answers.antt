@@ -1,4 +1,4 @@
--- The bytes of one range more.
+-- The bytes of one more range.
 use Rattle.std.proofs.Common.{refl}
 use Rattle.tomex_texts.specs.Ends.{bytes_at}
 use Rattle.tomex_texts.proofs.Loops.{piece_more}

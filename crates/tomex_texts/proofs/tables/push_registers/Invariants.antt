@@ -1,4 +1,4 @@
--- The text so far, and the lines of the registers to come.
+-- The text so far, and the lines of the remaining registers.
 use Rattle.std.proofs.Common.{◌≡◌, ◌++◌, drop}
 use Rattle.std.specs.Prelude.{string_bytes}
 use Rattle.tomex_texts.specs.TablesText.{register_lines}

@@ -1,4 +1,4 @@
--- The text so far, and the lines of the places to come.
+-- The text so far, and the lines of the remaining places.
 use Rattle.std.proofs.Common.{◌≡◌, ◌++◌, drop}
 use Rattle.std.specs.Prelude.{string_bytes}
 use Rattle.std.specs.List.{filter_map, flat_map}

@@ -1,4 +1,4 @@
--- The record of one step more.
+-- The record of one more step.
 use Rattle.std.proofs.Common.{None, refl}
 use Rattle.tomex_texts.proofs.Loops.{record_more}
 use Rattle.tomex_texts.proofs.times.put_steps.Goals as goal

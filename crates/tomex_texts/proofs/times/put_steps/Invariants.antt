@@ -1,4 +1,4 @@
--- The text so far, and that of the steps to come.
+-- The text so far, and that of the remaining steps.
 use Rattle.std.proofs.Common.{◌≡◌, ◌+◌, ◌++◌, drop}
 use Rattle.tomex_csv_text.specs.Csv.{IsReady, written}
 use Rattle.tomex_texts.specs.TimesReport.{step_records}

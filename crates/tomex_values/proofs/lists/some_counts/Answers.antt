@@ -1,4 +1,4 @@
--- Where there are some values, their counts are read.
+-- If there are any values, their counts are read.
 use Rattle.std.proofs.Common.{◌≢◌, length, rules}
 use Rattle.tomex_values.proofs.Items.{some_are_read}
 use Rattle.tomex_values.proofs.lists.some_counts.Goals as goal

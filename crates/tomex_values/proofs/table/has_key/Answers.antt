@@ -1,4 +1,4 @@
--- A value is seen as one.
+-- There is a value exactly if contracts see one.
 use Rattle.std.proofs.Common.{◌≡◌, ◌∙◌, Option, Some, None, refl}
 use Rattle.std.specs.Prelude.{is_some, option_map}
 use Rattle.tomex_values.proofs.table.has_key.Goals as goal

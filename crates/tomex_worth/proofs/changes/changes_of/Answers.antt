@@ -1,4 +1,4 @@
--- The changes of one list more.
+-- The changes of one more list.
 use Rattle.tomex_tables.proofs.Loops.{number_more}
 use Rattle.tomex_worth.specs.Changes.{changes_at}
 use Rattle.tomex_worth.proofs.changes.changes_of.Goals as goal

@@ -1,4 +1,4 @@
--- The changes so far, and the lists to come.
+-- The changes so far, and the remaining lists.
 use Rattle.std.proofs.Common.{◌≡◌, ◌-◌, ◌++◌}
 use Rattle.std.specs.List.{flat_map, range_with_len}
 use Rattle.tomex_worth.specs.Changes.{changes_at}

@@ -1,4 +1,4 @@
--- The lists to come.
+-- The remaining lists.
 use Rattle.std.proofs.Common.{◌≡◌, ◌==◌, ◌-◌, not, if◌then◌else◌}
 use Rattle.std.specs.List.{list_all, range_with_len}
 use Rattle.tomex_worth.specs.Changes.{part_at, same_entry}

@@ -1,4 +1,4 @@
--- The changes so far, and the rows to come.
+-- The changes so far, and the remaining rows.
 use Rattle.std.proofs.Common.{◌≡◌, ◌++◌, drop, map}
 use Rattle.std.specs.List.{filter}
 use Rattle.tomex_worth.specs.Changes.{change, config_at, differ_at, part_at}

@@ -1,4 +1,4 @@
--- The entries so far, and those to come.
+-- The entries so far, and the remaining ones.
 use Rattle.std.proofs.Common.{◌≡◌, ◌∷◌, ◌++◌, drop, map}
 use Rattle.tomex_worth.specs.Worth.{name_under, own_under, text_under}
 use Rattle.tomex_worth.proofs.table.heading_column.Given as goal

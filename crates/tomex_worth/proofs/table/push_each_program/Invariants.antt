@@ -1,4 +1,4 @@
--- The columns so far, and those to come.
+-- The columns so far, and the remaining ones.
 use Rattle.std.proofs.Common.{◌≡◌, ◌++◌, drop, map}
 use Rattle.tomex_worth.specs.Worth.{program_column}
 use Rattle.tomex_worth.proofs.table.push_each_program.Given as goal

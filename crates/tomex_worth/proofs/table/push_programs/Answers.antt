@@ -1,4 +1,4 @@
--- Several programs have a column each, and one alone has none.
+-- Several programs have a column each; a single one has none.
 use Rattle.std.proofs.Common.{◌<◌, ◌≤◌, ◌++◌, ◌∙◌, List, ap, length, subst, sym}
 use Rattle.std.proofs.lemmas.List.{append-nil}
 use Rattle.tomex_study.specs.Program.{Workload}

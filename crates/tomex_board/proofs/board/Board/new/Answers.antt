@@ -18,7 +18,7 @@ invariant_of-board g c = let J = g.J.Plan in let n = ap (λ (l : List ℕ). leng
   floors_few J.costs,
 )
 
--- the first seat has nothing at hand, and the number 0
+-- the first seat has nothing in hand, and has the number 0
 begins : (m : Seated) → m ≡ (first_view, []) → (m.1 ≡ []) × ((x : ℕ) × Has m.0.share x)
 begins m is = (
   ap (λ (m : Seated). m.1) is,

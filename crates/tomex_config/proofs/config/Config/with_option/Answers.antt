@@ -1,4 +1,4 @@
--- The new option stands within the limits, and a branch unit stays alone.
+-- The new option is within the limits, and there is still one branch unit.
 use Rattle.std.proofs.Common.{◌≡◌, true, arith}
 use Rattle.std.proofs.lemmas.Grind.{common_steps}
 use Rattle.std.proofs.lemmas.List.Elements.{All-set}

@@ -1,4 +1,4 @@
--- The prices are read one after the other.
+-- The prices are read one after another.
 use Rattle.std.proofs.Common.{sym, refl}
 use Rattle.tomex_values.proofs.Outcomes.{goes_on}
 use Rattle.tomex_document.proofs.document.prices.prices_of.Goals as goal

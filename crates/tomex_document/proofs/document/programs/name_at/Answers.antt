@@ -1,4 +1,4 @@
--- A name is told, or what its tests refuse.
+-- The result is the name, or the refusal by its tests.
 use Rattle.std.proofs.Common.{rules, refl}
 use Rattle.std.proofs.lemmas.Result.{err_from_is_err_and}
 use Rattle.tomex_values.proofs.Outcomes.{stops}

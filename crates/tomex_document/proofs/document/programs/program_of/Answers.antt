@@ -1,4 +1,4 @@
--- What is told of a place: the fault of the first of its keys that has one, or what they say.
+-- The result of a place: the fault of the first key that has one, or the values of its keys.
 use Rattle.std.proofs.Common.{◌≡◌, ◌≤◌, ℕ, true, arith, sym, refl}
 use Rattle.std.proofs.lemmas.Result.{err_from_is_err_and}
 use Rattle.tomex_document.specs.Program.{program_of}

@@ -1,4 +1,4 @@
--- The programs so far, and then those of the values to come.
+-- The programs so far, then those of the remaining values.
 use Rattle.std.proofs.Common.{◌≡◌, ◌+◌, [], drop}
 use Rattle.toml.specs.View.{items_view}
 use Rattle.tomex_document.specs.Program.{programs_of}

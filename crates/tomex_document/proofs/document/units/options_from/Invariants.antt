@@ -1,4 +1,4 @@
--- The options so far, and then those of the values to come.
+-- The options so far, then those of the remaining values.
 use Rattle.std.proofs.Common.{◌≡◌, ◌+◌, drop}
 use Rattle.toml.specs.View.{items_view}
 use Rattle.tomex_values.specs.Readings.{with_front}

@@ -1,4 +1,4 @@
--- The ranges so far, all inside the window, and then those of the values to come.
+-- The ranges so far, all inside the window, then those of the remaining values.
 use Rattle.std.proofs.Common.{◌≡◌, ◌≤◌, true, drop, length, All}
 use Rattle.toml.specs.View.{items_view}
 use Rattle.tomex_values.specs.Readings.{with_front}

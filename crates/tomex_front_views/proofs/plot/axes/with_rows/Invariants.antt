@@ -1,4 +1,4 @@
--- The rows to come.
+-- The remaining rows.
 use Rattle.std.proofs.Common.{◌≡◌, drop}
 use Rattle.std.specs.List.{fold}
 use Rattle.tomex_front_views.specs.Axes.{with_row}

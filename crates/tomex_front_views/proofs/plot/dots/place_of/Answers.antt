@@ -1,4 +1,4 @@
--- Rows stand in the picture.
+-- Rows lie in the picture.
 use Rattle.tomex_front_views.proofs.Dotted.{from_x, from_y}
 use Rattle.tomex_front_views.proofs.plot.dots.place_of.Goals as goal
 

@@ -1,4 +1,4 @@
--- One line more.
+-- One more line.
 use Rattle.std.proofs.Common.{ap, sym, List, ℕ, ◌++◌}
 use Rattle.std.specs.Prelude.{string_bytes}
 use Rattle.std.specs.List.{flat_map}

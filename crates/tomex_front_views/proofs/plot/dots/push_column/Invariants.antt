@@ -1,4 +1,4 @@
--- The text so far, and the strokes of the lines to come.
+-- The text so far, and the strokes of the remaining lines.
 use Rattle.std.proofs.Common.{◌≡◌, ◌++◌, ℕ, Bool, false, map}
 use Rattle.std.specs.Prelude.{string_bytes}
 use Rattle.std.specs.List.{flat_map}

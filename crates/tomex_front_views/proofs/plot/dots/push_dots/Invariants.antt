@@ -1,4 +1,4 @@
--- The text so far, and the columns to come.
+-- The text so far, and the remaining columns.
 use Rattle.std.proofs.Common.{◌≡◌, ◌++◌}
 use Rattle.std.specs.Prelude.{string_bytes}
 use Rattle.std.specs.List.{flat_map}

@@ -1,4 +1,4 @@
--- One piece after the other.
+-- One piece after another.
 use Rattle.std.proofs.Common.{◌∙◌, ap, ℕ, ◌++◌}
 use Rattle.std.specs.Prelude.{codes, string_bytes}
 use Rattle.std.specs.Fmt.{decimal}

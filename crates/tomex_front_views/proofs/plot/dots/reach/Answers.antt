@@ -1,4 +1,4 @@
--- The items that are taken are as many as follow without a gap.
+-- The number of items taken is the number that follow without a gap.
 use Rattle.std.proofs.Common.{◌+◌, refl, rules, tests}
 use Rattle.std.proofs.lemmas.Iterator.{YieldsList-from_slice}
 use Rattle.std.proofs.lemmas.List.{take_rest}

@@ -1,4 +1,4 @@
--- One row's point more is marked.
+-- One more row's point is marked.
 use Rattle.tomex_front_views.proofs.Dotted.{none_marked, one_marked}
 use Rattle.tomex_front_views.proofs.plot.dots.table_of.Goals as goal
 

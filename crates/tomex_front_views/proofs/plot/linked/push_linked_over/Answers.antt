@@ -1,4 +1,4 @@
--- One piece after the other, on axes that reach as far as all rows.
+-- One piece after another, on axes that include all rows.
 use Rattle.std.proofs.Common.{◌∙◌, ◌++◌, ap, List, ℕ}
 use Rattle.std.proofs.lemmas.Result.{on_ok_weaker}
 use Rattle.tomex_front_views.specs.LinkedPlot.{linked_over}

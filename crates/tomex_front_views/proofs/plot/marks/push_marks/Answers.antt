@@ -1,4 +1,4 @@
--- The text of one tick more.
+-- The text of one more tick.
 use Rattle.std.proofs.Common.{arith}
 use Rattle.tomex_front_views.specs.Plot.{mark_at}
 use Rattle.tomex_front_views.proofs.Ticks.{all_ticks, last_tick, one_tick}

@@ -1,4 +1,4 @@
--- The text so far, and that of the ticks to come.
+-- The text so far, and that of the remaining ticks.
 use Rattle.std.proofs.Common.{◌≡◌, ◌+◌, ◌-◌, ◌*◌, ◌++◌, map}
 use Rattle.std.specs.Prelude.{string_bytes}
 use Rattle.std.specs.List.{flat_map, range_with_len}

@@ -1,4 +1,4 @@
--- The text so far, and the numbers to come.
+-- The text so far, and the remaining numbers.
 use Rattle.std.proofs.Common.{◌≡◌, ◌++◌, drop, None}
 use Rattle.std.specs.Prelude.{string_bytes}
 use Rattle.tomex_front_views.specs.Plot.{numbers_of}

@@ -1,4 +1,4 @@
--- The text so far, and the moves to come.
+-- The text so far, and the remaining moves.
 use Rattle.std.proofs.Common.{◌≡◌, ◌++◌, drop}
 use Rattle.std.specs.Prelude.{string_bytes}
 use Rattle.tomex_front_views.specs.Plot.{steps_down}

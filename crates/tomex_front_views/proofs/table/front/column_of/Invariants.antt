@@ -1,4 +1,4 @@
--- The entries so far, and those to come.
+-- The entries so far, and the remaining ones.
 use Rattle.std.proofs.Common.{◌≡◌, ◌++◌, drop, map}
 use Rattle.std.specs.Fmt.{decimal}
 use Rattle.tomex_front_views.proofs.table.front.column_of.Given as goal

@@ -1,4 +1,4 @@
--- The column of one program more; there are cycles for each.
+-- The column of one more program; there are cycles for each.
 use Rattle.std.proofs.Common.{◌∙◌, ap₂, arith, ℕ, List, map}
 use Rattle.std.proofs.lemmas.Slice.Zip.{AllZip-long}
 use Rattle.tomex_front_views.specs.FrontTable.{program_column}

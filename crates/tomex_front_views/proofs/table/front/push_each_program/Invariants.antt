@@ -1,4 +1,4 @@
--- The columns so far, and those to come.
+-- The columns so far, and the remaining ones.
 use Rattle.std.proofs.Common.{◌≡◌, ◌++◌, drop, map}
 use Rattle.tomex_front_views.specs.FrontTable.{program_column}
 use Rattle.tomex_front_views.proofs.table.front.push_each_program.Given as goal

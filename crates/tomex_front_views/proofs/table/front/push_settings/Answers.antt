@@ -1,4 +1,4 @@
--- The column of one setting more.
+-- The column of one more setting.
 use Rattle.std.proofs.Common.{refl}
 use Rattle.tomex_csv_text.proofs.Pieces.{next_piece}
 use Rattle.tomex_front_views.specs.FrontTable.{all_settings, setting_columns}

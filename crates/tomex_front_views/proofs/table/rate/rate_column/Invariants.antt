@@ -1,4 +1,4 @@
--- The rates so far, and those to come.
+-- The rates so far, and the remaining ones.
 use Rattle.std.proofs.Common.{◌≡◌, ◌++◌, drop, None}
 use Rattle.std.specs.Prelude.{codes}
 use Rattle.tomex_front_views.specs.FrontTable.{rates_after}

@@ -1,4 +1,4 @@
--- A steal leaves what is stolen from as it was.
+-- A steal leaves the victim's list unchanged.
 use Rattle.std.proofs.Common.{◌≡◌, ◌∙◌, ap, set, rules}
 use Rattle.std.proofs.lemmas.List.{set-get_or}
 use Rattle.tomex_lanes.proofs.lane.Lane.take.Goals as goal

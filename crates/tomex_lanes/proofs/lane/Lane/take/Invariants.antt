@@ -1,4 +1,4 @@
--- Steals leave the lane as it is.
+-- Steals leave the lane unchanged.
 use Rattle.std.proofs.Common.{◌≡◌}
 use Rattle.tomex_lanes.proofs.lane.Lane.take.Given as goal
 

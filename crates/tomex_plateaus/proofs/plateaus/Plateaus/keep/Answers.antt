@@ -1,4 +1,4 @@
--- One plateau more, or another one, in the list of the program's.
+-- One more plateau, or another one, in the program's list.
 use Rattle.std.proofs.Common.{◌<◌, arith, length}
 use Rattle.tomex_plateaus.proofs.Keeping.{another_one, one_more}
 use Rattle.tomex_plateaus.proofs.plateaus.Plateaus.keep.Goals as goal

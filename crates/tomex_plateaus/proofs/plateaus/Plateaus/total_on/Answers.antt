@@ -1,4 +1,4 @@
--- What is found is a plateau of the program, and the configuration lies on it.
+-- The search finds a plateau of the program on which the configuration lies.
 use Rattle.tomex_plateaus.proofs.Finding.{total_told}
 use Rattle.tomex_plateaus.proofs.plateaus.Plateaus.total_on.Goals as goal
 

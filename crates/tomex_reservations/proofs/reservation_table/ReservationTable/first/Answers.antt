@@ -1,4 +1,4 @@
--- Where one is left at once, that cycle is the first.
+-- If one is left at once, that cycle is the first.
 use Rattle.std.proofs.Common.{rules, ◌≡◌, true}
 use Rattle.tomex_reservations.specs.Reservations.{is_left}
 use Rattle.tomex_reservations.proofs.Searching.{first_here}

@@ -1,4 +1,4 @@
--- What lies ahead stays.
+-- The cycles ahead are unchanged.
 use Rattle.std.proofs.Common.{◌≡◌, ◌+◌, ◌<◌, ◌-◌, ap, [], length, take, vec_len, arith}
 use Rattle.std.specs.Prelude.{slice_index}
 use Rattle.tomex_reservations.specs.Reservations.{free_slot}

@@ -1,4 +1,4 @@
--- One list more is looked up; at the end all are.
+-- One more list is looked up; at the end all are.
 use Rattle.std.proofs.Common.{◌≡◌, ◌<◌, ◌≤◌, ◌∙◌, ap, arith, get_or, length, refl, subst, List}
 use Rattle.std.proofs.lemmas.Option.{slice_get_read}
 use Rattle.tomex_plateaus.specs.Kept.{Kept}

@@ -1,4 +1,4 @@
--- What is known so far is looked up, and right.
+-- The known totals so far are looked up, and right.
 use Rattle.std.proofs.Common.{◌≡◌, take}
 use Rattle.tomex_row_runs.specs.Knowledge.{AreTotals, known_on}
 use Rattle.tomex_row_runs.proofs.knowledge.Knowledge.known.Given as goal

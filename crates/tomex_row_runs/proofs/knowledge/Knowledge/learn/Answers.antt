@@ -1,4 +1,4 @@
--- One total more is found out, and learnt if it wasn't known; at the end all are.
+-- One more total is found, and learnt if it wasn't known; at the end all are.
 use Rattle.std.proofs.Common.{◌<◌, ◌≤◌, length, subst}
 use Rattle.tomex_row_runs.specs.Knowledge.{IsKnowledge, KnowledgeOf}
 use Rattle.tomex_row_runs.proofs.Knowing.{all_learnt, as_many, one_more_learnt}

@@ -1,4 +1,4 @@
--- The totals so far are the programs', and what wasn't known of these is learnt.
+-- The totals so far are the programs', and those that weren't known are learnt.
 use Rattle.tomex_row_runs.proofs.Knowing.{IsLearning}
 use Rattle.tomex_row_runs.proofs.knowledge.Knowledge.learn.Given as goal
 

@@ -1,4 +1,4 @@
--- The list stays that of its program, and no other one is written.
+-- The list stays that of its program, and no other list is written.
 use Rattle.std.proofs.Common.{◌≡◌, ◌<◌, arith, length, refl}
 use Rattle.std.proofs.lemmas.Option.{slice_get_read}
 use Rattle.tomex_row_runs.proofs.Knowing.{as_many, learnt_ok, learnt_one, learnt_total, only_there}

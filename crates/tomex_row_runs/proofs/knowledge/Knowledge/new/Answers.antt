@@ -1,4 +1,4 @@
--- One program more has its list; at the end all have.
+-- One more program has its list; at the end all have one.
 use Rattle.tomex_row_runs.proofs.Knowing.{all_fresh, fresh_steps, one_list}
 use Rattle.tomex_row_runs.proofs.knowledge.Knowledge.new.Goals as goal
 

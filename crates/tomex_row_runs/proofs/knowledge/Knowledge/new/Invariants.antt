@@ -1,4 +1,4 @@
--- Nothing is known of the programs so far.
+-- Nothing is known about the programs so far.
 use Rattle.std.proofs.Common.{◌≡◌, take}
 use Rattle.tomex_row_runs.specs.Knowledge.{nothing_known}
 use Rattle.tomex_row_runs.proofs.knowledge.Knowledge.new.Given as goal

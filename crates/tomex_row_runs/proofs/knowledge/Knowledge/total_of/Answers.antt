@@ -1,4 +1,4 @@
--- A total that is known is right.
+-- A known total is right.
 use Rattle.tomex_row_runs.specs.Knowledge.{IsTotalAt}
 use Rattle.std.proofs.Common.{Option, ℕ, subst}
 use Rattle.tomex_row_runs.proofs.knowledge.Knowledge.total_of.Goals as goal

@@ -1,4 +1,4 @@
--- One program's cycles more.
+-- One more program's cycles.
 use Rattle.std.proofs.Common.{arith, sym}
 use Rattle.tomex_row_runs.proofs.Totals.{next_cycles, no_cycles}
 use Rattle.tomex_row_runs.proofs.runs.Runs.cycles.Goals as goal

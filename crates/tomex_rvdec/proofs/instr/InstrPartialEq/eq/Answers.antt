@@ -1,4 +1,4 @@
--- Two instructions are equal where their five parts are: the tests, joined in another order.
+-- Two instructions are equal if their five parts are: the tests, joined in another order.
 use Rattle.std.proofs.Common.{◌≡◌, Bool, ◌&&◌, arith, rules}
 use Rattle.tomex_rvdec.proofs.instr.InstrPartialEq.eq.Goals as goal
 

@@ -1,4 +1,4 @@
--- What its programs and its configurations say of themselves.
+-- What the laws of its programs and its configurations say.
 use Rattle.std.proofs.Common.{◌∙◌, ap, subst, All}
 use Rattle.tomex_config.specs.Configuration.{IsWithinLimits}
 use Rattle.tomex_study.specs.Program.{IsProgram}

@@ -1,4 +1,4 @@
--- One symbol more; those left begin later.
+-- One more symbol; those left begin later.
 use Rattle.std.proofs.Common.{refl}
 use Rattle.tomex_symbols.proofs.Rising.{rest_begins, rises}
 use Rattle.tomex_symbols.proofs.Swept.{swept_next}

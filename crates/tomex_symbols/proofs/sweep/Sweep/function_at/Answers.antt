@@ -1,4 +1,4 @@
--- What was found is the function.
+-- The symbol that was found is the function.
 use Rattle.std.proofs.Common.{◌∙◌, Option, ap, sym}
 use Rattle.tomex_symbols.specs.declared.symbol.Symbol.{Symbol}
 use Rattle.tomex_symbols.specs.Functions.{or_else}

@@ -1,4 +1,4 @@
--- What is nested still holds what was held at first, from this address on.
+-- From this address on, the nested symbols still hold what they held at first.
 use Rattle.std.proofs.Common.{◌≡◌, ◌≤◌, ℕ, All, length}
 use Rattle.tomex_symbols.specs.Functions.{holds}
 use Rattle.tomex_symbols.specs.Sweep.{last_of}

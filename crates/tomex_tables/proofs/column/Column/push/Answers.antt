@@ -1,4 +1,4 @@
--- It is as wide as the entry, or as it was.
+-- It is as wide as the entry, or as before.
 use Rattle.std.proofs.Common.{◌∙◌, ap, List, ℕ, [], ◌∷◌, length, map}
 use Rattle.std.specs.Prelude.{string_bytes}
 use Rattle.std.proofs.lemmas.List.{map-append}

@@ -3,7 +3,7 @@ use Rattle.tomex_tags.specs.Operands.{only}
 use Rattle.tomex_tags.proofs.Hearing.{AreHearing}
 use Rattle.tomex_tags.proofs.pools.Pools.hear.Given as goal
 
--- all but the rest have heard it
+-- all except the rest have received it
 abbrev pub invariant-members : goal.invariant-members
 invariant-members l = AreHearing (only l.from (Some l.value)) l.rest l.fn.self l.self
 

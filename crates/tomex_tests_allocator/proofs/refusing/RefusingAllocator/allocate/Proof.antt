@@ -1,15 +1,17 @@
--- The budget is asked first. Where it refuses, so does the call; else the inner allocator is asked.
-use Rattle.tomex_tests_allocator.proofs.Steps.{◌≡◌, Ok, Err, [], ◌∷◌, refl, w64, proved, Al, seen, token, Takes, at_takes}
-use Rattle.tomex_tests_allocator.proofs.Steps.{Takes-goes, Takes-gives, Answered, Answer, answer_val, Answer-typed, Answer-Ok}
-use Rattle.tomex_tests_allocator.proofs.Steps.{Answer-err, answers, ftrue, fsep, flft, ◌⊑◌, ⊑_trans, fact, tables, usize, yes}
-use Rattle.tomex_tests_allocator.proofs.Steps.{bounded, uint_vals, uint_Tells, owns, block_ptr, shr_vals, plain, types_at, heard}
-use Rattle.tomex_tests_allocator.proofs.Steps.{nothing, calls_at, Ended, framed, Stays, stay_dropped, Goes-dropped, walk_of}
-use Rattle.tomex_tests_allocator.proofs.Steps.{ends_at, inst_fn, Args, Fn, a_type, dnil, dcons, Val, vint, size, align, capped}
-use Rattle.tomex_tests_allocator.proofs.Steps.{alloc_all, pass_all, free_all, look_at, get, through, sets, lands_as, ‵, raw, ◌⊛◌}
-use Rattle.tomex_tests_allocator.proofs.Steps.{later, given, some, prop, Sq, ◌$◌, ◌∵◌, !, qed, done, move, keep, use0, use1}
-use Rattle.tomex_tests_allocator.proofs.Steps.{use2, split, join, fsplit, fjoin, await, learn, suffices, group, enter, addr, fld}
-use Rattle.tomex_tests_allocator.proofs.Steps.{stop, no_more, and_then, returns, after, block_if_ok, Bool, true, false, vbool}
-use Rattle.tomex_tests_allocator.proofs.Steps.{pick, at_ret, agg, lit, first, branches, skips, exec, returns_within, env}
+-- The budget is asked first. If it refuses, so does the call; else the inner allocator is asked.
+use Rattle.tomex_tests_allocator.proofs.Steps.{◌≡◌, Ok, Err, [], ◌∷◌, refl, w64, proved, Al, seen, token, Takes}
+use Rattle.tomex_tests_allocator.proofs.Steps.{at_takes, Takes-goes, Takes-gives, Answered, Answer, answer_val}
+use Rattle.tomex_tests_allocator.proofs.Steps.{Answer-typed, Answer-Ok, Answer-err, answers, ftrue, fsep, flft, ◌⊑◌}
+use Rattle.tomex_tests_allocator.proofs.Steps.{⊑_trans, fact, tables, usize, yes, bounded, uint_vals, uint_Tells}
+use Rattle.tomex_tests_allocator.proofs.Steps.{owns, block_ptr, shr_vals, plain, types_at, heard, nothing, calls_at}
+use Rattle.tomex_tests_allocator.proofs.Steps.{Ended, framed, Stays, stay_dropped, Goes-dropped, walk_of, ends_at}
+use Rattle.tomex_tests_allocator.proofs.Steps.{inst_fn, Args, Fn, a_type, dnil, dcons, Val, vint, size, align, capped}
+use Rattle.tomex_tests_allocator.proofs.Steps.{alloc_all, pass_all, free_all, look_at, get, through, sets, lands_as}
+use Rattle.tomex_tests_allocator.proofs.Steps.{‵, raw, ◌⊛◌, later, given, some, prop, Sq, ◌$◌, ◌∵◌, !, qed, done}
+use Rattle.tomex_tests_allocator.proofs.Steps.{move, keep, use0, use1, use2, split, join, fsplit, fjoin, await, learn}
+use Rattle.tomex_tests_allocator.proofs.Steps.{suffices, group, enter, addr, fld, stop, no_more, and_then, returns}
+use Rattle.tomex_tests_allocator.proofs.Steps.{after, block_if_ok, Bool, true, false, vbool, pick, at_ret, agg, lit}
+use Rattle.tomex_tests_allocator.proofs.Steps.{first, branches, skips, exec, returns_within, env}
 use Rattle.tomex_tests_allocator.proofs.Lending.{self, inner_at, budget_of, sees, lends_fields}
 use Rattle.tomex_tests_allocator.proofs.Asking.{Asks, asked, asks, tells}
 use Rattle.tomex_tests_allocator.proofs.budget.Budget.refuses.Met as refuses

@@ -1,15 +1,16 @@
 -- A block goes back to the inner allocator, which granted it.
 use Rattle.tomex_tests_allocator.proofs.Steps.{◌≡◌, List, [], ◌∷◌, refl, w64, proved, Al, seen, token, Gives, at_gives}
-use Rattle.tomex_tests_allocator.proofs.Steps.{Gives-goes, Gives-Gives, ftrue, fsep, flft, ◌⊑◌, ⊑_trans, fact, tables, usize}
-use Rattle.tomex_tests_allocator.proofs.Steps.{RawPtr, yes, bounded, uint_vals, uint_Tells, owns, Ptr, block_ptr, rawptr_vals}
-use Rattle.tomex_tests_allocator.proofs.Steps.{rawptr_Tells, in_a_block, room_for, shr_vals, plain, heard, nothing, calls_at}
-use Rattle.tomex_tests_allocator.proofs.Steps.{Ended, framed, Stays, stay_dropped, Goes-dropped, walk_of, ends_at, inst_fn, Args}
-use Rattle.tomex_tests_allocator.proofs.Steps.{Fn, a_type, dnil, dcons, Val, vunit, vint, vptr, size, align, capped, alloc_all}
-use Rattle.tomex_tests_allocator.proofs.Steps.{pass_all, free_all, look_at, get, through, sets, lands_as, ‵, raw, ◌⊛◌, later}
-use Rattle.tomex_tests_allocator.proofs.Steps.{given, prop, regoal, ◌$◌, ◌∵◌, !, qed, done, move, keep, use1, split, join}
-use Rattle.tomex_tests_allocator.proofs.Steps.{fsplit, fjoin, feq_i, await, learn, suffices, group, enter, of_opd, addr, fld}
-use Rattle.tomex_tests_allocator.proofs.Steps.{stop, unit_lit, no_more, and_then, returns, never, fst∗, sem, WpFn, types_at}
-use Rattle.tomex_tests_allocator.proofs.Steps.{null_ptr, ptr_val}
+use Rattle.tomex_tests_allocator.proofs.Steps.{Gives-goes, Gives-Gives, ftrue, fsep, flft, ◌⊑◌, ⊑_trans, fact, tables}
+use Rattle.tomex_tests_allocator.proofs.Steps.{usize, RawPtr, yes, bounded, uint_vals, uint_Tells, owns, Ptr}
+use Rattle.tomex_tests_allocator.proofs.Steps.{block_ptr, rawptr_vals, rawptr_Tells, in_a_block, room_for, shr_vals}
+use Rattle.tomex_tests_allocator.proofs.Steps.{plain, heard, nothing, calls_at, Ended, framed, Stays, stay_dropped}
+use Rattle.tomex_tests_allocator.proofs.Steps.{Goes-dropped, walk_of, ends_at, inst_fn, Args, Fn, a_type, dnil, dcons}
+use Rattle.tomex_tests_allocator.proofs.Steps.{Val, vunit, vint, vptr, size, align, capped, alloc_all, pass_all}
+use Rattle.tomex_tests_allocator.proofs.Steps.{free_all, look_at, get, through, sets, lands_as, ‵, raw, ◌⊛◌, later}
+use Rattle.tomex_tests_allocator.proofs.Steps.{given, prop, regoal, ◌$◌, ◌∵◌, !, qed, done, move, keep, use1, split}
+use Rattle.tomex_tests_allocator.proofs.Steps.{join, fsplit, fjoin, feq_i, await, learn, suffices, group, enter}
+use Rattle.tomex_tests_allocator.proofs.Steps.{of_opd, addr, fld, stop, unit_lit, no_more, and_then, returns, never}
+use Rattle.tomex_tests_allocator.proofs.Steps.{fst∗, sem, WpFn, types_at, null_ptr, ptr_val}
 use Rattle.tomex_tests_allocator.proofs.Lending.{self, inner_at, budget_of, sees, lends_fields}
 use Rattle.tomex_tests_allocator.specs.contracts.refusing.RefusingAllocator.deallocate as f
 use Rattle.tomex_tests_allocator.specs.contracts.refusing.RefusingAllocator.deallocate.Key as key

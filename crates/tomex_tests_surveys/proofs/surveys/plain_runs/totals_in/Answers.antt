@@ -1,4 +1,4 @@
--- A survey has totals of each row of its study.
+-- A survey has totals for each row of its study.
 use Rattle.std.proofs.Common.{ap, arith, length}
 use Rattle.std.proofs.lemmas.List.{length-map}
 use Rattle.tomex_row_runs.specs.Cycles.{totals_on}

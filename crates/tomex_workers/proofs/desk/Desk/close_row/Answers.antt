@@ -1,4 +1,4 @@
--- The row is there; what is looked at and what is finished goes on from the seat before.
+-- The row is there; looking and finishing continue from the seat before.
 use Rattle.std.proofs.Common.{sym, subst}
 use Rattle.tomex_board.specs.Known.{Known}
 use Rattle.tomex_workers.specs.Seats.{Continues}

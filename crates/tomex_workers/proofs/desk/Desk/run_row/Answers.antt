@@ -1,4 +1,4 @@
--- The totals that are known or learnt are those of the row's configuration.
+-- The known or learnt totals are those of the row's configuration.
 use Rattle.std.proofs.Common.{◌≡◌, ◌<◌, ◌∙◌, ap, sym, subst, take, List, length}
 use Rattle.tomex_config.specs.Configuration.{Configuration}
 use Rattle.tomex_study.specs.Program.{Workload}

@@ -1,4 +1,4 @@
--- What the first pass leaves is what the second one begins with.
+-- The second pass begins with the seat that the first one leaves.
 use Rattle.std.proofs.Common.{ap, ◌∙◌}
 use Rattle.tomex_workers.proofs.Closing.{continues_itself, continues_on}
 use Rattle.tomex_workers.proofs.desk.Desk.try_all.Goals as goal

@@ -1,4 +1,4 @@
--- One row more is noted; at the end all are.
+-- One more row is noted; at the end all are.
 use Rattle.std.proofs.Common.{◌∙◌, ◌≤◌, ℕ, List, length, subst, All, ap, arith, refl}
 use Rattle.std.proofs.lemmas.List.{take_all}
 use Rattle.tomex_board.specs.Views.{KnowsNotOpen}

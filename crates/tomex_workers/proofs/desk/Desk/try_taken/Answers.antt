@@ -1,4 +1,4 @@
--- What one row more leaves.
+-- One more row is tried.
 use Rattle.std.proofs.Common.{◌∙◌, ap, refl}
 use Rattle.tomex_workers.proofs.Closing.{continues_itself, continues_on}
 use Rattle.tomex_workers.proofs.desk.Desk.try_taken.Goals as goal

@@ -1,4 +1,4 @@
--- The configurations to come.
+-- The remaining configurations.
 use Rattle.std.proofs.Common.{◌≡◌, ◌==◌, not, drop}
 use Rattle.std.specs.List.{list_any}
 use Rattle.tomex_front_views.specs.FrontTable.{setting_of}
