@@ -17,7 +17,7 @@ use Rattle.tomex_snapshots.specs.declared.entries.Span.{Span}
 use Rattle.tomex_snapshots.proofs.Lists.{three_pieces}
 use Rattle.tomex_animate.proofs.Whole.{frames_same}
 
--- what stands between the first steps and the last ones
+-- the steps between the first and the last ones
 pub stretch_is : (page : Span) (all rest some : List Entry) (behind count : ℕ)
     → All (λ e. is_past page.from e ≡ true) (take behind all) → rest ≡ drop behind all
     → All (λ e. is_later page.to e ≡ true) (drop count rest) → some ≡ take count rest → IsStretch page all some

@@ -1,4 +1,4 @@
--- A page's views show nothing of the steps that are past before it, nor of those that come later.
+-- A page's views show nothing of the steps that are past before it, and nothing of later ones.
 use Rattle.std.proofs.Common.{◌≡◌, ◌∙◌, ◌<◌, ◌≤◌, ◌+◌, ◌-◌, ℕ, zero, suc, arith, refl, ap, sym, List, [], ◌∷◌, ◌++◌}
 use Rattle.std.proofs.Common.{ap₂, append_assoc, Bool, Option, Some, None, map, reverse, true, false, inl, inr, length}
 use Rattle.std.specs.Prelude.{◌≢◌, ◌&&◌, nat_lt, nat_le, if◌then◌else◌, codes, count_by, max, min, unwrap_or}
@@ -46,7 +46,7 @@ abbrev pub AreYetToIssue : ℕ → List Done → Type 0
 AreYetToIssue t [] = Unit {0}
 AreYetToIssue t (d ∷ h) = (t < d.at.issue) × AreYetToIssue t h
 
--- what has ended sends nothing more
+-- a step that has ended sends nothing more
 producer_past : (s : ℕ) (h : List Done) (r : ℕ) → ArePast s h → producer s h r ≡ None
 producer_past s [] r past = refl
 producer_past s (d ∷ h) r past = elim (cases_Bool (is_number (step_dest d.step) r)) [
@@ -217,7 +217,7 @@ later_bounds last t e high later =
       end = λ same. let f : e.at.end ≡ t = same in absurd (omega (arith, l, f, high));
     }
 
--- nothing happens to it
+-- nothing happens to the step
 quiet : (event : Event) (t : ℕ) (e : Entry) → Bounds e.at t → happens event t e ≡ false
 quiet Issue t e b = ne_eqb e.at.issue t b.issue
 quiet Address t e b = b.address
@@ -225,7 +225,7 @@ quiet Start t e b = and_right _ _ (ne_eqb e.at.start t b.start)
 quiet Finish t e b = and_right _ _ (ne_eqb e.at.finish t b.finish)
 quiet Write t e b = and_right _ _ (and_right _ _ (ne_eqb e.at.end t b.end))
 
--- it isn't listed
+-- the step isn't listed
 gone : (first : ℕ) (span : Span) (e : Entry) → first ≤ span.from + 2 → Past first e → is_there span e ≡ false
 gone first span e low past =
     let l : max e.at.issue (max (cycle_of e.at.address) (max e.at.start (max e.at.finish e.at.end))) + 2 < first =
@@ -307,7 +307,7 @@ show_same first last t front some rest low high past later =
       is = λ r. ap (λ (h : List Done). qi_of t h r) e ∙ qi_same t hr hs hf r S Q;
     }
 
--- so their takers are the same
+-- their takers are the same
 takers_to_same : (t : ℕ) (a b : List Done) (tag : Tag) (r : ℕ) → ShowSame t a b
     → takers_to t a tag r ≡ takers_to t b tag r
 unfolding takers_to
@@ -446,7 +446,7 @@ module _ (first last t : ℕ) (front some rest : List Entry) (low : first ≤ t)
   frame_same config page total is_first is_last =
       rw (events_same, status_same page is_first is_last, stations_same config, registers_same) refl
 
--- and all views of the page are
+-- all views of the page are the same
 frames_from : (config : Configuration) (page : Span) (total from n : ℕ) (front some rest : List Entry)
     → page.from ≤ from → from + n ≤ page.to + 1 → AllByRecursion (Past page.from) front
     → AllByRecursion (Later page.to) rest

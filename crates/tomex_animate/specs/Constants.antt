@@ -1,7 +1,7 @@
 -- The constant pieces of a page.
 use Rattle.std.specs.Prelude.{ℕ, List, ◌++◌, codes}
 
--- how a view looks
+-- the style of a view
 unfoldable pub animate_css : List ℕ
 animate_css =
     codes "h2{min-width:11rem}\n"
@@ -36,7 +36,7 @@ animate_css =
     ++ (codes "@supports selector(:has(*)){@media screen{section,section :target{scroll-margin-top:100vh}}}\n"
     ++ codes "@media print{footer{break-before:page}}\n")))))))))))))))))))))))))))))
 
--- how to read a page
+-- the explanation of a page
 unfoldable pub animate_help : List ℕ
 animate_help =
     codes "<div><h2>How to read this</h2>\n"

@@ -1,4 +1,4 @@
--- The machine that a page is of, and links to all cycles of the page.
+-- The machine that a page shows, and links to all cycles of the page.
 use Rattle.std.specs.Prelude.{ℕ, ◌+◌, ◌-◌, List, [], ◌∷◌, ◌++◌, codes, map}
 use Rattle.std.specs.List.{flat_map, range_with_len}
 use Rattle.std.specs.Fmt.{decimal}

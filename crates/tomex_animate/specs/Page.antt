@@ -19,7 +19,7 @@ use Rattle.tomex_animate.specs.declared.animation_error.AnimationError.TheVarian
 use Rattle.tomex_snapshots.specs.declared.entries.Entry.{Entry}
 use Rattle.tomex_snapshots.specs.declared.entries.Span.{Span}
 
--- the first view is followed by the others
+-- the links of the view of cycle t among those of the page
 unfoldable pub links_at : Span → ℕ → Links
 links_at page t = record {
   first = page.from;
@@ -41,7 +41,7 @@ frame config page total es t =
     frame_head page total t ++ (events t es ++ (status_table page es t ++ (station_table config t (history_of es)
     ++ (register_status t (history_of es) ++ codes "</section>\n"))))
 
--- what the page is of; a study's name is that of the command line
+-- the run that the page shows; a study's name is that of the command line
 unfoldable pub run_named : List ℕ → ℕ → List ℕ
 run_named program number = program ++ (codes " on configuration " ++ (decimal number ++ codes " of "))
 
@@ -66,7 +66,7 @@ animate_page study program number config page total es =
     page_head study program number page
     ++ (flat_map (frame config page total es) (cycles_of page) ++ page_foot config page)
 
--- from the first cycle on, as many as are asked for, and none past the total
+-- from the first cycle on, as many as are asked for, but none after the total
 abbrev pub page_of : ℕ → ℕ → ℕ → Span
 page_of first count total = record { from = first; to = min (first + count - 1) total }
 
@@ -77,7 +77,7 @@ pub record IsAnimationOf (study program : List ℕ) (number : ℕ) (config : Con
   pub is : text ≡ animate_page study program number config (page_of first count (total_of (times_in config steps)))
       (total_of (times_in config steps)) (entries_of config steps)
 
--- why there is none
+-- why there is no page
 abbrev pub IsUnanimated : Configuration → List Step → ℕ → AnimationError → Type 0
 IsUnanimated config steps first PastEnd = total_of (times_in config steps) < first
 IsUnanimated config steps first Memory = Unit {0}

@@ -1,4 +1,4 @@
--- The steps of a run that a page shows, with all that stand between them.
+-- The steps of a run that a page shows, with all steps between them.
 use Rattle.std.specs.Prelude.{◌≡◌, ℕ, ◌+◌, nat_lt, max, min, Bool, true, ◌&&◌, All, List, ◌++◌, unwrap_or}
 use Rattle.tomex_timing.specs.History.{cycle_of}
 use Rattle.tomex_timing.specs.declared.times.Times.{Times}
@@ -19,7 +19,7 @@ is_past first e = nat_lt (latest e.at + 2) first
 abbrev pub is_later : ℕ → Entry → Bool
 is_later last e = nat_lt last e.from && nat_lt last (earliest e.at)
 
--- some steps of a run in their order, without some that are past and some that are later
+-- a contiguous part of a run's steps, without some that are past and some that are later
 pub record IsStretch (page : Span) (all some : List Entry) : Type 0 where
   pub front : List Entry
   pub rest : List Entry

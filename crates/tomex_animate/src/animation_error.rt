@@ -10,7 +10,7 @@ use std::alloc::{AllocError, AllocFailed};
 pub enum AnimationError {
     /// The run ends before the first of them.
     PastEnd,
-    /// Memory was refused.
+    /// Out of memory.
     Memory,
 }
 

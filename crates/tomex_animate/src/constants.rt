@@ -3,7 +3,6 @@
 ghost use Rattle.std.specs.Prelude.{◌≡◌};
 ghost use Rattle.tomex_animate.specs.Constants.{animate_css, animate_help, machine_head};
 
-/// How a view looks.
 const ANIMATE_CSS: &str = "\
 h2{min-width:11rem}
 dl,dd{margin:0}
@@ -35,7 +34,6 @@ min-height:2.1rem}.e>div+div{border-left:0;border-top:1px solid var(--line)}.e d
 @media print{footer{break-before:page}}
 ";
 
-/// How to read a page.
 const ANIMATE_HELP: &str = "\
 <div><h2>How to read this</h2>
 <p>Each view is the machine after a cycle. What has changed in the cycle is marked. Follow <i>next</i> once, \
@@ -49,7 +47,6 @@ width, a station; before its start an operand, its address, an older access to i
 bus.</p></div>
 ";
 
-/// The head of the machine's table.
 const MACHINE_HEAD: &str = "\
 <table>
 <caption>The machine</caption>
@@ -58,7 +55,7 @@ div</th><th scope=\"col\">load</th><th scope=\"col\">store</th><th scope=\"col\"
 <tbody>
 ";
 
-/// How a view looks.
+/// The style of a view.
 #[tactic(auto, unfolding(crate::specs::Constants::animate_css))]
 pub fn animate_css() -> &'static str
     ensures { result.now ≡ animate_css }
@@ -66,7 +63,7 @@ pub fn animate_css() -> &'static str
     ANIMATE_CSS
 }
 
-/// How to read a page.
+/// The explanation of a page.
 #[tactic(auto, unfolding(crate::specs::Constants::animate_help))]
 pub fn animate_help() -> &'static str
     ensures { result.now ≡ animate_help }

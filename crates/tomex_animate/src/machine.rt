@@ -1,4 +1,4 @@
-//! The machine that a page is of, and the cycles of the page.
+//! The machine that a page shows, and the cycles of the page.
 
 ghost use Rattle.std.specs.Prelude.{◌≡◌, ◌<◌, ◌^◌, ◌++◌, OnOk, map, string_bytes};
 ghost use Rattle.std.specs.List.{flat_map};
@@ -26,7 +26,6 @@ fn push_numbers<A: Allocator>(text: &mut String<A>, values: &[u8; 6]) -> Result<
     Ok(())
 }
 
-/// Adds a row of the machine's table.
 #[tactic(auto, unfolding(crate::specs::Machine::machine_row))]
 fn push_row<A: Allocator>(
     text: &mut String<A>,
@@ -72,7 +71,7 @@ fn units(config: &Config) -> [u8; 6]
     ]
 }
 
-/// And the cycles that each of them takes.
+/// The latency of the units of the kind that each pool's instructions use.
 #[tactic(auto, unfolding(crate::specs::Machine::all_kinds))]
 fn latencies(config: &Config) -> [u8; 6]
     ensures { result ≡ map (λ kind. (option_of config.now kind).latency) all_kinds }
@@ -88,7 +87,6 @@ fn latencies(config: &Config) -> [u8; 6]
     ]
 }
 
-/// Adds the rows of the machine's table.
 #[tactic(auto, unfolding(crate::specs::Machine::machine_rows))]
 fn push_rows<A: Allocator>(text: &mut String<A>, config: &Config) -> Result<(), AllocError>
     ensures { OnOk result (string_bytes text.new
@@ -130,7 +128,6 @@ pub fn push_machine_table<A: Allocator>(
     push_shared(text, buses, width)
 }
 
-/// Adds a link to a cycle.
 #[tactic(auto, unfolding(crate::specs::Machine::index_link))]
 fn push_index_link<A: Allocator>(text: &mut String<A>, cycle: u64) -> Result<(), AllocError>
     ensures { OnOk result (string_bytes text.new ≡ string_bytes text.old ++ index_link cycle) }

@@ -25,7 +25,7 @@ use tomex_study::Program;
 use tomex_timing::Times;
 use tomex_timing::evaluate::{times, total, waits};
 
-/// Adds what a page is of, without the study's name.
+/// Adds the run that a page shows, without the study's name.
 #[tactic(auto, unfolding(crate::specs::Page::run_named))]
 fn push_run_name<A: Allocator>(
     text: &mut String<A>,
@@ -58,7 +58,7 @@ fn title_of(
     Ok(title)
 }
 
-/// Adds what a page has before its views.
+/// Adds the part of a page before its views.
 #[tactic(auto, unfolding(crate::specs::Page::page_head))]
 fn push_page_head<A: Allocator>(
     text: &mut String<A>,
@@ -80,7 +80,7 @@ fn push_page_head<A: Allocator>(
     write!(text, "</bdi></h1></header>\n<main class=\"v\">\n")
 }
 
-/// Adds what a page has after its views.
+/// Adds the part of a page after its views.
 #[tactic(auto, unfolding(crate::specs::Page::page_foot))]
 fn push_page_foot<A: Allocator>(
     text: &mut String<A>,
@@ -135,7 +135,7 @@ fn entries_in<A: Allocator + Clone>(
     entries_of(alloc, steps, times, waits.as_slice())
 }
 
-/// The cycles of a page: `count` at most from `first` on.
+/// The cycles of a page: at most `count` from `first` on.
 fn page_in(first: u32, count: u32, total: u64) -> Result<Span, AnimationError>
     requires first { 0 < first }
     ensures page { IfOk result (λ page. (first ≤ total) × (page ≡ page_of first count total)) }
@@ -151,11 +151,11 @@ fn page_in(first: u32, count: u32, total: u64) -> Result<Span, AnimationError>
     })
 }
 
-/// The page of `count` cycles at most of a program's run on a configuration, from cycle `first` on: for each cycle what
+/// The page of at most `count` cycles of a program's run on a configuration, from cycle `first` on: for each cycle what
 /// happens in it, the instruction status, the reservation stations and the register status, with what has changed. The
 /// study's name may be any text; `number` is the configuration's number in the study.
 ///
-/// A page has 4 to 6.5 KB a cycle on usual machines. What is small is taken of `heap`.
+/// A page has 4 to 6.5 KB a cycle on usual machines. Small temporary data is allocated from `heap`.
 pub fn animation<A: Allocator + Clone>(
     alloc: A,
     heap: Global,

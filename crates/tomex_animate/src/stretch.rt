@@ -24,21 +24,21 @@ fn latest(at: &Times) -> u64
         .max(address.max(at.start.max(at.finish.max(at.end))))
 }
 
-/// Whether a step is in no view from a cycle on.
+/// True if a step is in no view from a cycle on.
 fn is_past(first: u64, entry: &Entry) -> bool
     ensures { result ≡ is_past first entry.now }
 {
     latest(&entry.at) < first.saturating_sub(2)
 }
 
-/// Whether a step is in no view up to a cycle.
+/// True if a step is in no view up to a cycle.
 fn is_later(last: u64, entry: &Entry) -> bool
     ensures { result ≡ is_later last entry.now }
 {
     last < entry.from && last < earliest(&entry.at)
 }
 
-/// How many steps at the beginning of a run are in no view from a cycle on.
+/// The number of steps at the beginning of a run that are in no view from a cycle on.
 fn count_past(entries: &[Entry], first: u64) -> usize
     ensures few { result ≤ length entries.now }
     ensures past { All (λ e. is_past first e ≡ true) (take result entries.now) }
@@ -50,7 +50,7 @@ fn count_past(entries: &[Entry], first: u64) -> usize
     count
 }
 
-/// The steps without those at their end that are in no view up to a cycle.
+/// The number of steps, not counting those at the end that are in no view up to a cycle.
 fn without_later(entries: &[Entry], last: u64) -> usize
     ensures few { result ≤ length entries.now }
     ensures later { All (λ e. is_later last e ≡ true) (drop result entries.now) }
@@ -62,7 +62,7 @@ fn without_later(entries: &[Entry], last: u64) -> usize
     count
 }
 
-/// The steps that are in some view of a page, with all that stand between them.
+/// The steps that are in some view of a page, with all steps between them.
 pub fn stretch(entries: &[Entry], page: Span) -> &[Entry]
     ensures { IsStretch page entries.now result.now }
 {

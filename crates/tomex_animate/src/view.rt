@@ -39,7 +39,7 @@ fn links_at(page: Span, cycle: u64) -> Links
     }
 }
 
-/// Adds what a view begins with: its cycle, and the links to others.
+/// Adds the start of a view: its cycle, and the links to others.
 #[tactic(auto, unfolding(crate::specs::Page::frame_head))]
 fn push_head<A: Allocator>(
     text: &mut String<A>,
@@ -59,7 +59,7 @@ fn push_head<A: Allocator>(
     write!(text, "</header>\n")
 }
 
-/// What all views of a page are made of.
+/// The data that all views of a page share.
 #[derive(Clone, Copy)]
 pub struct Views<'a> {
     pub config: &'a Config,

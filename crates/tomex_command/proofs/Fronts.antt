@@ -1,4 +1,4 @@
--- What the refusal of a front report becomes.
+-- The failure for the refusal of a front report.
 use Rattle.std.proofs.Common.{◌≡◌, sym, subst, refl, inr, ℕ, List}
 use Rattle.tomex_sweep.specs.declared.outcome.SweepError.TheVariants as sweeps
 use Rattle.tomex_report.specs.Answer.{IsAnswerRefusal}

@@ -1,4 +1,4 @@
--- Machines of a study's programs that were asked to go on to a cycle, and stopped at their ends.
+-- Machines of a study's programs that were asked to advance to a cycle, and stopped at their ends.
 use Rattle.std.proofs.Common.{◌≡◌, ◌<◌, ℕ, List, arith, ap, ap₂, sym, subst, ◌∙◌, min}
 use Rattle.tomex_image.specs.Image.{Loaded}
 use Rattle.tomex_rvexec.specs.Run.{EndsWithin}
@@ -14,7 +14,7 @@ use Rattle.tomex_row_runs.proofs.Totals.{ends_at_most}
 use Rattle.tomex_texts.specs.TablesText.{tables_text_of}
 use Rattle.tomex_command.specs.TablesLines.{IsTextAfter}
 
--- where a machine of the program on the configuration stands then
+-- the state of a machine of the program on the configuration after that
 pub record HasAdvanced (config : Configuration) (p : Workload) (to : ℕ) (n : Seen) : Type 0 where
   pub image : n.image ≡ p.image
   pub config_is : n.config ≡ config
@@ -34,7 +34,7 @@ has_advanced config p m n to program is goes =
       cycle = ap (λ (s : Seen). s.cycle) at;
     }
 
--- where it came to the cycle it shows the tables of that cycle
+-- if it reached the cycle, it shows the tables of that cycle
 pub is_text : (config : Configuration) (p : Workload) (to : ℕ) (n : Seen) (t : Tables) (text : List ℕ) → IsProgram p
     → HasAdvanced config p to n → (n.cycle < to → ⊥)
     → (EndsWithin n.image 262144 → t ≡ tables_of n.cycle (run_of n.config n.image)) → text ≡ tables_text_of t

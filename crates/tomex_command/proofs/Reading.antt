@@ -17,7 +17,7 @@ one_more_suc file (n ∷ ns) (suc k) name [] bytes inside is older read = absurd
 one_more_suc file (n ∷ ns) (suc k) name (c ∷ cs) bytes inside is older read =
     (older.0, one_more_suc file ns k name cs bytes (omega (arith, inside)) is older.1 read)
 
--- the file at hand is one more
+-- the current file is one more
 pub one_more : (file : List ℕ → Told) (names : List (List ℕ)) (k : ℕ) (name : List ℕ) (contents : List (List ℕ))
     (bytes : List ℕ)
     → k < length names → name ≡ get_or names k name → AreRead file (take k names) contents → IsRead (file name) bytes
@@ -25,7 +25,7 @@ pub one_more : (file : List ℕ → Told) (names : List (List ℕ)) (k : ℕ) (n
 one_more file names k name contents bytes inside is older read =
     rw (add-one) (one_more_suc file names k name contents bytes inside is older read)
 
--- the same of lists that are seen by f and g
+-- the same for lists that are seen by f and g
 pub one_more_of : {X Y : Type 0} (f : X → List ℕ) (g : Y → List ℕ) (file : List ℕ → Told) (names : List X) (k : ℕ)
     (name : X) (shown : List ℕ) (contents : List Y) (value : Y) (grown : List Y)
     → k < length names → name ≡ get_or names k name → shown ≡ f name

@@ -1,4 +1,4 @@
--- What the refusal of a survey becomes.
+-- The failure for the refusal of a survey.
 use Rattle.std.proofs.Common.{◌≡◌, sym, subst, inr, ℕ, List}
 use Rattle.tomex_report.specs.Surveyed.{IsSurveyRefusal}
 use Rattle.tomex_report.specs.declared.survey_error.SurveyError.{SurveyError}

@@ -1,4 +1,4 @@
--- What is printed if a line asks for a page that shows a run cycle by cycle.
+-- The text for a line that asks for a page that shows a run cycle by cycle.
 use Rattle.std.specs.Prelude.{ℕ, List}
 use Rattle.tomex_rvexec.specs.Run.{start_of}
 use Rattle.tomex_rvexec.specs.Trace.{steps_from}

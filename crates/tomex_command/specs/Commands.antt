@@ -1,10 +1,11 @@
--- What a run of the program comes to. A further command is a further case of `IsDone` and of `IsFailure`.
+-- The result of a run of the program. A further command is a further case of `IsDone` and of `IsFailure`.
 use Rattle.std.specs.Prelude.{◌≡◌, ◌⊎◌, ℕ, List, option_map, string_bytes}
 use Rattle.tomex_command.specs.declared.failure.Failure.{Failure}
 use Rattle.tomex_command.specs.declared.failure.Failure.TheVariants.{CannotWrite}
 use Rattle.tomex_command_line.specs.declared.line.Line.{Line}
 use Rattle.tomex_command_line.specs.declared.line.Line.TheVariants.{Run, Times, Stalls, Pipeline, Tables, Animate}
-use Rattle.tomex_command_line.specs.declared.line.Line.TheVariants.{All, Explore, Front, Plot, Rows, Worth, Prices, Page, Explain}
+use Rattle.tomex_command_line.specs.declared.line.Line.TheVariants.{All, Explore, Front, Plot, Rows, Worth}
+use Rattle.tomex_command_line.specs.declared.line.Line.TheVariants.{Prices, Page, Explain}
 use Rattle.tomex_arguments.specs.declared.fault.LineFault.{LineFault}
 use Rattle.tomex_command_line.specs.Asked.{IsAsked, IsNoCommand}
 use Rattle.tomex_report.specs.declared.front_view.FrontView.TheVariants.{Report, Table}
@@ -22,7 +23,7 @@ use Rattle.tomex_command.specs.TablesLines.{IsTablesOf, IsTablesFailure}
 use Rattle.tomex_command.specs.Telling.{IsFailureTold, IsSaid, IsTold}
 use Rattle.tomex_command.specs.TimesLines.{IsTimesOf, IsTimesFailure}
 
--- this text is what the line asks for of files that tell this of their names
+-- this text is what the line asks for, given the files by their names
 abbrev pub IsDone : (List ℕ → Told) → Line → List ℕ → Type 0
 IsDone file (Run line) text = IsRunOf file line text
 IsDone file (Times line) text = IsTimesOf file line text
@@ -64,7 +65,7 @@ pub record IsCarriedOut (file : List ℕ → Told) (line : Line) (old new : Seen
   pub is_done : IsDone file line text
   pub written : IsWhole text old new
 
--- its text was made, and the output took a first part of it
+-- its text was made, and the output took only a first part of it
 pub record IsCutShort (file : List ℕ → Told) (line : Line) (old new : Seen) : Type 0 where
   pub text : List ℕ
   pub is_done : IsDone file line text
@@ -75,7 +76,7 @@ abbrev pub IsLeft : (List ℕ → Told) → Line → Failure → Seen → Seen �
 IsLeft file line CannotWrite old new = IsCutShort file line old new
 IsLeft file line failure old new = IsFailure file line failure × (new ≡ old)
 
--- help or a refused line was told
+-- help or the refusal of a line was printed
 pub record IsToldOnly (words : List (List ℕ)) (status : ℕ) (out-old out err-old err : Seen) : Type 0 where
   pub fault : LineFault
   pub no_command : IsNoCommand words fault
@@ -91,7 +92,7 @@ pub record HasDone (words : List (List ℕ)) (file : List ℕ → Told) (status 
   pub status_is : status ≡ 0
   pub nothing_told : err ≡ err-old
 
--- the line that the words ask for failed, and that was told
+-- the line that the words ask for failed, and that was reported
 pub record HasFailed (words : List (List ℕ)) (file : List ℕ → Told) (status : ℕ)
     (out-old out err-old err : Seen) : Type 0 where
   pub line : Line
@@ -100,7 +101,7 @@ pub record HasFailed (words : List (List ℕ)) (file : List ℕ → Told) (statu
   pub left : IsLeft file line failure out-old out
   pub told : IsFailureTold failure status err-old err
 
--- how a run of the program ends
+-- the end of a run of the program
 abbrev pub IsEnd : List (List ℕ) → (List ℕ → Told) → ℕ → Seen → Seen → Seen → Seen → Type 0
 IsEnd words file status out-old out err-old err =
     IsToldOnly words status out-old out err-old err

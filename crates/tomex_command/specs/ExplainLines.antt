@@ -1,4 +1,4 @@
--- What a line that asks for an explanation comes to, by the words of a refusal, if it has any.
+-- The result of a line that asks for an explanation, given the words of a refusal, if any.
 use Rattle.std.specs.Prelude.{◌≡◌, List, ℕ, Option, Some, None}
 use Rattle.tomex_command.specs.declared.failure.Failure.{Failure}
 use Rattle.tomex_command.specs.declared.failure.Failure.TheVariants.{NoSuchRefusal, Memory}
@@ -15,7 +15,7 @@ abbrev pub IsNoRefusal : Option (List ℕ) → Type 0
 IsNoRefusal None = ⊥
 IsNoRefusal (Some words) = IsUnexplained words errors.NoSuchRefusal
 
--- when each failure comes; memory may be refused for any text
+-- when each failure comes; any text may run out of memory
 abbrev pub IsExplainFailure : Option (List ℕ) → Failure → Type 0
 IsExplainFailure refusal NoSuchRefusal = IsNoRefusal refusal
 IsExplainFailure refusal Memory = Unit {0}

@@ -1,4 +1,4 @@
--- What a line that asks for the front of a study comes to, by `all`, or by `explore`, `front` and `plot`.
+-- The result of a line that asks for the front of a study, by `all`, or by `explore`, `front` and `plot`.
 use Rattle.std.specs.Prelude.{List, ℕ}
 use Rattle.tomex_study.specs.Study.{DesignSpace}
 use Rattle.tomex_report.specs.Answer.{IsShown}
@@ -8,18 +8,18 @@ use Rattle.tomex_command.specs.declared.failure.Failure.TheVariants.{Worker}
 use Rattle.tomex_streams.specs.Files.{Told}
 use Rattle.tomex_command.specs.StudyFiles.{AreSources, IsStudyIn, IsStudyFailure}
 
--- the text shows the front of the study of that name so
+-- the text shows the front of the study with this name in this view
 pub record IsFrontOf (view : FrontView) (file : List ℕ → Told) (name : List ℕ) (text : List ℕ) : Type 0 where
   pub bytes : List ℕ
   pub contents : List (List ℕ)
   pub sources : AreSources file name bytes contents
   pub shown : IsShown view bytes contents text
 
--- when each failure of an exploration comes: those of the study, and a refused thread where the study is fine
+-- the failures of an exploration: those of the study, and a refused thread if the study is fine
 abbrev pub IsExploreFailure : (List ℕ → Told) → List ℕ → Failure → Type 0
 IsExploreFailure file name Worker = (study : DesignSpace) × IsStudyIn file name study
 IsExploreFailure file name failure = IsStudyFailure file name failure
 
--- when each failure of `all` comes: those of the study, and no refused thread
+-- the failures of `all`: those of the study, but no refused thread
 abbrev pub IsAllFailure : (List ℕ → Told) → List ℕ → Failure → Type 0
 IsAllFailure file name failure = IsStudyFailure file name failure

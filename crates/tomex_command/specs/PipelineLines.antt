@@ -1,4 +1,4 @@
--- What a line that asks for a picture of instructions, or for their log, comes to.
+-- The result of a line that asks for a picture of instructions, or for their log.
 use Rattle.std.specs.Prelude.{◌≡◌, ℕ, Bool, true, false, List}
 use Rattle.tomex_rvexec.specs.Run.{start_of}
 use Rattle.tomex_rvexec.specs.Trace.{steps_from}
@@ -14,7 +14,7 @@ use Rattle.tomex_command_line.specs.declared.line.pipeline.PipelineLine.{Pipelin
 use Rattle.tomex_command.specs.Chosen.{IsOfRun, IsRunFailure}
 use Rattle.tomex_streams.specs.Files.{Told}
 
--- what is asked for: the log of so many steps from one on, or their picture
+-- the text that is asked for: the log of a number of steps from one on, or their picture
 abbrev pub IsShown : Bool → Configuration → List Step → ℕ → ℕ → List ℕ → Type 0
 IsShown true config steps from count text = IsLogOf config steps from count text
 IsShown false config steps from count text = IsPictureOf config steps from count text

@@ -14,13 +14,13 @@ AreRead file [] [] = Unit {0}
 AreRead file (name ∷ names) (bytes ∷ contents) = IsRead (file name) bytes × AreRead file names contents
 AreRead file _ _ = ⊥
 
--- why a file was not read: it is missing, and told by its name, or memory was refused
+-- the failure for a file that was not read: it is missing, and reported by its name, or out of memory
 abbrev pub IsUnread : (List ℕ → Told) → List ℕ → Failure → Type 0
 IsUnread file name (CannotRead missing) = (string_bytes missing ≡ name) × IsMissing (file name)
 IsUnread file name Memory = Unit {0}
 IsUnread file name _ = ⊥
 
--- what is reported of a file that was not read, by its name
+-- the failure for a file that was not read, given its name
 abbrev pub unread_as : ReadFault → String Global → Failure
 unread_as NoFile name = CannotRead name
 unread_as faults.Memory name = Memory
@@ -33,7 +33,7 @@ pub record IsFirstMissing (file : List ℕ → Told) (names : List (List ℕ)) (
   pub there : slice_get names place ≡ Some missing
   pub is_missing : IsMissing (file missing)
 
--- why not all files of these names were read
+-- the failure if not all files of these names were read
 abbrev pub AreUnread : (List ℕ → Told) → List (List ℕ) → Failure → Type 0
 AreUnread file names (CannotRead missing) = IsFirstMissing file names (string_bytes missing)
 AreUnread file names Memory = Unit {0}

@@ -1,4 +1,4 @@
--- What a line that asks for a run comes to.
+-- The result of a line that asks for a run.
 use Rattle.std.specs.Prelude.{List, ℕ}
 use Rattle.tomex_image.specs.Window.{IsWindow}
 use Rattle.tomex_command.specs.declared.failure.Failure.{Failure}
@@ -16,7 +16,7 @@ pub record IsRunOf (file : List ℕ → Told) (line : RunLine) (text : List ℕ)
   pub read : IsRead (file line.image.now) bytes
   pub is_text : IsRunText bytes (record { base = line.base; size = line.size }) line.limit text
 
--- base and size are a window, and the image's bytes or their run are refused so
+-- base and size are a window, and the image's bytes or their run have this refusal
 pub record IsRefusedRun (file : List ℕ → Told) (line : RunLine) (refusal : RunRefusal) : Type 0 where
   pub window : IsWindow line.base line.size
   pub bytes : List ℕ

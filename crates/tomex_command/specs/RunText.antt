@@ -38,7 +38,7 @@ IsRunText bytes window limit text =
     (i : Loaded) × placed bytes window i × (refused bytes window ≡ None)
     × ((k : ℕ) × (s : State) × (kind : EndKind) × (k < limit) × RunEnds i k s kind × (text ≡ text_of kind (k + 1) s))
 
--- the bytes load as an image whose run is refused so
+-- the bytes load as an image whose run has this refusal
 abbrev pub LoadsAndFails : List ℕ → Span → ℕ → RunError → Type 0
 LoadsAndFails bytes window limit e =
     (i : Loaded) × placed bytes window i × (refused bytes window ≡ None) × IsRefusal i limit e

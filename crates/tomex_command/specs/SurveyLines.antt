@@ -1,4 +1,5 @@
--- What a line that asks for all rows of a study does: `rows`, `worth`, `prices`, `page`, and `plot` with all rows.
+-- The result of a line that asks for all rows of a study: by `rows`, `worth`, `prices`, `page`, and `plot` with all
+-- rows.
 use Rattle.std.specs.Prelude.{ℕ, Bool, true, false, List}
 use Rattle.tomex_report.specs.Surveyed.{IsSurveyed, IsUnsurveyed}
 use Rattle.tomex_report.specs.declared.front_view.FrontView.TheVariants as fronts
@@ -12,14 +13,14 @@ use Rattle.tomex_command.specs.declared.failure.Failure.TheVariants.{NoSuchRow, 
 use Rattle.tomex_streams.specs.Files.{Told}
 use Rattle.tomex_command.specs.StudyFiles.{AreSources, IsStudyFailure}
 
--- the text is what is printed of all rows of the study of that name
+-- the text is what is printed of all rows of the study with this name
 pub record IsSurveyOf (view : SurveyView) (file : List ℕ → Told) (name : List ℕ) (text : List ℕ) : Type 0 where
   pub bytes : List ℕ
   pub contents : List (List ℕ)
   pub sources : AreSources file name bytes contents
   pub surveyed : IsSurveyed view bytes contents text
 
--- the study of that name has no such text for this reason
+-- the study with this name has no such text for this reason
 pub record IsWithoutSurvey (view : SurveyView) (file : List ℕ → Told) (name : List ℕ)
     (error : SurveyError) : Type 0 where
   pub bytes : List ℕ
@@ -33,7 +34,7 @@ IsSurveyFailure view file name NoSuchRow = IsWithoutSurvey view file name errors
 IsSurveyFailure view file name TableTooLarge = IsWithoutSurvey view file name errors.TooLarge
 IsSurveyFailure view file name failure = IsStudyFailure file name failure
 
--- the text of `plot`, with all rows or without them
+-- the text of `plot`, with or without all rows
 abbrev pub IsPlotOf : Bool → (List ℕ → Told) → List ℕ → List ℕ → Type 0
 IsPlotOf true file name text = IsSurveyOf views.Picture file name text
 IsPlotOf false file name text = IsFrontOf fronts.Picture file name text

@@ -1,4 +1,4 @@
--- What a line that asks for the tables after a cycle comes to.
+-- The result of a line that asks for the tables after a cycle.
 use Rattle.std.specs.Prelude.{◌≡◌, ◌<◌, ◌≤◌, ℕ, List}
 use Rattle.tomex_config.specs.Configuration.{Configuration}
 use Rattle.tomex_timing.specs.Tables.{tables_of}
@@ -11,12 +11,12 @@ use Rattle.tomex_command_line.specs.declared.line.tables.TablesLine.{TablesLine}
 use Rattle.tomex_command.specs.Chosen.{IsOfRun, IsRunFailure}
 use Rattle.tomex_streams.specs.Files.{Told}
 
--- the cycle is none past the end of the program's run on the configuration, and the text is that of the tables after it
+-- the cycle is not past the end of the program's run on the configuration, and the text is that of the tables after it
 pub record IsTextAfter (config : Configuration) (program : Workload) (cycle : ℕ) (text : List ℕ) : Type 0 where
   pub reached : cycle ≤ total config program.image
   pub tables : text ≡ tables_text_of (tables_of cycle (run_of config program.image))
 
--- why a run's tables are not shown: it ends before the cycle, or memory was refused
+-- the failure if a run's tables are not shown: it ends before the cycle, or out of memory
 abbrev pub IsUnshown : Configuration → Workload → ℕ → Failure → Type 0
 IsUnshown config program cycle CyclePastEnd = total config program.image < cycle
 IsUnshown config program cycle Memory = Unit {0}

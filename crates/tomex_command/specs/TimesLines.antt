@@ -1,4 +1,4 @@
--- What a line that asks for a times report comes to.
+-- The result of a line that asks for a times report.
 use Rattle.std.specs.Prelude.{◌≡◌, ℕ, List}
 use Rattle.tomex_rvexec.specs.Run.{start_of}
 use Rattle.tomex_rvexec.specs.Trace.{steps_from}

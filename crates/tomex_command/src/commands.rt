@@ -99,7 +99,7 @@ fn text_of<
     }
 }
 
-/// Writes the text that a line asks for, and nothing before the whole of it is made.
+/// Writes the text that a line asks for; nothing is written before the whole text is made.
 fn carry_out<
     R: Threads + Wait + Sync,
     F: Files,
@@ -127,12 +127,11 @@ fn carry_out<
     }
 }
 
-/// Runs the program on a command line, the program's own name first, and gives its exit status:
-/// 0 done, 1 refused input, 2 a refused command line, 3 memory, a thread, a file or a device.
+/// Runs the program on a command line, the program's own name first, and returns its exit status: 0
+/// done, 1 refused input, 2 a refused command line, 3 memory, a thread, a file or a device.
 ///
-/// While a study's rows are gone through, `meter` hears how far that is.
-/// Results and help go to `out`. What is wrong goes to `err`: one line `tomex: ..` with 1 and 3,
-/// the parser's text with 2.
+/// While a study's rows are explored, their progress is reported to `meter`. Results and help go to
+/// `out`. Error messages go to `err`: one line `tomex: ..` with 1 and 3, the parser's text with 2.
 pub fn command<
     R: Threads + Wait + Sync,
     F: Files,
@@ -146,7 +145,8 @@ pub fn command<
         (E.seen err.old) (E.seen err.new) }
     ensures statuses { result ≤ 3 }
 
-    // A refused input or line writes nothing to the standard output; only a whole text is done.
+    // If the input or the line is refused, nothing is written to the standard output; only a whole
+    // text is done.
     ensures refused { (result ≡ 1) ⊎ (result ≡ 2)
         → (O.seen out.new).taken ≡ (O.seen out.old).taken }
     ensures done { result ≡ 0 → (O.seen out.new).faults ≡ (O.seen out.old).faults }

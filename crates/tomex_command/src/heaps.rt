@@ -2,11 +2,11 @@
 
 use std::alloc::{Allocator, Global};
 
-/// Where a run of the program takes its memory from.
+/// The allocators from which a run of the program takes its memory.
 #[derive(Drop)]
 pub struct Heaps<A: Allocator> {
-    /// What is made of studies and images.
+    /// For everything that is made of studies and images.
     pub images: A,
-    /// The command line, and the names and texts of failures.
+    /// For the command line, and the names and texts of failures.
     pub texts: Global,
 }

@@ -1,5 +1,4 @@
-//! What the program does: each command's text, what is reported of failures, and a whole run of the program
-//! over any files and sinks.
+//! The commands: each command's text, the reports of failures, and a whole run of the program over any files and sinks.
 #![tactic(auto)]
 
 mod commands;

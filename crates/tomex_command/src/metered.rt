@@ -1,4 +1,4 @@
-//! A gate that tells a meter how far an exploration is.
+//! A gate that reports the progress of an exploration to a meter.
 
 ghost use Rattle.std.specs.Prelude.{◌≡◌};
 
@@ -6,7 +6,7 @@ use std::sync::atomic::{AtomicU64, Ordering};
 use tomex_streams::Meter;
 use tomex_sweep::Gate;
 
-/// Counts the runs that begin. As many configurations as there are workers may have begun and not be over yet.
+/// A count of the runs that have begun. As many configurations as there are workers may have begun and not be over yet.
 #[derive(Drop)]
 pub struct Metered<'a, M: Meter> {
     meter: &'a M,
@@ -16,7 +16,7 @@ pub struct Metered<'a, M: Meter> {
 }
 
 impl<'a, M: Meter> Metered<'a, M> {
-    /// Nothing has begun.
+    /// The gate before any run has begun.
     pub fn new(meter: &'a M, workers: u64) -> Metered<'a, M>
         ensures meter { result.meter.now ≡ meter.now }
         ensures workers { result.workers ≡ workers }

@@ -24,7 +24,7 @@ fn exit_of(status: u8) -> ExitCode
     ExitCode::from(status)
 }
 
-/// Runs the program on its words, or reports why there are none, and answers its exit code.
+/// Runs the program on its words, or reports why there are none, and returns its exit code.
 pub fn run_words<
     R: Threads + Wait + Sync,
     F: Files,
@@ -63,7 +63,7 @@ fn words_of(rt: &(impl env::Env + AllocGlobal)) -> Result<Vec<String>, LineFault
     }
 }
 
-/// Runs the program on the system's command line, files and streams, and answers its exit code: what `main` does.
+/// Runs the program on the system's command line, files and streams, and returns its exit code: what `main` does.
 pub fn run_of<R: AllocGlobal + env::Env + std::rt::Files + Clock + Threads + Wait + Sync>(
     rt: &R,
     out: Stdout,

@@ -14,7 +14,7 @@ use tomex_rvexec::{End, Fault, RunError, run};
 /// Why an image has no text of a run.
 #[derive(Clone, Copy, Debug, Error, PartialEq, Eq)]
 pub enum RunRefusal {
-    /// The bytes are no image for the window. Never carries want of memory.
+    /// The bytes are no image for the window. Never `ImageError::Memory`.
     #[error("image: {0}")]
     Image(ImageError),
     /// An instruction can't be carried out.
@@ -23,7 +23,7 @@ pub enum RunRefusal {
     /// The program doesn't end within the limit.
     #[error("too long")]
     TooLong,
-    /// Memory was refused.
+    /// Out of memory.
     #[error("out of memory")]
     Memory,
 }
@@ -81,9 +81,9 @@ fn text_of_end<A: Allocator>(alloc: A, end: &End<A>) -> Result<String<A>, AllocE
     Ok(text)
 }
 
-/// Runs an image's bytes and tells how they end: 32 lines `x0=00000000` to `x31=..` in
-/// hexadecimal, and a line like `ebreak at 0000000c after 4`, which names the end, its
-/// address and the number of steps. Every line ends in a line feed.
+/// Runs an image's bytes and reports how they end: 32 lines `x0=00000000` to `x31=..` in
+/// hexadecimal, and a line like `ebreak at 0000000c after 4`, which names the end, its address and
+/// the number of steps. Every line ends in a line feed.
 pub fn run_text<A: Allocator + Clone>(
     alloc: A,
     bytes: &[u8],

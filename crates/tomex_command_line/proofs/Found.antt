@@ -25,7 +25,7 @@ pub found_is : (m : ArgMatches) (name : Text) (rows : List Row) → Some name �
 found_is m name rows a b = both_of (λ s. (out-SubCommand (box_value s)).name.now)
     (λ s. rows_of (found_of (out-SubCommand (box_value s)).matches)) (out-ArgMatches m).subcommand name rows a b
 
--- and so it is if the name is this word
+-- the same if the name is this word
 pub found_as : (m : ArgMatches) (name word : Text) (rows : List Row) → Some name ≡ subcommand_name_of m
     → Some rows ≡ option_map (λ (p : Text × List Row). p.1) (subcommand_rows_of m) → name ≡ word
     → subcommand_rows_of m ≡ Some (word, rows)

@@ -1,4 +1,4 @@
--- A command with one argument more, by what it was before.
+-- A command with one more argument, given what it was before.
 use Rattle.std.proofs.Common.{◌≡◌, ◌∙◌, ap₂, IfOk, IsOkAnd, Result, Ok, Err}
 use Rattle.clap.specs.Words.{App, Rule, app_of, with_rule}
 use Rattle.clap.specs.declared.builder.command.Command.{Command}

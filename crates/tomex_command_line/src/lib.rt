@@ -1,5 +1,5 @@
-//! The command line: what it may ask for, and what it says that is wrong with it. No part of the program
-//! above knows of `clap`.
+//! The command line: what it may ask for, and the report of what is wrong with it. No other part of the program knows
+//! of `clap`.
 #![tactic(auto)]
 
 mod line;

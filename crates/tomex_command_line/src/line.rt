@@ -1,8 +1,8 @@
-//! The command line, read by `clap`. No part of the program above knows of `clap`.
+//! The command line, read by `clap`. No other part of the program knows of `clap`.
 //!
-//! Each command has a file here with two functions: `grammar`, what `clap` is to read and to say in
-//! its help, and `line_of`, what was read. A further command is a further file, a variant of `Line`
-//! and a line in each of `grammar` and `line_of` below.
+//! Each command has a file here with two functions: `grammar`, what `clap` reads and prints in its
+//! help, and `line_of`, what was read. A further command is a further file, a variant of `Line` and
+//! a line in each of `grammar` and `line_of` below.
 ghost use Rattle.std.specs.Prelude.{◌≡◌, [], IfOk, IfErr, map, string_bytes};
 ghost use Rattle.tomex_arguments.specs.Faults.{IsRefusedIf};
 ghost use Rattle.tomex_command_line.specs.Grammar.{bare_app, tomex_app};
@@ -44,7 +44,7 @@ use tables::TablesLine;
 use tomex_arguments::{LineFault, fault_of, refused};
 use worth::WorthLine;
 
-/// What a command line asks for.
+/// A request, as read from the command line.
 #[derive(Drop)]
 pub enum Line<'a> {
     Run(RunLine<'a>),
@@ -98,7 +98,7 @@ Examples, in the folder `examples`:
 Numbers on the command line are decimal; in a study's TOML they may be
 hexadecimal too, as in 0x10000.";
 
-/// The program, before it has commands.
+/// The program without its commands.
 fn without_commands<'a>(alloc: Global) -> Command<'a>
     ensures { app_of result ≡ bare_app }
 {
@@ -131,7 +131,7 @@ fn grammar<'a>(alloc: Global) -> Result<Command<'a>, AllocError>
     offering(program, explain::grammar(alloc))
 }
 
-/// What the command asks for that the parser found.
+/// The line of the command that the parser found.
 fn line_of<'a>(alloc: Global, matches: &ArgMatches<'a>) -> Result<Line<'a>, LineFault>
     ensures command { IfOk result (λ line. IsCommand (subcommand_rows_of matches.now) line) }
     ensures refused { IfErr result (IsRefusedIf (IsNoLineAsked (subcommand_rows_of matches.now))) }

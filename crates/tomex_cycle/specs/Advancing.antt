@@ -1,13 +1,14 @@
--- How a machine goes on.
+-- A machine's advance to a cycle.
 use Rattle.std.specs.Prelude.{ℕ, ◌≡◌, ◌≢◌, ◌≤◌, max}
 use Rattle.tomex_cycle.specs.declared.progress.Progress.TheVariants.{Running}
 use Rattle.tomex_cycle.specs.Events.{IsCounted}
 use Rattle.tomex_cycle.specs.Run.{EndsWithinLimit, run_of}
 use Rattle.tomex_cycle.specs.Seen.{Machine, seen, seen_after}
 
--- The machine has gone on to the cycle `to`, or less far if it has ended or faulted. If its program ends within the
--- limit, it is, but for its count, the one that the recurrence says of that cycle, and its count has risen by at
--- least the cycles gone through in which anything happens, and by at most one more than twice their events.
+-- The machine has advanced to the cycle `to`, or less far if it has ended or faulted. If its program ends within the
+-- limit, the machine, except for its count, is the one that the recurrence gives for that cycle, and its count has
+-- risen by at least the number of cycles passed in which anything happens, and by at most one more than twice their
+-- events.
 pub record AdvancesTo (to : ℕ) (old new : Machine) : Type 0 where
   pub image : new.image ≡ old.image
   pub config : new.config ≡ old.config

@@ -1,4 +1,4 @@
--- What a cycle comes to, as the machine tells it.
+-- The outcome of a cycle, as the machine reports it.
 use Rattle.tomex_cycle.specs.declared.progress.CycleOutcome.{CycleOutcome}
 use Rattle.tomex_cycle.specs.declared.progress.CycleOutcome.TheVariants as after
 use Rattle.tomex_cycle.specs.declared.progress.Progress.{Progress}

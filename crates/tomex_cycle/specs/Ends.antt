@@ -1,4 +1,4 @@
--- What the end of a cycle makes of stations, registers and the next pc, as the state itself says it.
+-- The effect of a cycle's end on stations, registers and the next pc, stated over the state itself.
 use Rattle.std.specs.Prelude.{◌≡◌, ◌≤◌, ℕ, ◌<◌, nat_le, nat_lt, Bool, true, false, ◌&&◌, ◌||◌, if◌then◌else◌, not}
 use Rattle.std.specs.Prelude.{List, Option, Some, None, is_some, length, slice_index, slice_index_or, option_map}
 use Rattle.tomex_rvdec.specs.Operands.{dest_of}
@@ -22,7 +22,7 @@ abbrev pub is_finished_by : Option ℕ → ℕ → Bool
 is_finished_by None cycle = false
 is_finished_by (Some finish) cycle = nat_le finish cycle
 
--- what has nothing to send ends as it finishes
+-- an operation with nothing to send ends as it finishes
 abbrev pub ends_alone : ℕ → Option Station → Bool
 ends_alone cycle None = false
 ends_alone cycle (Some s) = not (is_some (dest_of s.instr)) && is_finished_by s.finish cycle
@@ -32,7 +32,7 @@ abbrev pub can_send : ℕ → Option Station → Bool
 can_send cycle None = false
 can_send cycle (Some s) = is_some (dest_of s.instr) && is_finished_before s.finish cycle
 
--- of the unsent results the oldest are sent, as many as there are buses; what has nothing to send ends as it finishes
+-- the oldest unsent results are sent, as many as there are buses; an operation with nothing to send ends as it finishes
 pub record AreEnding (st : Pools) (buses cycle ending : ℕ) : Type 0 where
   pub unsent : ℕ
   pub sending : ℕ
@@ -43,12 +43,12 @@ pub record AreEnding (st : Pools) (buses cycle ending : ℕ) : Type 0 where
 abbrev pub after_ends : Bool → (ℕ → Option ℕ) → Option Station → Option Station
 after_ends ended sent s = if ended then None else option_map (hears sent) s
 
--- what a station sends as it ends
+-- the value that a station sends as it ends
 abbrev pub sends_of : Option Station → Option ℕ
 sends_of None = None
 sends_of (Some s) = if is_some (dest_of s.instr) then Some s.value else None
 
--- what the picked places below n send
+-- the values that the picked places below n send
 abbrev pub sent_below : List (Option Station) → ℕ → ℕ → ℕ → Option ℕ
 sent_below slots picked n y = if nat_lt y n && has picked y then sends_of (slot slots y) else None
 
@@ -77,11 +77,11 @@ abbrev pub finishes : ℕ → Option Station → Bool
 finishes cycle None = false
 finishes cycle (Some s) = is_number s.finish cycle
 
--- the set is of the places whose units are done in the cycle
+-- the set is that of the places whose units are done in the cycle
 abbrev pub AreDone : List (Option Station) → ℕ → ℕ → Type 0
 AreDone slots cycle due = (x : ℕ) → x < 128 → has due x ≡ finishes cycle (slot slots x)
 
--- the next pc after what a place holds
+-- the next pc after the instruction in a place
 abbrev pub target_in : Option Station → ℕ
 target_in None = 0
 target_in (Some s) = next_pc_of (step_in s)

@@ -1,4 +1,4 @@
--- In which cycles the operations of the busy stations finish.
+-- The cycles in which the operations of the busy stations finish.
 use Rattle.std.specs.Prelude.{ℕ, Bool, true, false, not, is_some, ◌≡◌, ◌≤◌, ◌<◌, ◌+◌, ◌&&◌}
 use Rattle.std.specs.Prelude.{◌⊎◌, List, Option, Some, None, length, slice_index_or}
 use Rattle.tomex_rvdec.specs.Operands.{dest_of}
@@ -11,7 +11,7 @@ use Rattle.tomex_cycle.specs.Ends.{after_ends, can_send, finishes}
 use Rattle.tomex_membuf.specs.Order.{is_finished_before}
 use Rattle.tomex_tags.specs.Contents.{slot}
 
--- none finishes from one cycle to another, with both
+-- none finishes from one cycle to another, both included
 abbrev pub IsFree : List (Option Station) → ℕ → ℕ → Type 0
 IsFree slots from to = (x v : ℕ) → x < 96 → from ≤ v → v ≤ to → finishes v (slot slots x) ≡ false
 
@@ -23,55 +23,55 @@ AreResults slots v = (x : ℕ) → x < 96 → finishes v (slot slots x) ≡ true
 abbrev pub FinishesNext : List (Option Station) → ℕ → Type 0
 FinishesNext slots cycle = (x : ℕ) × (x < 96) × (finishes (cycle + 1) (slot slots x) ≡ true)
 
--- what has nothing to send finished before the cycle, and stands there yet
+-- an operation with nothing to send finished before the cycle, and is still in its station
 abbrev pub has_stayed : ℕ → Option Station → Bool
 has_stayed cycle None = false
 has_stayed cycle (Some s) = not (is_some (dest_of s.instr)) && is_finished_before s.finish cycle
 
--- the finishes of these stations, as they are known before a cycle ends
+-- the finishes of these stations, as known before a cycle ends
 pub record IsTimetableOf (slots : List (Option Station)) (cycle : ℕ) (known : Finishes) : Type 0 where
   pub places : length slots ≡ 96
-  -- so far ahead the wheel has what finishes then
+  -- the wheel has at each distance ahead what finishes then
   pub ahead : (a x : ℕ) → a < 64 → x < 96 → is_due known.wheel a x ≡ finishes (cycle + a) (slot slots x)
   -- nothing finishes beyond the wheel
   pub near : (x v : ℕ) → x < 96 → finishes v (slot slots x) ≡ true → v < cycle + 64
-  -- the wheel has places of stations alone
+  -- the wheel has only places of stations
   pub low : (a x : ℕ) → is_due known.wheel a x ≡ true → x < 96
   -- results that finished before the cycle wait for a bus
   pub unsent : (x : ℕ) → x < 128 → has known.unsent x ≡ can_send cycle (slot slots x)
-  -- what has nothing to send has ended as it finished
+  -- each operation with nothing to send has ended as it finished
   pub gone : (x : ℕ) → x < 96 → has_stayed cycle (slot slots x) ≡ false
 
 -- each timetable of the old stations is one of the new ones too
 abbrev pub KeepsTimetable : ℕ → List (Option Station) → List (Option Station) → Type 0
 KeepsTimetable cycle old new = (known : Finishes) → IsTimetableOf old cycle known → IsTimetableOf new cycle known
 
--- what finishes in a cycle is taken out, and the next one is ahead
+-- what finishes in the cycle is taken out, and the next cycle becomes the first
 pub record HaveTurned (old new : Finishes) (taken : ℕ) : Type 0 where
   pub due : (x : ℕ) → has taken x ≡ is_due old.wheel 0 x
   pub wheel : (a x : ℕ) → is_due new.wheel a x ≡ is_due old.wheel (a + 1) x
   pub unsent : new.unsent ≡ old.unsent
 
--- what was known before a cycle ends, once what finishes in it is taken out
+-- the finishes known before a cycle ends, after what finishes in it is taken out
 pub record AreTurned (slots : List (Option Station)) (cycle due : ℕ) (now : Finishes) : Type 0 where
   pub before : Finishes
   pub known : IsTimetableOf slots cycle before
   pub turned : HaveTurned before now due
 
--- once these places have ended, and all others have heard what was sent, the finishes are known before the next cycle
+-- after these places have ended and all others have heard what was sent, the finishes are known before the next cycle
 abbrev pub LeavesTimetable : List (Option Station) → ℕ → ℕ → Finishes → Type 0
 LeavesTimetable slots cycle ending known =
     (new : List (Option Station)) (sent : ℕ → Option ℕ) → length new ≡ 96
     → ((x : ℕ) → x < 96 → slice_index_or new x None ≡ after_ends (has ending x) sent (slot slots x))
     → IsTimetableOf new (cycle + 1) known
 
--- how many cycles can be skipped: those before the next finish, so far ahead if there is any, but no more than these
+-- the number of cycles that can be skipped: those before the next finish, if there is one, but at most most
 abbrev pub CanSkip : Option ℕ → ℕ → ℕ → Type 0
 CanSkip None most n = n ≡ most
 CanSkip (Some ahead) most n = (n ≤ ahead) × (n < most → n ≡ ahead)
 
--- the cycles before the next finish are skipped, and the one of that finish too if nothing but results finishes in it:
--- it is counted
+-- the cycles before the next finish are skipped, and also that of the finish if only results finish in it: this one is
+-- counted
 pub record IsSkipped (slots : List (Option Station)) (cycle to now before after : ℕ) : Type 0 where
   pub last_free : ℕ
   pub least : cycle ≤ last_free

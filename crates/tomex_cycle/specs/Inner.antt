@@ -1,4 +1,4 @@
--- The inner state of a machine: where it stands in a run, and what a cycle makes of it.
+-- The inner state of a machine: its position in a run, and what a cycle does to it.
 use Rattle.std.specs.Prelude.{ℕ, ◌≡◌, ◌+◌, ◌<◌, ◌≤◌, None, nat_lt, if◌then◌else◌, replicate}
 use Rattle.tomex_image.specs.Image.{Loaded}
 use Rattle.tomex_rvexec.specs.declared.end.End.{End}
@@ -28,8 +28,7 @@ pub record IsFresh {A : Type 0} (i : Loaded) (inner : Inner A) : Type 0 where
 
 -- If the inner state is that of a run that ends, after the cycle before this one, it becomes the one after this cycle.
 -- The outcome is Ended just if no step of the run ends later; if it is Active, something happens in this cycle; if it
--- is Settled, the steps that have issued are settled in it, from which it follows that nothing happens after it before
--- the next finish.
+-- is Settled, the issued steps are settled in it, so nothing happens after it before the next finish.
 abbrev pub MakesCycle : {A : Type 0}
     → Loaded → Configuration → (cycle : ℕ) → Inner A → CycleOutcome → Inner A → Type 0
 MakesCycle i config cycle old outcome new =

@@ -1,4 +1,5 @@
--- The issue of one instruction, in a cycle in which others may have issued before it, and of as many as the width says.
+-- The issue of one instruction, in a cycle in which others may have issued before it, and of as many as the width
+-- allows.
 use Rattle.std.specs.Prelude.{◌≡◌, ℕ, ◌+◌, ◌≤◌, ◌==◌, Bool, true, false, if◌then◌else◌, List, Result, Ok, count_by}
 use Rattle.tomex_image.specs.Image.{Loaded}
 use Rattle.tomex_rvexec.specs.declared.outcome.Fault.{Fault}
@@ -12,8 +13,8 @@ use Rattle.tomex_cycle.specs.Views.{clocks, ShowsRegisters, ShowsStations, fetch
 use Rattle.tomex_tags.specs.Pools.{Pools}
 use Rattle.tomex_tags.specs.declared.register_status.RegStatus.{RegStatus}
 
--- Amid the issues of the cycle u, the one after t: so many steps of the run are issued, which ends after n
--- others, and the next one couldn't issue by t.
+-- During the issues of cycle u, the one after t: count steps of the run, which ends after n others, are issued, and the
+-- next one couldn't issue by t.
 pub record IsIssuing (i : Loaded) (config : Configuration) (n t u count : ℕ) (stations : Pools) (registers : RegStatus)
     (fetch : Fetch) : Type 0 where
   pub few : count ≤ n + 1
@@ -23,7 +24,7 @@ pub record IsIssuing (i : Loaded) (config : Configuration) (n t u count : ℕ) (
   pub issued : AreIssuedBy u (first_timed config i count)
   pub next : count ≤ n → IsYetToIssue i config count t
 
--- how many have issued then
+-- the number of steps issued after one more issue, if it is made
 abbrev pub count_after : Bool → ℕ → ℕ
 count_after made count = if made then count + 1 else count
 
@@ -37,17 +38,17 @@ IssuesNext i config count stations registers fetch result new status from =
     → (made : Bool) × (result ≡ Ok made) × IsIssuing i config n t u (count_after made count) new status from
     × (made ≡ false → count ≤ n → IsYetToIssue i config count u)
 
--- how many of a history issue in the cycle
+-- the number of steps of a history that issue in the cycle
 abbrev pub issued_in : ℕ → List Done → ℕ
 issued_in u h = count_by (λ d. d.at.issue == u) h
 
--- So many steps are issued, the last so many of them in the cycle u.
+-- The first count steps are issued, the last made of them in cycle u.
 pub record HaveIssued (i : Loaded) (config : Configuration) (n t u count made : ℕ) (stations : Pools)
     (registers : RegStatus) (fetch : Fetch) : Type 0 where
   pub now : IsIssuing i config n t u count stations registers fetch
   pub in_cycle : issued_in u (first_timed config i count) ≡ made
 
--- from where one has issued in the cycle to where so many have
+-- from one issue in the cycle to all its issues
 abbrev pub IssuesOn : Loaded → Configuration → ℕ → Pools → RegStatus → Fetch
     → ℕ → ℕ → Pools → RegStatus → Fetch → Type 0
 IssuesOn i config count stations registers fetch made counted new status from =
@@ -55,7 +56,7 @@ IssuesOn i config count stations registers fetch made counted new status from =
     → HaveIssued i config n t u count 1 stations registers fetch
     → (count ≤ counted) × HaveIssued i config n t u counted made new status from
 
--- Where one has issued, more do, up to the width or to one that can't.
+-- After one issue, more steps issue, up to the width or to one that can't.
 abbrev pub IssuesMore : Loaded → Configuration → ℕ → Pools → RegStatus → Fetch
     → ℕ → Pools → RegStatus → Fetch → Type 0
 IssuesMore i config count stations registers fetch counted new status from =

@@ -1,4 +1,4 @@
--- What each phase of a cycle makes, and the snapshot between two cycles.
+-- The effect of each phase of a cycle, and the snapshot between two cycles.
 use Rattle.std.specs.Prelude.{◌≡◌, ℕ, ◌+◌, ◌≤◌, ◌<◌, false, List, Option, Some}
 use Rattle.std.specs.Prelude.{None, Result, Ok, Bool, true, ◌&&◌, ◌==◌, nat_lt}
 use Rattle.tomex_image.specs.Image.{Loaded}
@@ -17,13 +17,13 @@ use Rattle.tomex_cycle.specs.Views.{Clocks, clocks, ShowsMemory, ShowsRegisters,
 use Rattle.tomex_tags.specs.Pools.{Pools}
 use Rattle.tomex_tags.specs.declared.register_status.RegStatus.{RegStatus}
 
--- the step after so many others can't have issued by the cycle
+-- the step after count others can't have issued by the cycle
 abbrev pub IsYetToIssue : Loaded → Configuration → ℕ → ℕ → Type 0
 IsYetToIssue i config count t =
     (x : Step) → step_after i count ≡ Some x
     → (s : ℕ) → s ≤ t → can_issue config (first_timed config i count) x s ≡ false
 
--- What issue changes, once the issues up to cycle t are made: so many steps of the run, which ends after n others.
+-- The state that issue changes, after the issues up to cycle t: of count steps of the run, which ends after n others.
 pub record IsIssuedTo (i : Loaded) (config : Configuration) (n t : ℕ) (c : Clocks) (count : ℕ) (stations : Pools)
     (registers : RegStatus) (fetch : Fetch) : Type 0 where
   pub few : count ≤ n + 1
@@ -39,9 +39,9 @@ pub record IsSnapshot (i : Loaded) (config : Configuration) (n t count : ℕ) (s
   pub issue : IsIssuedTo i config n t (clocks t t t) count stations registers fetch
   pub bytes : ShowsMemory i t (first_timed config i count) memory
 
--- The phases of a cycle, in their order. Each is stated of whatever history the state before it shows.
+-- The phases of a cycle, in their order. Each is stated for any history that the state before it shows.
 
--- starts: what starts in the cycle has its finish and its result, and memory what the stores among them leave
+-- starts: what starts in the cycle has its finish and its result, and memory what its stores leave
 abbrev pub MakesStarts : Configuration → ℕ → Pools → Bytes → Option Fault → Pools → Bytes → Type 0
 MakesStarts config cycle stations memory fault new written =
     (i : Loaded) (h : List Done) (t : ℕ) → cycle ≡ t + 1 → IsHistory i config h → AreIssuedBy t h
@@ -55,7 +55,7 @@ MakesAddress cycle stations new =
     → IsHistory i config h → AreIssuedBy t h → ShowsStations i (clocks cycle t t) h stations
     → ShowsStations i (clocks cycle cycle t) h new
 
--- the issues of the run's next steps whose cycle it is, how many are counted then, and whether there are any
+-- the issues of the run's next steps whose cycle it is, the count after them, and whether there are any
 abbrev pub MakesIssue : Loaded → Configuration → ℕ → ℕ → Pools → RegStatus → Fetch
     → Result Bool Fault → ℕ → Pools → RegStatus → Fetch → Type 0
 MakesIssue i config cycle count stations registers fetch result counted new status from =
@@ -71,7 +71,7 @@ MakesEnds config cycle stations registers fetch new status from =
     → ShowsStations i (clocks cycle cycle t) h stations → ShowsRegisters i t h registers → fetch ≡ fetch_of i t h
     → ShowsStations i (clocks cycle cycle cycle) h new × ShowsRegisters i cycle h status × (from ≡ fetch_of i cycle h)
 
--- Where a phase tells that it did something, there is an event of the cycle.
+-- If a phase reports that it did something, there is an event of the cycle.
 
 abbrev pub StartsHappen : Configuration → ℕ → Pools → Type 0
 StartsHappen config cycle stations =

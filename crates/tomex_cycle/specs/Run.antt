@@ -23,7 +23,7 @@ run_of config i = history config (steps_from 262144 (start_of i))
 abbrev pub total : Configuration → Loaded → ℕ
 total config i = greatest_end (run_of config i)
 
--- what contracts say of a machine they say of programs that end within so many steps
+-- what contracts say about a machine holds for programs that end within this number of steps
 abbrev pub most_steps : ℕ
 most_steps = 262144
 
@@ -54,7 +54,7 @@ ArePast i [] = ⊤
 ArePast i (d ∷ older) =
     Follows i (steps_in older) d.step × (end_of d.step ≡ None → IsAllowed i d.step) × ArePast i older
 
--- what is known of the steps that were issued
+-- the facts known about the issued steps
 pub record IsHistory (i : Loaded) (config : Configuration) (h : List Done) : Type 0 where
   pub lawful : IsWithinLimits config
   pub timed : AreTimed config h

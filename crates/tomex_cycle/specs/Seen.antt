@@ -1,4 +1,4 @@
--- A machine as contracts see it, and what is left of that without the count of its cycles.
+-- A machine as contracts see it, and the same without the count of its cycles.
 use Rattle.std.specs.Prelude.{ℕ, ◌≡◌, Bool, true, false, nat_lt, if◌then◌else◌, min}
 use Rattle.tomex_image.specs.Image.{Loaded}
 use Rattle.tomex_config.specs.Configuration.{Configuration}
@@ -14,7 +14,7 @@ pub record Machine : Type 0 where
   pub status : Progress
   pub cycles_made : ℕ
 
--- a machine but for how many cycles it has made: skipped ones are not made
+-- a machine without the number of cycles that it has made: skipped ones are not made
 pub record Seen : Type 0 where
   pub image : Loaded
   pub config : Configuration
@@ -24,8 +24,7 @@ pub record Seen : Type 0 where
 abbrev pub seen : Machine → Seen
 seen m = record { image = m.image; config = m.config; cycle = m.cycle; status = m.status }
 
--- the machine of an image and a configuration once it has gone on to cycle k, if the program ends: it stops at its
--- total
+-- the machine of an image and a configuration after advancing to cycle k, if the program ends: it stops at its total
 abbrev pub seen_after : Loaded → Configuration → ℕ → Seen
 seen_after i config k = record {
   image = i;
@@ -34,7 +33,7 @@ seen_after i config k = record {
   status = if nat_lt k (total config i) then Running else Ended;
 }
 
--- if its program ends, the machine is the one that has gone on to its cycle from the start
+-- if its program ends, the machine is the one that has advanced to its cycle from the start
 abbrev pub IsInStep : Machine → Type 0
 IsInStep m = EndsWithinLimit m.image → seen m ≡ seen_after m.image m.config m.cycle
 

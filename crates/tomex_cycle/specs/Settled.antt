@@ -1,10 +1,10 @@
--- Settled cycles. Nothing happens after one before the next operation finishes: that follows, by the recurrence.
+-- Settled cycles. By the recurrence, nothing happens after one before the next operation finishes.
 use Rattle.std.specs.Prelude.{ℕ, ◌≢◌, ◌+◌, List}
 use Rattle.std.specs.List.{AllByRecursion}
 use Rattle.tomex_timing.specs.declared.times.Done.{Done}
 use Rattle.tomex_timing.specs.History.{cycle_of}
 
--- of the step nothing but its start may fall in the cycle, and it neither issues nor starts in the next one
+-- of the step only its start may fall in the cycle, and it neither issues nor starts in the next one
 pub record IsSettled (u : ℕ) (d : Done) : Type 0 where
   pub issue : d.at.issue ≢ u
   pub address : cycle_of d.at.address ≢ u

@@ -1,4 +1,4 @@
--- Which operations start in a cycle, and what becomes of their stations and of memory.
+-- Which operations start in a cycle, and the effect on their stations and on memory.
 use Rattle.std.specs.Prelude.{◌≡◌, ℕ, zero, suc, ◌+◌, ◌-◌, ◌<◌, ◌≤◌, nat_lt, Bool, true, false, ◌&&◌, ◌||◌}
 use Rattle.std.specs.Prelude.{if◌then◌else◌, List, [], ◌∷◌, ◌++◌, Option, Some, None, slice_index, IsSome, length}
 use Rattle.std.specs.Prelude.{option_map}
@@ -20,7 +20,7 @@ use Rattle.tomex_tags.specs.WaitSets.{waits, waits_for}
 use Rattle.tomex_tags.specs.declared.station.Station.{Station}
 use Rattle.tomex_membuf.specs.Order.{lets_pass}
 
--- no operation waits for nothing but a unit and older accesses
+-- no operation waits only for a unit and older accesses
 abbrev pub NoneWaits : List (Option Station) → Type 0
 NoneWaits slots = (x : ℕ) → x < 96 → waits (slot slots x) ≡ false
 
@@ -32,33 +32,33 @@ abbrev pub kind_if : Bool → Option ℕ → Option ℕ
 kind_if true kind = kind
 kind_if false kind = None
 
--- what stands in these places lets a station pass
+-- the operations in these places let a station pass
 abbrev pub is_clear : List (Option Station) → List ℕ → Station → ℕ → Bool
 is_clear slots [] s cycle = true
 is_clear slots (x ∷ xs) s cycle = lets_pass (slot slots x) s cycle && is_clear slots xs s cycle
 
--- the kind of unit that is wanted for what stands in a place, behind these older ones, if its operation can start
+-- the kind of unit that the operation in a place needs, after these older ones, if it can start
 abbrev pub wanted : List (Option Station) → List ℕ → ℕ → Option Station → Option ℕ
 wanted slots older cycle None = None
 wanted slots older cycle (Some s) =
     kind_if (is_waiting s && is_clear slots older s cycle) (kind_of (unit_of s.instr.op))
 
--- whether a kind of unit is wanted for a place, given the busy places in issue order
+-- true if the operation in a place needs a unit of the kind, given the busy places in issue order
 abbrev pub IsWanted : Pools → ℕ → UnitId → ℕ → Bool → Type 0
 IsWanted st cycle unit x is =
     (older younger : List ℕ) → IsInIssueOrder st.busy st.issue_numbers (older ++ (x ∷ younger))
     → is ≡ is_number (wanted st.slots older cycle (slot st.slots x)) (place_of_unit unit)
 
--- the set of the busy places whose operations can start if a unit of this kind is left
+-- the set of the busy places whose operations can start if a unit of this kind is free
 pub record AreStartableFor (st : Pools) (cycle : ℕ) (unit : UnitId) (set : ℕ) : Type 0 where
   pub inside : (x : ℕ) → x < 128 → has set x ≡ true → has st.busy x ≡ true
   pub wants : (x : ℕ) → x < 128 → IsWanted st cycle unit x (has set x)
 
--- the operations in these places wait for nothing but a unit of the kind and older accesses
+-- the operations in these places wait only for a unit of the kind and older accesses
 abbrev pub AllWaitFor : UnitId → List (Option Station) → ℕ → Type 0
 AllWaitFor unit slots set = (x : ℕ) → x < 128 → has set x ≡ true → waits_for unit (slot slots x) ≡ true
 
--- and so for each kind
+-- the same for each kind
 abbrev pub AreStartable : Pools → ℕ → List ℕ → Type 0
 AreStartable st cycle sets = (unit : UnitId) → AreStartableFor st cycle unit (slice_index sets (place_of_unit unit))
 
@@ -66,7 +66,7 @@ abbrev pub is_among : List ℕ → ℕ → Bool
 is_among [] x = false
 is_among (set ∷ sets) x = has set x || is_among sets x
 
--- of each kind the oldest that can start do, as many as there are units
+-- of each kind the oldest that can start do, at most as many as there are units
 pub record IsStarting (config : Configuration) (st : Pools) (cycle starting : ℕ) : Type 0 where
   pub startable : List ℕ
   pub kinds : List ℕ
@@ -86,11 +86,11 @@ abbrev pub begun : Configuration → ℕ → Bytes → Station → Station
 begun config cycle m s =
     record s { finish = finish_from config cycle (unit_of s.instr.op); value = result_of (step_in s) (byte_in m) }
 
--- the fault of a station whose access lies outside memory
+-- the fault of a station whose access is outside memory
 abbrev pub access_fault : Station → Fault
 access_fault s = record { kind = Access; pc = s.pc }
 
--- the places of stations
+-- all members are places of stations
 abbrev pub AreLow : ℕ → Type 0
 AreLow picked = (x : ℕ) → x < 128 → has picked x ≡ true → x < 96
 
@@ -100,12 +100,12 @@ pub record CanBegin (m : Bytes) (s : Station) : Type 0 where
   pub not_started : s.finish ≡ None
   pub unit : IsSome (unit_of s.instr.op)
 
--- the access fault of what stands in a place, whose operation can't start
+-- the access fault of the station in a place, whose operation can't start
 abbrev pub IsAccessFault : Pools → Bytes → ℕ → Fault → Type 0
 IsAccessFault st m x fault =
     (s : Station) × (slot st.slots x ≡ Some s) × (CanBegin m s → ⊥) × (fault ≡ access_fault s)
 
--- in each picked place stands a station whose operation can start
+-- each picked place has a station whose operation can start
 abbrev pub AllCanBegin : Bytes → ℕ → List (Option Station) → Type 0
 AllCanBegin m picked slots =
     (x : ℕ) → x < 96 → has picked x ≡ true → (s : Station) × (slot slots x ≡ Some s) × CanBegin m s
@@ -131,7 +131,7 @@ abbrev pub written_by : List (Option Station) → ℕ → (ℕ → ℕ) → ℕ 
 written_by slots picked byte zero a = byte a
 written_by slots picked byte (suc k) a = stored_at (has picked k) (slot slots k) a (written_by slots picked byte k a)
 
--- the stores of the picked places below k are made
+-- the stores of the picked places below k are performed
 pub record HaveStored (slots : List (Option Station)) (picked : ℕ) (k : ℕ) (old new : Bytes) : Type 0 where
   pub base : new.base ≡ old.base
   pub size : length new.bytes ≡ length old.bytes

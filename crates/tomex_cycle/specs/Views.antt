@@ -1,4 +1,4 @@
--- What a history says of the machine's state after a cycle; a state that agrees shows that history.
+-- The machine's state after a cycle according to a history; a state that agrees shows that history.
 use Rattle.std.specs.Prelude.{◌≡◌, ℕ, ◌+◌, ◌≤◌, ◌<◌, nat_le, nat_lt, Bool, ◌&&◌, if◌then◌else◌, List, [], ◌∷◌}
 use Rattle.std.specs.Prelude.{◌++◌, Option, Some, None, slice_index, slice_index_or, length, ◌==◌, is_some}
 use Rattle.tomex_image.specs.Image.{Loaded}
@@ -22,7 +22,7 @@ use Rattle.tomex_tags.specs.declared.register_status.RegStatus.{RegStatus}
 use Rattle.tomex_tags.specs.declared.station.Station.{Station}
 use Rattle.tomex_tags.specs.Contents.{slot}
 
--- For each kind of event the last cycle whose events have been made. What stands in the history has issued.
+-- For each kind of event the last cycle whose events have been made. Every step in the history has issued.
 pub record Clocks : Type 0 where
   pub start : ℕ
   pub address : ℕ
@@ -50,7 +50,7 @@ station_of i c d older = record {
 abbrev pub holds_place : ℕ → ℕ → Done → Bool
 holds_place end x d = is_number (place_of d) x && nat_lt end d.at.end
 
--- what stands in a place: the youngest step that took it, where that one hasn't ended
+-- the content of a place: the youngest step that took it, if that one hasn't ended
 abbrev pub station_at : Loaded → Clocks → List Done → ℕ → Option Station
 station_at i c [] x = None
 station_at i c (d ∷ older) x = if holds_place c.end x d then Some (station_of i c d older) else station_at i c older x
@@ -65,7 +65,7 @@ order_of end [] = []
 order_of end (d ∷ older) =
     if nat_lt end d.at.end then onto_end (order_of end older) (place_of d) else order_of end older
 
--- how many steps are older than the youngest that took a place
+-- the number of steps older than the youngest that took a place
 abbrev pub issue_number_at : List Done → ℕ → ℕ
 issue_number_at [] x = 0
 issue_number_at (d ∷ older) x = if is_number (place_of d) x then length older else issue_number_at older x
@@ -76,7 +76,7 @@ pub record ShowsStations (i : Loaded) (c : Clocks) (h : List Done) (s : Pools) :
   pub order_count : length s.issue_numbers ≡ 128
   pub issue_numbers : (x : ℕ) → x < 96 → slice_index s.issue_numbers x ≡ issue_number_at h x
 
--- Qi of each register, and the value of each that waits for nothing
+-- Qi of each register, and the value of each register without one
 pub record ShowsRegisters (i : Loaded) (end : ℕ) (h : List Done) (s : RegStatus) : Type 0 where
   pub count : length s.values ≡ 32
   pub status : length s.tags ≡ 32
@@ -92,18 +92,18 @@ abbrev pub fetch_after : Step → Bool → Option EndKind → Fetch
 fetch_after x waits (Some kind) = from.Stopped kind x.pc
 fetch_after x waits None = if waits then from.Waits else from.At (next_pc_of x)
 
--- where the next instruction comes from: nothing issues while the youngest step is a branch that hasn't finished
+-- the source of the next instruction: nothing issues while the youngest step is a branch that hasn't finished
 abbrev pub fetch_of : Loaded → ℕ → List Done → Fetch
 fetch_of i end [] = from.At i.entry
 fetch_of i end (d ∷ older) = fetch_after d.step (is_branch d.step && nat_lt end d.at.finish) (end_of d.step)
 
--- the kind of the end and its pc, where there is one
+-- the kind of the end and its pc, if there is one
 abbrev pub stop_of : Fetch → EndKind × ℕ
 stop_of (from.At pc) = (Ebreak, 0)
 stop_of from.Waits = (Ebreak, 0)
 stop_of (from.Stopped kind pc) = (kind, pc)
 
--- what is sent in a cycle from a place: the result of the step that ends in it, where it has a destination
+-- the value sent in a cycle from a place: the result of the step that ends in it, if that has a destination
 abbrev pub sent_at : Loaded → ℕ → List Done → ℕ → Option ℕ
 sent_at i u [] x = None
 sent_at i u (d ∷ older) x =

@@ -18,18 +18,18 @@ use tomex_rvexec::next_pc;
 use tomex_sets::{both, difference, lowest, union, without_lowest};
 use tomex_tags::{Pools, RegStatus, Station, broadcast, served_by};
 
-/// What finishes and what ends in a cycle.
+/// The operations that finish and the instructions that end in a cycle.
 #[derive(Clone, Copy)]
 pub struct Ending {
     /// The places whose operations finish.
     pub due: u128,
-    /// Those whose instructions end: of the unsent results the oldest, as many as there are
-    /// buses, and what has no destination as it finishes.
+    /// Those whose instructions end: the oldest unsent results, as many as there are buses, and
+    /// what finishes without a destination.
     pub ending: u128,
 }
 
-/// Chooses what ends in the cycle, in which the operations of these places finish. From here on the results
-/// that finish in it are among the unsent ones.
+/// Chooses what ends in the cycle, given the places whose operations finish in it. After this the results that finish
+/// in it are among the unsent ones.
 pub fn choose_ending(
     pools: &Pools,
     finishes: &mut Finishes,
@@ -56,7 +56,7 @@ pub fn choose_ending(
     }
 }
 
-/// Frees a place, and sends what its station has to send.
+/// Frees a place and sends its station's result, if it has one.
 fn end_at(pools: &mut Pools, registers: &mut RegStatus, place: usize)
     requires { place < 96 }
     ensures stations { EndsIn (λ x. place == x)
@@ -72,7 +72,7 @@ fn end_at(pools: &mut Pools, registers: &mut RegStatus, place: usize)
     }
 }
 
-/// Ends what stands in the picked places.
+/// Ends the instructions in the picked places.
 pub fn apply(pools: &mut Pools, registers: &mut RegStatus, picked: u128)
     ensures stations { AreLow picked
         → EndsIn (λ x. has picked x) (sent_below pools.old.slots picked 96) pools.old pools.new }
@@ -90,7 +90,7 @@ pub fn apply(pools: &mut Pools, registers: &mut RegStatus, picked: u128)
     }
 }
 
-/// The place of the branch that is done in the cycle, if any.
+/// The place of the branch that finishes in the cycle, if any.
 #[inline(always)]
 fn resolved(pools: &Pools, due: u128, cycle: u64) -> Option<usize>
     requires { AreDone pools.now.slots cycle due }
@@ -103,7 +103,7 @@ fn resolved(pools: &Pools, due: u128, cycle: u64) -> Option<usize>
     Some(lowest(branches))
 }
 
-/// The next pc after what a place holds, 0 if it is free.
+/// The next pc after the instruction in a place; 0 if the place is free.
 fn target_at(station: Option<Station>) -> u32
     ensures { result ≡ target_in station }
 {
@@ -113,7 +113,7 @@ fn target_at(station: Option<Station>) -> u32
     }
 }
 
-/// Follows the branch that the next instruction waits for, if it is done.
+/// Follows the branch that the next instruction waits for, if it finishes in the cycle.
 #[inline(always)]
 pub fn follow(fetch: &mut Fetch, pools: &Pools, due: u128, cycle: u64)
     requires { AreDone pools.now.slots cycle due }

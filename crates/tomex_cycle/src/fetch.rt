@@ -1,4 +1,4 @@
-//! Where the next instruction comes from.
+//! The source of the next instruction.
 
 ghost use Rattle.std.specs.Prelude.{◌≡◌};
 ghost use Rattle.tomex_steps.specs.declared.step.Step.{Step};
@@ -9,7 +9,7 @@ ghost use Rattle.tomex_cycle.specs.Views.{stop_of, fetch_after};
 use tomex_rvdec::{Instr, Op};
 use tomex_rvexec::EndKind;
 
-/// Where the next instruction comes from.
+/// The source of the next instruction.
 #[derive(Clone, Copy)]
 pub enum Fetch {
     /// From this address.
@@ -21,7 +21,7 @@ pub enum Fetch {
 }
 
 impl Fetch {
-    /// After an instruction that issues.
+    /// The source of the next instruction after `instr` has issued at `pc`.
     pub fn after(instr: Instr, pc: u32) -> Fetch
         ensures { (x : Step) → x.instr ≡ instr → x.pc ≡ pc
             → result ≡ fetch_after x (is_branch x) (end_of x) }
@@ -35,7 +35,7 @@ impl Fetch {
         }
     }
 
-    /// The kind of the end and its pc. Of a program that hasn't ended it answers EBREAK at 0, which nobody asks for.
+    /// The kind of the end and its pc; EBREAK at 0 if the program has not ended, which no caller uses.
     pub fn stop(self) -> (EndKind, u32)
         ensures { result ≡ stop_of self }
     {

@@ -1,4 +1,4 @@
-//! In which cycles the operations of the busy stations finish.
+//! The cycles in which the operations of the busy stations finish.
 
 ghost use Rattle.std.specs.Prelude.{ℕ, ◌≡◌, ◌<◌, ◌^◌, ◌&&◌, ◌||◌, not};
 ghost use Rattle.tomex_sets.specs.Sets.{has};
@@ -8,17 +8,17 @@ ghost use Rattle.tomex_cycle.specs.Finishes.{HaveTurned};
 use tomex_bus::Wheel;
 use tomex_sets::{difference, union};
 
-/// The finishes ahead, and the results that wait for a common data bus.
+/// The coming finishes, and the results that wait for a common data bus.
 #[derive(Drop)]
 pub struct Finishes {
-    /// The places of the operations under way, by how far ahead they finish.
+    /// The places of the operations under way, by the number of cycles until they finish.
     pub wheel: Wheel,
     /// The places whose results wait for a common data bus.
     pub unsent: u128,
 }
 
 impl Finishes {
-    /// Nothing is under way.
+    /// No finishes: nothing is under way.
     pub fn new() -> Finishes
         ensures wheel { IsEmpty result.wheel }
         ensures unsent { result.unsent ≡ 0 }
@@ -29,7 +29,7 @@ impl Finishes {
         }
     }
 
-    /// Takes out what finishes in the cycle, and goes on to the next one.
+    /// Takes out what finishes in the cycle, and advances to the next one.
     #[inline(always)]
     pub fn turn(&mut self) -> u128
         ensures { HaveTurned self.old self.new result }
@@ -39,7 +39,7 @@ impl Finishes {
         due
     }
 
-    /// Some results are sent, and others wait from here on.
+    /// Removes the results that are sent, and adds those that now wait.
     #[inline(always)]
     pub fn send(&mut self, sent: u128, results: u128)
         ensures wheel { self.new.wheel ≡ self.old.wheel }

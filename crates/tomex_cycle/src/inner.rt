@@ -1,4 +1,5 @@
-//! What a cycle changes, and the one call that changes it: it makes a cycle and counts it.
+//! The state that a cycle changes, and the one call that changes it, which makes a cycle and counts
+//! it.
 
 ghost use Rattle.std.specs.Prelude.{ℕ, List, ◌≡◌, ◌≤◌, ◌<◌, ◌+◌, ◌^◌, IfErr, IfOk, if◌then◌else◌};
 ghost use Rattle.tomex_image.specs.Image.{Loaded};
@@ -24,42 +25,41 @@ use tomex_rvexec::{End, Fetcher, Memory, initial_sp};
 use tomex_tags::{Pools, RegStatus};
 use tomex_timing::Tables;
 
-/// How a cycle is made.
+/// The way in which a cycle is made.
 #[derive(Clone, Copy)]
 pub(crate) enum Making {
     /// By its phases.
     ByPhases,
-    /// It is only counted. The caller answers for it that nothing but results finish in it, which wait for a common
-    /// data bus from then on, and has moved the finishes on over it.
+    /// It is only counted. The caller guarantees that only results finish in this cycle, all of which then wait for a
+    /// common data bus, and has advanced the finishes past it.
     CountOnly,
 }
 
-/// Stations, registers, memory and where the next instruction comes from, and how many cycles were made.
+/// Stations, registers, memory, where the next instruction comes from, and how many cycles were made.
 #[derive(Drop)]
 pub struct Inner<A: Allocator = Global> {
     pools: Pools,
     registers: RegStatus,
     memory: Memory<A>,
     fetch: Fetch,
-    /// How many instructions have issued.
+    /// The number of instructions that have issued.
     issued: u32,
-    /// How many cycles were made.
+    /// The number of cycles that were made.
     cycles_made: u64,
-    /// What has happened in the cycle that is being made.
+    /// The activity of the cycle that is being made.
     ///
     /// A field and not a local, so that a cycle doesn't carry a flag of each phase to its end.
     activity: Activity,
 }
 
 impl<A: Allocator> Inner<A> {
-    /// Makes a cycle by its phases, and answers whether something happened in it, it is settled, the program has ended,
-    /// or it faulted; or only counts a cycle, and answers Active. Of a program that faults or doesn't end within the
-    /// limit nothing is promised of stations, registers and memory, but that the cycle is counted, and that the
-    /// timetable of finishes stays right while it runs.
+    /// Makes a cycle by its phases and gives its outcome, or only counts a cycle and gives `Active`. If the program
+    /// faults or doesn't end within the limit, the contract promises nothing about stations, registers and memory, only
+    /// that the cycle is counted and that the timetable of finishes stays valid while the program runs.
     ///
-    /// The fetcher is seen as its image. 2^41 leaves room above the bound of 2^40 on a machine's cycles.
+    /// Contracts see the fetcher as its image. 2^41 leaves room above the bound of 2^40 on a machine's cycles.
     ///
-    /// The one call that changes the state, so that every change is counted. Inlined, so that each of its two calls
+    /// The only call that changes the state, so that every change is counted. Inlined, so that each of its two calls
     /// has only what its kind of cycle needs.
     #[inline(always)]
     pub(crate) fn make_cycle<B: Allocator>(
@@ -121,7 +121,7 @@ impl<A: Allocator> Inner<A> {
         CycleOutcome::after(self.is_over(), settled)
     }
 
-    /// Whether nothing is left to issue or to end.
+    /// True if nothing is left to issue or to end.
     fn is_over(&self) -> bool
         ensures { result ≡ is_done self.now.fetch self.now.pools.busy }
     {
@@ -131,7 +131,7 @@ impl<A: Allocator> Inner<A> {
         }
     }
 
-    /// Before the first cycle of an image, over a memory that holds its bytes.
+    /// The state before the first cycle of an image, over a memory that holds its bytes.
     fn begun<B: Allocator>(memory: Memory<A>, image: &Image<B>) -> Self
         requires { memory ≡ record { base = image.now.window.base; bytes = image.now.memory } }
         ensures { IsFresh image.now result }
@@ -147,7 +147,7 @@ impl<A: Allocator> Inner<A> {
         }
     }
 
-    /// Before the first cycle.
+    /// The state before the first cycle of an image.
     pub fn new<B: Allocator>(alloc: A, image: &Image<B>) -> Result<Self, AllocError>
         ensures { IfOk result (λ c. IsFresh image.now c) }
     {
@@ -156,8 +156,8 @@ impl<A: Allocator> Inner<A> {
         Ok(Inner::begun(memory, image))
     }
 
-    /// A new inner state before the first cycle of this image, made in the memory of the old one if that is enough.
-    /// If more is refused, the old one comes back as it was.
+    /// A new state before the first cycle of this image, made in the memory of the old one if that is enough. The old
+    /// one is returned unchanged if it isn't and there is no memory for more.
     pub fn restart<B: Allocator>(self, image: &Image<B>) -> Result<Self, Self>
         ensures fresh { IfOk result (λ c. IsFresh image.now c) }
         ensures err { IfErr result (λ c. c ≡ self) }
@@ -185,7 +185,7 @@ impl<A: Allocator> Inner<A> {
         })
     }
 
-    /// How many cycles were made.
+    /// The number of cycles that were made.
     pub fn cycles_made(&self) -> u64
         ensures { result ≡ self.now.cycles_made }
     {

@@ -11,7 +11,7 @@ use tomex_rvexec::{Fault, Fetcher};
 use tomex_tags::{Pools, RegStatus, issue};
 use tomex_timing::Tag;
 
-/// Issues the next instruction, unless it waits for a branch or for a station. Answers whether it did.
+/// Issues the next instruction, unless it waits for a branch or for a station. True if it does.
 ///
 /// Inlined, so that the first issue of a cycle stays in the loop that makes the cycles.
 #[inline(always)]
@@ -53,11 +53,11 @@ pub fn issue_next<A: Allocator>(
     Ok(true)
 }
 
-/// Issues more instructions in a cycle in which one has issued, as many as the configuration's width leaves, up to
-/// the first that can't, and counts each. A fault of fetching is left to the next cycle, whose first issue it is.
+/// Issues more instructions in a cycle in which one has issued, as many as the configuration's width leaves, up to the
+/// first that can't, and counts each. A fault of fetching is left to the next cycle, in which it comes first.
 ///
-/// On a configuration of width 1 it is never called. So it isn't put into its caller, the compiler keeps nothing in
-/// readiness for it, and it answers nothing, since each cycle would make room for the answer.
+/// Out of line, and returns nothing, so that cycles of width 1, which never call it, pay neither registers nor a place
+/// for the result.
 #[cold]
 #[inline(never)]
 pub fn issue_more<A: Allocator>(

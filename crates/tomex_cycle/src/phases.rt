@@ -1,4 +1,4 @@
-//! The phases of a cycle, in their order. Starts, the address and the issues read nothing that an earlier one of the
+//! The phases of a cycle, in their order. Starts, the address and the issues read nothing that an earlier phase of the
 //! cycle has changed; the ends also read the finishes of what has just started.
 
 ghost use Rattle.std.specs.Prelude.{ℕ, ◌≡◌, ◌<◌, ◌+◌, ◌^◌, IfSome, None, Ok, Some, false, true};
@@ -17,12 +17,12 @@ use tomex_membuf::address_next;
 use tomex_rvexec::{Fault, Fetcher, Memory};
 use tomex_tags::{Pools, RegStatus};
 
-/// What has started in a cycle.
+/// The outcome of a cycle's starts.
 #[derive(Clone, Copy)]
 pub struct Starts {
-    /// Of an access outside memory.
+    /// The fault of an access outside memory.
     pub fault: Option<Fault>,
-    /// Whether anything starts.
+    /// True if anything starts.
     pub any: bool,
 }
 
@@ -55,7 +55,7 @@ pub fn start<A: Allocator>(
     Starts { fault, any: true }
 }
 
-/// Computes the address of the oldest load or store without one, if its base is there. Answers whether it did.
+/// Computes the address of the oldest load or store without one, if its base has arrived. True if it does.
 pub fn address(pools: &mut Pools, cycle: u64) -> bool
     ensures addresses { MakesAddress cycle pools.old pools.new }
     ensures none { result ≡ false → pools.new.slots ≡ pools.old.slots }
@@ -71,8 +71,8 @@ pub fn address(pools: &mut Pools, cycle: u64) -> bool
     }
 }
 
-/// Issues the next instructions, at most as many as the configuration's width, up to the first that something is
-/// in the way of, and counts them. Answers whether any has issued.
+/// Issues the next instructions, at most as many as the configuration's width, up to the first that can't issue, and
+/// counts them. True if any has issued.
 #[inline(always)]
 pub fn issue<A: Allocator>(
     pools: &mut Pools,
@@ -93,7 +93,7 @@ pub fn issue<A: Allocator>(
         return Ok(false);
     }
     *count = count.wrapping_add(1);
-    // Most configurations are of width 1, and their cycles are not to pay for the others.
+    // Fast path: most configurations have width 1.
     if config.width() == 1 {
         return Ok(true);
     }
@@ -101,7 +101,7 @@ pub fn issue<A: Allocator>(
     Ok(true)
 }
 
-/// Sends results over the buses, frees stations, and follows branches. Answers whether anything ends or finishes.
+/// Sends results over the buses, frees stations, and follows branches. True if anything ends or finishes.
 pub fn end(
     pools: &mut Pools,
     registers: &mut RegStatus,

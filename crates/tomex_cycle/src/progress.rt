@@ -17,9 +17,9 @@ pub enum Progress {
 /// The outcome of a cycle.
 #[derive(Clone, Copy)]
 pub(crate) enum CycleOutcome {
-    /// The program runs on, and something has happened: the next cycle has to be made.
+    /// The program continues, and something has happened: the next cycle has to be made.
     Active,
-    /// The program runs on, and the cycle is settled: after it nothing happens before the next finish.
+    /// The program continues, and the cycle is settled: after it nothing happens before the next finish.
     Settled,
     /// The program has ended, and so has each of its instructions.
     Ended,

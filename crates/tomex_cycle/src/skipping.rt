@@ -12,7 +12,8 @@ use tomex_rvexec::Fetcher;
 use tomex_sets::difference;
 use tomex_tags::{Pools, served_by};
 
-/// How many cycles can be skipped before the next finish, so far ahead if there is any, but no more than `most`.
+/// The number of cycles that can be skipped before the next finish, which is `ahead` cycles away if there is one; at
+/// most `most`.
 fn skippable(ahead: Option<u32>, most: u64) -> u64
     ensures most { result ≤ most }
     ensures skips { CanSkip ahead most result }
@@ -23,8 +24,7 @@ fn skippable(ahead: Option<u32>, most: u64) -> u64
     }
 }
 
-/// Skips the cycles after one that was just made in which nothing finishes, but goes no further than `to`. Answers
-/// the cycle that it comes to.
+/// Skips the cycles after the one just made in which nothing finishes, up to `to`. Returns the cycle that it reaches.
 fn skip_free(finishes: &mut Finishes, pools: &Pools, cycle: u64, to: u64) -> u64
     requires ahead { cycle ≤ to }
     requires timetable { IsTimetableOf pools.now.slots (cycle + 1) finishes.old }
@@ -41,8 +41,8 @@ fn skip_free(finishes: &mut Finishes, pools: &Pools, cycle: u64, to: u64) -> u64
     cycle + skipped
 }
 
-/// Takes what finishes in the next cycle as unsent results after it, if nothing else finishes in it: no
-/// branch, and nothing that ends as it finishes. Answers whether that was so.
+/// Takes what finishes in the next cycle as results that are unsent after it, if nothing else finishes in that cycle:
+/// no branch, and nothing that ends as it finishes. True if it does.
 #[inline(always)]
 fn take_results(finishes: &mut Finishes, pools: &Pools) -> bool
     requires { finishes.old.unsent ≡ 0 }
@@ -61,8 +61,8 @@ fn take_results(finishes: &mut Finishes, pools: &Pools) -> bool
     true
 }
 
-/// Skips the cycles after one that was just made, as far as no station changes in them, but goes no further than
-/// `to`. Answers the cycle that it comes to. The last of them is made if results finish in it.
+/// Skips the cycles after the one just made in which no station changes, up to `to`. Returns the cycle that it reaches.
+/// The last one is made if results finish in it.
 #[inline(always)]
 pub(crate) fn skip_quiet<A: Allocator, B: Allocator>(
     inner: &mut Inner<A>,

@@ -25,7 +25,7 @@ use tomex_rvexec::{Fault, FaultKind, Memory};
 use tomex_sets::{both, is_single, lowest, union, with, without_lowest};
 use tomex_tags::{Pools, Station, unit};
 
-/// Whether no older access blocks the one in a place, which otherwise waits for a port alone.
+/// True if no older access blocks the one in a place, which otherwise waits only for a port.
 #[inline(always)]
 fn is_clear(pools: &Pools, place: usize, cycle: u64) -> bool
     requires below { place < 128 }
@@ -36,9 +36,10 @@ fn is_clear(pools: &Pools, place: usize, cycle: u64) -> bool
     may_access(pools, place, cycle)
 }
 
-/// Of these loads and stores, which wait for nothing else, those that no older access blocks.
+/// The members of `waiting` that no older access blocks; otherwise they wait only for a port.
 ///
-/// Mostly no more than one has its address, and none is asked: so this takes no registers of its caller.
+/// Usually at most one has its address, and this isn't called; it is kept out of line so that it costs its caller no
+/// registers.
 #[inline(never)]
 fn clear_among(pools: &Pools, waiting: u128, cycle: u64) -> u128
     requires set { IsSetOf (waits_for UnitId.Mem) pools.now.slots waiting }
@@ -58,7 +59,7 @@ fn clear_among(pools: &Pools, waiting: u128, cycle: u64) -> u128
     clear
 }
 
-/// The places of the loads and stores whose accesses can start if a port is left.
+/// The places of the loads and stores whose accesses can start if a port is free.
 fn accessible(pools: &Pools, cycle: u64) -> u128
     ensures startable { AreStartableFor pools.now cycle UnitId.Mem result }
     ensures wait { AllWaitFor UnitId.Mem pools.now.slots result }
@@ -74,7 +75,8 @@ fn accessible(pools: &Pools, cycle: u64) -> u128
     clear_among(pools, waiting, cycle)
 }
 
-/// The places whose operations can start if a unit of this kind is left, which is no memory port.
+/// The places whose operations can start if a unit of this kind is free; the kind isn't the memory
+/// port.
 #[inline(always)]
 fn startable(pools: &Pools, unit: UnitId) -> u128
     requires { unit ≢ UnitId.Mem }
@@ -85,7 +87,7 @@ fn startable(pools: &Pools, unit: UnitId) -> u128
     pools.waiting_for(unit)
 }
 
-/// The members of all the sets.
+/// The union of the five sets.
 #[inline(always)]
 fn together(alu: u128, mul: u128, div: u128, mem: u128, bru: u128) -> u128
     ensures { (x : ℕ)
@@ -94,7 +96,7 @@ fn together(alu: u128, mul: u128, div: u128, mem: u128, bru: u128) -> u128
     union(alu, union(mul, union(div, union(mem, bru))))
 }
 
-/// The places whose operations start in the cycle: of each kind the oldest that can, as many as there are
+/// The places whose operations start in the cycle: of each kind the oldest that can, at most as many as there are
 /// units.
 pub fn starting(pools: &Pools, config: &Config, cycle: u64) -> u128
     ensures starting { IsStarting config.now pools.now cycle result }
@@ -110,7 +112,7 @@ pub fn starting(pools: &Pools, config: &Config, cycle: u64) -> u128
     let mem = accessible(pools, cycle);
     let bru = startable(pools, UnitId::Bru);
     if is_single(waiting) {
-        // There is a unit of each kind.
+        // Each kind has at least one unit.
         config.keeps_limits();
         return together(alu, mul, div, mem, bru);
     }
@@ -124,10 +126,10 @@ pub fn starting(pools: &Pools, config: &Config, cycle: u64) -> u128
     )
 }
 
-/// The result of the operation of the station in a place, or `None` if its access lies outside memory.
+/// The result of the operation of the station in a place, or `None` if its access is outside memory.
 ///
-/// Each pool has 16 places, in the order of the pools. Which one it is is told by comparisons, that of the most
-/// frequent pool first: a processor foresees each of them better than one jump to six targets.
+/// Each pool has 16 places, in the order of the pools. The pool is found by comparisons, most frequent first: a
+/// processor predicts each of them better than one jump to six targets.
 #[inline(always)]
 fn value_at<A: Allocator>(place: usize, station: &Station, memory: &Memory<A>) -> Option<u32>
     requires low { place < 96 }
@@ -151,8 +153,8 @@ fn value_at<A: Allocator>(place: usize, station: &Station, memory: &Memory<A>) -
     }
 }
 
-/// The cycles that the operation of the station in a place takes, and its result, or `None` if its access
-/// lies outside memory.
+/// The cycles that the operation of the station in a place takes, and its result; `None` if its access is outside
+/// memory.
 #[inline(always)]
 fn outcome<A: Allocator>(
     place: usize,
@@ -173,7 +175,7 @@ fn outcome<A: Allocator>(
     Some((config.latency(unit(place)), value))
 }
 
-/// Starts the operation of a place if it hasn't started. Answers a fault if its access lies outside memory.
+/// Starts the operation in a place if it hasn't started. Returns a fault if its access is outside memory.
 fn begin_at<A: Allocator>(
     pools: &mut Pools,
     finishes: &mut Finishes,
@@ -215,7 +217,7 @@ fn begin_at<A: Allocator>(
     }
 }
 
-/// Starts the operations of the picked places, over what memory holds before any of them.
+/// Starts the operations in the picked places, reading memory as it was before all of them.
 pub fn begin<A: Allocator>(
     pools: &mut Pools,
     finishes: &mut Finishes,
@@ -247,7 +249,7 @@ pub fn begin<A: Allocator>(
     None
 }
 
-/// Makes the store of a place, if there is one.
+/// Performs the store in a place, if there is one.
 fn write_at<A: Allocator>(pools: &Pools, place: usize, memory: &mut Memory<A>)
     ensures stored { (s : Station) → slot pools.now.slots place ≡ Some s
         → HasStored (step_in s) memory.old memory.new }
@@ -258,7 +260,7 @@ fn write_at<A: Allocator>(pools: &Pools, place: usize, memory: &mut Memory<A>)
     }
 }
 
-/// Makes the stores of the picked places.
+/// Performs the stores in the picked places.
 pub fn write<A: Allocator>(pools: &Pools, picked: u128, memory: &mut Memory<A>)
     ensures { AreLow picked → AllInside memory.old picked pools.now.slots
         → HaveStored pools.now.slots picked 96 memory.old memory.new }

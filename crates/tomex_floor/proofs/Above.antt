@@ -31,7 +31,7 @@ use Rattle.tomex_timing.proofs.Bound.{end_low, start_low}
 use Rattle.tomex_timing.proofs.Histories.{are_timed, total_is}
 use Rattle.tomex_timing.proofs.Width.{issue_from}
 
--- a step's times are at least what the floor's equations say over its own history
+-- a step's times are at least those of the floor's equations over its own history
 pub record IsAbove (latency : UnitId → ℕ) (w : ℕ) (older : List Done) (s : Step) (at : Times) : Type 0 where
   pub issue : floor_issue w older ≤ at.issue
   pub address : cycle_of (floor_address older s at.issue) ≤ cycle_of at.address
@@ -47,7 +47,7 @@ AreAbove latency w (d ∷ older) = IsAbove latency w older d.step d.at × AreAbo
 abbrev pub steps_of : List Done → List Step
 steps_of h = map (λ d. d.step) h
 
--- each function of what is older rises with it
+-- each function of the older steps rises with them
 
 finish_rises : (p : Step → Bool) (latency : UnitId → ℕ) (w : ℕ) (h : List Done)
     → AreNoLater (floors_of latency w (steps_of h)) h → last_finish p (floors_of latency w
@@ -90,7 +90,7 @@ address_rises : (latency : UnitId → ℕ) (w : ℕ) (h : List Done) → AreNoLa
 address_rises latency w [] l = omega arith
 address_rises latency w (d ∷ h) l = choice (is_memory d.step) _ _ _ _ l.0.address (address_rises latency w h l.1)
 
--- so what is above the equations is above the floor
+-- times above the equations are above the floor
 
 address_step : (f h : List Done) (s : Step) (i j : ℕ) → i ≤ j → source_end f (j_of s) ≤ source_end h (j_of s)
     → last_address f ≤ last_address h → cycle_of (floor_address f s i) ≤ cycle_of (floor_address h s j)
@@ -164,7 +164,7 @@ above_floor latency w (d ∷ h) above =
     let a = above.0 in
     (step_above latency w h d.step d.at (step_unit d.step) rest a.issue a.address a.start a.finish a.end, rest)
 
--- issues in order: of more steps than have issued by a cycle one issues later
+-- issues in order: of more steps than have issued by a cycle, one issues later
 
 abbrev pub AreInOrder : List Done → Type 0
 AreInOrder [] = Unit {0}

@@ -40,7 +40,7 @@ floors_in_order latency w (s ∷ (x ∷ xs)) =
     let n = issue_next w d (floors_of latency w xs) rest e in
     (omega (arith, n, g), rest)
 
--- times that a floor gives, by their unit
+-- the times of a floor, by their unit
 floor_above : (latency slower : UnitId → ℕ) (w : ℕ) (older : List Done) (s : Step) (issue : ℕ) (unit : Option UnitId)
     → step_unit s ≡ unit → ((u : UnitId) → latency u ≤ slower u) → floor_issue w older ≤ issue
     → IsAbove latency w older s (floor_from slower older s issue (floor_address older s issue) unit)

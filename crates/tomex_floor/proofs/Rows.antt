@@ -19,10 +19,10 @@ next_byte_floors : floors_by_width (latency_of (with_latency units.Mem plain 2))
     ≡ 8 ∷ 8 ∷ 8 ∷ 8 ∷ []
 next_byte_floors = refl
 
--- what follows a jump to a register waits for it
+-- an instruction after a jump to a register waits for it
 jump_floors : floors_by_width (latency_of (with_latency units.Mul plain 3)) jump_to_product ≡ 9 ∷ 9 ∷ 9 ∷ 9 ∷ []
 jump_floors = refl
 
--- and what follows a jump to a known place doesn't
+-- an instruction after a jump to a known address doesn't
 jump_past_floors : floors_by_width (latency_of (with_latency units.Mul plain 3)) jump_past ≡ 7 ∷ 7 ∷ 7 ∷ 7 ∷ []
 jump_past_floors = refl

@@ -1,4 +1,4 @@
--- What an access waits for, byte by byte.
+-- The finishes that an access waits for, byte by byte.
 use Rattle.std.proofs.Common.{ℕ, ◌+◌, ◌<◌, ◌≤◌, ◌≡◌, ◌∙◌, ◌⊎◌, Bool, true, false, arith, refl, ap, sym, inl, inr}
 use Rattle.std.proofs.Common.{List, [], ◌∷◌}
 use Rattle.std.proofs.Common.{Option, Some, None, max}
@@ -17,7 +17,7 @@ use Rattle.tomex_floor.specs.Kept.{no_word, touched_from, touched_of, waited_for
 use Rattle.tomex_floor.specs.declared.accesses.Word.{Word}
 use Rattle.std.specs.HashMap.{HashMap, get}
 
--- tests that agree have one greatest finish
+-- equal tests have the same greatest finish
 finish_same : (p q : Step → Bool) → ((x : Step) → p x ≡ q x) → (h : List Done) → last_finish p h ≡ last_finish q h
 finish_same p q same [] = refl
 finish_same p q same (d ∷ h) = rw (same d.step, finish_same p q same h) refl
@@ -61,7 +61,7 @@ full_at op address r is = elim (cases_Bool (nat_eq (access_size op) 0)) [
 pub is_full : (x : Step) → IsFull (bytes_of x)
 is_full x = full_at x.instr.op (address_of x)
 
--- one byte more
+-- one more byte
 
 some_more : (from b : ℕ) (o : Option ByteRange) → IsFull o → from ≤ b
     → has_some from (b + 1) o ≡ (has_some from b o || has_byte b o)
@@ -148,7 +148,7 @@ no_conflict s h is =
     (λ x. ap (λ (o : Option ByteRange). shares_byte (bytes_of x) o && (is_store x || is_store s)) is
     ∙ ap (λ (t : Bool). t && (is_store x || is_store s)) (shares_none (bytes_of x))) h ∙ none_finished h
 
--- a range up to a byte, and with the byte
+-- a range up to a byte, and including the byte
 
 pub below_more : (from to b : ℕ) (store : Bool) (h : List Done) (t : Touched) (latest : ℕ) → from ≤ b → b < to
     → t ≡ touched_in h b → latest ≡ last_finish (shares_some from (below from to b) store) h

@@ -126,7 +126,7 @@ floors_by latency w (y ∷ ys) short =
       later_by (67 * length ys) (67 * length (y ∷ ys)) (floors_of latency w ys) (omega arith) by,
     )
 
--- so it is of a run's steps so far
+-- the same for a run's steps so far
 pub run_by : (config : Configuration) (w : ℕ) (xs : List Step) (g : ℕ) → IsWithinLimits config → 67 * length xs ≤ g
     → AllBy g (floors_of (latency_of config) w (reverse xs))
 run_by config w xs g good l =
@@ -141,7 +141,7 @@ latest_by g h latest by is = record {
   address = rw is.address (last_address_by g h by);
 }
 
--- what is latest after one more step
+-- the latest of each kind of cycle after one more step
 
 ends_more : (dest : Option ℕ) (end : ℕ) (ends : List ℕ) (h : List Done) (r : ℕ) → length ends ≡ 32
     → IfSome dest (λ n. n < 32) → ((r : ℕ) → r < 32 → slice_index ends r ≡ writer_end h r) → r < 32
@@ -179,7 +179,7 @@ latest_more h s at latest low is = record {
   end = rw is.end refl;
 }
 
--- so each of a list has a property up to a place after it is set there
+-- each element of a list has a property up to a place after the element there is set
 pub set_up_to : {X : Type 0} (P : ℕ → X → Type 0) (xs : List X) (n : ℕ) (x : X) → n < length xs → P n x
     → ((i : ℕ) (d : X) → i < n → P i (slice_index_or xs i d)) → (i : ℕ) (d : X) → i < n + 1
     → P i (slice_index_or (slice_set xs n x) i d)

@@ -26,11 +26,11 @@ issue_back [] n = 0
 issue_back (d ∷ older) zero = d.at.issue
 issue_back (d ∷ older) (suc n) = issue_back older n
 
--- later than each older branch has finished, and than the w-th step before has issued
+-- later than the finish of each older branch, and than the issue of the w-th step before it
 abbrev pub floor_issue : ℕ → List Done → ℕ
 floor_issue w older = 1 + max (last_finish is_branch older) (issue_back older (w - 1))
 
--- of a load or store: later than its issue, the end of its base's producer, and the address of the one before
+-- of a load or store: later than its issue, the end of its base's producer, and the previous address
 abbrev pub floor_address : List Done → Step → ℕ → Option ℕ
 floor_address older s issue =
     if is_memory s then Some (1 + max issue (max (source_end older (j_of s)) (last_address older))) else None
@@ -72,7 +72,7 @@ abbrev pub floor_times : (UnitId → ℕ) → ℕ → List Done → Step → Tim
 floor_times latency w older s =
     floor_from latency older s (floor_issue w older) (floor_address older s (floor_issue w older)) (step_unit s)
 
--- steps, the youngest first, with their floors
+-- the steps with their floors, the youngest first
 abbrev pub floors_of : (UnitId → ℕ) → ℕ → List Step → List Done
 floors_of latency w [] = []
 floors_of latency w (s ∷ older) =
@@ -99,14 +99,14 @@ pub record IsNoLater (a b : Times) : Type 0 where
   pub finish : a.finish ≤ b.finish
   pub end : a.end ≤ b.end
 
--- so it is step by step of two histories of one length
+-- the same step by step, for two histories of one length
 abbrev pub AreNoLater : List Done → List Done → Type 0
 AreNoLater [] [] = Unit {0}
 AreNoLater [] (b ∷ h) = IsTrue false
 AreNoLater (a ∷ f) [] = IsTrue false
 AreNoLater (a ∷ f) (b ∷ h) = IsNoLater a.at b.at × AreNoLater f h
 
--- a configuration with n of each part, these latencies and this width: as many as no run of n steps can use up
+-- a configuration with n of each part, these latencies and this width: n steps can't use up any part
 abbrev pub many : (UnitId → ℕ) → ℕ → UnitId → UnitOption
 many latency n unit = record { units = n; latency = latency unit; price = 0 }
 

@@ -1,5 +1,5 @@
--- What the evaluator keeps of the steps so far, for each issue width: what is latest, and when each byte of memory was
--- last accessed.
+-- The evaluator's record of the steps so far, for each issue width: the latest of each kind of cycle, and when each
+-- byte of memory was last accessed.
 use Rattle.std.specs.Prelude.{ℕ, ◌+◌, ◌/◌, ◌%◌, ◌^◌, ◌<◌, ◌≤◌, ◌≡◌, nat_lt, nat_le, Bool, false, ◌&&◌, ◌||◌}
 use Rattle.std.specs.Prelude.{if◌then◌else◌}
 use Rattle.std.specs.Prelude.{min, max, List, [], ◌∷◌, Option, Some, None, nat_eq, replicate, slice_index}
@@ -21,7 +21,7 @@ use Rattle.tomex_floor.specs.declared.accesses.Finishes.{Finishes}
 use Rattle.tomex_floor.specs.declared.accesses.Word.{Word}
 use Rattle.tomex_floor.specs.Floor.{floor_times, floors_of, issue_back, last_finish}
 
--- what the floor reads of a step
+-- the facts that the floor reads of a step
 abbrev pub facts_of : Step → Facts
 facts_of s = record {
   unit = step_unit s;
@@ -41,9 +41,9 @@ pub record AreInRange (f : Facts) : Type 0 where
   pub k : IfSome f.k (λ r. r < 32)
   pub bytes : IfSome f.bytes (λ r. (r.from < r.to) × (r.to < 2 ^ 63))
 
--- What is latest.
+-- The latest of each kind of cycle.
 
--- what is latest in a history; of issues the last four, the youngest first
+-- the latest of each kind of cycle in a history; of issues the last four, the youngest first
 pub record IsLatest (h : List Done) (latest : Latest) : Type 0 where
   pub count : length latest.ends ≡ 32
   pub ends : (r : ℕ) → r < 32 → slice_index latest.ends r ≡ writer_end h r
@@ -53,14 +53,14 @@ pub record IsLatest (h : List Done) (latest : Latest) : Type 0 where
   pub address : latest.address ≡ last_address h
   pub end : latest.end ≡ greatest_end h
 
--- nothing that is latest is later than a cycle
+-- none of the latest is later than a cycle
 pub record IsLatestBy (g : ℕ) (latest : Latest) : Type 0 where
   pub ends : (r : ℕ) → r < 32 → slice_index latest.ends r ≤ g
   pub issues : (n : ℕ) → n < 4 → slice_index latest.issues n ≤ g
   pub branch : latest.branch ≤ g
   pub address : latest.address ≤ g
 
--- what is latest after one more step
+-- the latest of each kind of cycle after one more step
 abbrev pub latest_after : Facts → Times → Latest → Latest
 latest_after f at latest = record {
   ends = written_by f.dest at.end latest.ends;
@@ -70,15 +70,15 @@ latest_after f at latest = record {
   end = max at.end latest.end;
 }
 
--- what is latest in the histories of the widths from 1 to 4
+-- the same in the histories of the widths from 1 to 4
 abbrev pub AreLatest : (ℕ → List Done) → List Latest → Type 0
 AreLatest h latest = (n : ℕ) (d : Latest) → n < 4 → IsLatest (h n) (slice_index_or latest n d)
 
--- a history with one step more
+-- a history with one more step
 abbrev pub history_after : (UnitId → ℕ) → Step → (ℕ → List Done) → ℕ → List Done
 history_after latency s h n = record { step = s; at = floor_times latency (n + 1) (h n) s } ∷ h n
 
--- and when that finishes
+-- the finish of this step
 abbrev pub finish_of : (UnitId → ℕ) → Step → (ℕ → List Done) → ℕ → ℕ
 finish_of latency s h n = (floor_times latency (n + 1) (h n) s).finish
 
@@ -108,18 +108,18 @@ touched_in h b = record {
   access = last_finish (λ x. has_byte b (bytes_of x)) h;
 }
 
--- with one access more
+-- a byte after one more access
 abbrev pub touched_by : Bool → ℕ → Touched → Touched
 touched_by store finish t = record {
   store = if store then max finish t.store else t.store;
   access = max finish t.access;
 }
 
--- what a load or a store of the byte waits for
+-- the finish that a load or a store of the byte waits for
 abbrev pub waited_for : Bool → Touched → ℕ
 waited_for store t = if store then t.access else t.store
 
--- one of the bytes from one up to another is the access's
+-- one of the bytes from one up to another belongs to the access
 abbrev pub has_some : (from to : ℕ) → Option ByteRange → Bool
 has_some from to None = false
 has_some from to (Some r) = nat_lt r.from to && nat_lt from r.to && nat_lt from to
@@ -128,7 +128,7 @@ has_some from to (Some r) = nat_lt r.from to && nat_lt from r.to && nat_lt from 
 abbrev pub shares_some : (from to : ℕ) → Bool → Step → Bool
 shares_some from to store x = has_some from to (bytes_of x) && (is_store x || store)
 
--- what is kept of a byte for the width of a place
+-- the finishes kept of a byte, for the width of a place
 abbrev pub touched_at : ℕ → Finishes → Touched
 touched_at n f = record { store = slice_index f.store n; access = slice_index f.access n }
 
@@ -138,26 +138,26 @@ no_finishes = record { store = replicate 4 0; access = replicate 4 0 }
 abbrev pub no_word : Word
 no_word = record { bytes = replicate 4 no_finishes }
 
--- of a byte of a word, and of any byte
+-- the finishes of a byte of a word, and of any byte
 abbrev pub touched_of : ℕ → Word → ℕ → Touched
 touched_of n word lane = touched_at n (slice_index_or word.bytes lane no_finishes)
 
 abbrev pub touched_from : {S : Type 0} → ℕ → HashMap ℕ Word S → ℕ → Touched
 touched_from n m b = touched_of n (unwrap_or (get nat_eq m (b / 4)) no_word) (b % 4)
 
--- a map by word has what was touched in the histories of the widths
+-- a map by word has the finishes of each byte in the histories of the widths
 abbrev pub AreTouched : {S : Type 0} → (ℕ → List Done) → HashMap ℕ Word S → Type 0
 AreTouched h m = (n b : ℕ) → n < 4 → touched_from n m b ≡ touched_in (h n) b
 
--- where the bytes of a range that are below a byte end
+-- the end of the bytes of a range that are below a byte
 abbrev pub below : (from to t : ℕ) → ℕ
 below from to t = min to (max from t)
 
--- what an access to these bytes waits for at those below a byte
+-- the finish that an access to these bytes waits for at those below a byte
 abbrev pub conflict_below : ByteRange → ℕ → Bool → List Done → ℕ
 conflict_below r t store h = last_finish (shares_some r.from (below r.from r.to t) store) h
 
--- what was touched after an access to the bytes from one up to another
+-- the finishes of a byte after an access to the bytes from one up to another
 abbrev pub touched_after : (from to : ℕ) → Bool → ℕ → ℕ → Touched → Touched
 touched_after from to store finish b t =
     if nat_le from b && nat_lt b to then touched_by store finish t else t

@@ -1,4 +1,4 @@
--- Laws of the floor: no machine is faster, what makes it fall, and that it is reached.
+-- Laws of the floor: no machine is faster, what lowers it, and that it is reached.
 use Rattle.std.specs.Prelude.{ℕ, ◌<◌, ◌≤◌, ◌≡◌, ◌⊎◌, List, length, map}
 use Rattle.tomex_rvdec.specs.declared.pool.UnitId.{UnitId}
 use Rattle.tomex_steps.specs.declared.step.Step.{Step}
@@ -34,8 +34,8 @@ FloorsFall = (latency slower : UnitId → ℕ) (w narrower : ℕ) (steps : List 
     → ((unit : UnitId) → latency unit ≤ slower unit) → narrower ≤ w
     → AreNoLater (floors_of latency w steps) (floors_of slower narrower steps)
 
--- and a floor is reached: it is what the recurrence gives on a configuration with as many of each part as the run has
--- steps, so no greater number is a bound for machines of any size
+-- a floor is reached: the recurrence gives it on a configuration with as many of each part as the run has steps, so no
+-- greater number is a bound for machines of any size
 abbrev pub FloorsAreReached : Type 0
 FloorsAreReached = (latency : UnitId → ℕ) (w n : ℕ) (steps : List Step) → 0 < w → length steps ≤ n
     → (h : List Done) × AreTimed (unlimited latency w n) h

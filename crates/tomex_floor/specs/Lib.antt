@@ -1,4 +1,4 @@
--- What contracts cite: the floor of a run, its laws, and what the evaluator keeps.
+-- The definitions that contracts cite: the floor of a run, its laws, and the evaluator's record.
 pub mod Floor
 pub mod Laws
 pub mod Kept

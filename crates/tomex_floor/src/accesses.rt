@@ -1,4 +1,4 @@
-//! When each byte of memory was last accessed.
+//! The time of the last access to each byte of memory.
 
 ghost use Rattle.std.specs.Prelude.{◌≡◌, ◌≢◌, ◌<◌, ◌+◌, ◌^◌, ◌&&◌, ℕ, nat_le, nat_lt, if◌then◌else◌, List, IfOk, max};
 ghost use Rattle.std.specs.Prelude.{slice_index};
@@ -22,11 +22,11 @@ use tomex_rvexec::ByteRange;
 #[derive(Clone, Copy, Drop)]
 pub(crate) struct Finishes {
     pub store: [u64; 4],
-    /// Of a load or store.
+    /// The finish of the last load or store.
     pub access: [u64; 4],
 }
 
-/// Those of the four bytes of an aligned word.
+/// The finishes of the four bytes of an aligned word.
 #[derive(Clone, Copy, Drop)]
 pub(crate) struct Word {
     pub bytes: [Finishes; 4],
@@ -38,7 +38,7 @@ pub(crate) struct Accesses<A: Allocator> {
     pub by_word: HashMap<u64, Word, BuildHasherDefault<FoldHasher>, A>,
 }
 
-/// Raises each number of a list to that of another.
+/// Raises each number to the one in the same place of `others`.
 fn raise(numbers: &mut [u64; 4], others: &[u64; 4])
     ensures { (n : ℕ) → n < 4
         → slice_index numbers.new n ≡ max (slice_index others.now n) (slice_index numbers.old n) }
@@ -49,7 +49,7 @@ fn raise(numbers: &mut [u64; 4], others: &[u64; 4])
 }
 
 impl Finishes {
-    /// Of no access.
+    /// The finishes before any access.
     fn none() -> Finishes
         ensures { result ≡ no_finishes }
     {
@@ -84,7 +84,7 @@ impl Finishes {
 }
 
 impl Word {
-    /// Of no access.
+    /// The finishes before any access.
     fn none() -> Word
         ensures { result ≡ no_word }
     {
@@ -166,7 +166,7 @@ impl Word {
 }
 
 impl<A: Allocator> Accesses<A> {
-    /// Before the first access.
+    /// The state before the first access.
     pub fn none(alloc: A) -> Accesses<A>
         ensures { IsEmpty result.by_word }
     {

@@ -1,4 +1,4 @@
-//! What the floor reads of a step.
+//! The facts that the floor reads of a step.
 
 ghost use Rattle.std.specs.Prelude.{◌≡◌, ◌<◌, IfSome};
 ghost use Rattle.std.specs.Option.{ForSome};
@@ -9,7 +9,7 @@ ghost use Rattle.tomex_floor.specs.Kept.{AreInRange, facts_of};
 use tomex_rvdec::{PoolId, UnitId};
 use tomex_rvexec::{ByteRange, Operand, Step};
 
-/// What the floor reads of a step, taken from its instruction once for all widths.
+/// The facts that the floor reads of a step, taken from its instruction only once for all widths.
 #[derive(Clone, Copy)]
 pub(crate) struct Facts {
     pub unit: Option<UnitId>,

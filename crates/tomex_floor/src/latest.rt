@@ -1,4 +1,4 @@
-//! What is latest of the steps so far, for one issue width.
+//! The latest of each kind of cycle so far, for one issue width.
 
 ghost use Rattle.std.specs.Prelude.{◌≡◌, ◌<◌, ◌≤◌, ◌^◌, List, [], Option, IfSome};
 ghost use Rattle.tomex_steps.specs.declared.step.Operand.{Operand};
@@ -10,7 +10,7 @@ ghost use Rattle.tomex_floor.specs.Kept.{IsLatest, IsLatestBy, latest_after};
 use crate::facts::Facts;
 use tomex_timing::Times;
 
-/// The latest of each kind of cycle so far, 0 if there is none.
+/// The latest of each kind of cycle so far; 0 if there is none.
 #[derive(Clone, Copy)]
 pub(crate) struct Latest {
     /// The end of each register's youngest writer.
@@ -26,7 +26,7 @@ pub(crate) struct Latest {
 }
 
 impl Latest {
-    /// Before the first step.
+    /// The state before the first step.
     pub fn none() -> Latest
         ensures { IsLatest [] result }
     {
@@ -39,7 +39,7 @@ impl Latest {
         }
     }
 
-    /// The end of the producer of what a register holds, 0 without a register.
+    /// The end of the producer of a register's content; 0 without a register.
     #[inline(always)]
     pub fn end_of(&self, register: Option<u8>) -> u64
         requires register { IfSome register (λ r. r < 32) }

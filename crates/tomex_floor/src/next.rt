@@ -1,4 +1,4 @@
-//! The floor's times of the next step, by what is kept of the steps before.
+//! The floor's times of the next step, given what is kept of the earlier steps.
 
 ghost use Rattle.std.specs.Prelude.{◌≡◌, ◌<◌, ◌≤◌, ◌+◌, ◌^◌, List};
 ghost use Rattle.tomex_steps.specs.declared.step.Step.{Step};
@@ -14,7 +14,7 @@ use crate::latest::Latest;
 use tomex_config::Config;
 use tomex_timing::Times;
 
-/// The issue: later than each older branch's finish and the issue of the `width`-th step before.
+/// The issue: later than each older branch's finish and the issue of the `width`-th step before it.
 #[inline(always)]
 fn issue_of(latest: &Latest, width: usize) -> u64
     requires width { (1 ≤ width) × (width ≤ 4) }

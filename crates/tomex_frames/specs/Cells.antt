@@ -19,7 +19,7 @@ use Rattle.tomex_frames.specs.declared.doing.Doing.{Doing}
 use Rattle.tomex_frames.specs.declared.doing.Doing.TheVariants.{Issues, Computes, Executes, Writes, Waits as WaitsFor}
 use Rattle.tomex_snapshots.specs.declared.entries.Entry.{Entry}
 
--- there is a dash between the first and the last cycle of an execution
+-- the first and the last cycle of an execution have a dash between them
 abbrev pub content_text : Content → List ℕ
 content_text Nothing = []
 content_text NotUsed = codes "-"
@@ -31,11 +31,11 @@ content_text (Took start finish) = decimal start ++ (codes "&#8211;" ++ decimal 
 abbrev pub cell_text : Cell → List ℕ
 cell_text c = cell c.new (content_text c.content)
 
--- a cycle, once it has come
+-- a cycle, after it has been reached
 abbrev pub cycle_by : ℕ → ℕ → Content
 cycle_by t n = if nat_le n t then Cycle n else Nothing
 
--- what a step doesn't have, from its issue on
+-- the cell of what a step doesn't have, from its issue on
 abbrev pub unused : ℕ → Entry → Cell
 unused t e = record { new = false; content = if nat_le e.at.issue t then NotUsed else Nothing }
 
@@ -76,7 +76,7 @@ write_cell t e =
     then record { new = e.at.end == t; content = cycle_by t e.at.end }
     else unused t e
 
--- what the k-th cycle of a step's waits for its start, from 0, is charged to: they stand in this order
+-- the cause that the k-th cycle of a step's waits for its start, from 0, is charged to: causes are in this order
 abbrev pub start_cause : Waits → ℕ → Cause
 start_cause w k =
     if nat_lt k w.operand then causes.Operand
@@ -84,7 +84,7 @@ start_cause w k =
     else (if nat_lt (k - w.operand - w.address) w.memory then causes.Memory
     else causes.Unit))
 
--- the same of its waits to issue
+-- the same for its waits to issue
 abbrev pub issue_cause : Waits → ℕ → Cause
 issue_cause w k =
     if nat_lt k w.branch then causes.Branch
@@ -101,7 +101,7 @@ doing_of t e (Some stages.Wait) = Some (WaitsFor (start_cause e.waits (t - (e.at
 doing_of t e None =
     if nat_le e.from t && nat_lt t e.at.issue then Some (WaitsFor (issue_cause e.waits (t - e.from))) else None
 
--- what a step does in a cycle, if anything
+-- the activity of a step in a cycle, if any
 unfoldable pub doing_in : ℕ → Entry → Option Doing
 doing_in t e = doing_of t e (stage_in e.at t)
 

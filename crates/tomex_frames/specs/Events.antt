@@ -1,4 +1,4 @@
--- What happens in a cycle: five entries, always all five, so that nothing below them moves.
+-- The events of a cycle: five entries, always all five, so that nothing below them moves.
 use Rattle.std.specs.Prelude.{ℕ, ◌==◌, Bool, ◌&&◌, if◌then◌else◌, List, [], ◌∷◌, ◌++◌, codes, is_some, Option}
 use Rattle.std.specs.Prelude.{Some, None}
 use Rattle.std.specs.List.{flat_map, list_any}
@@ -34,7 +34,7 @@ abbrev pub issued_to : Option Tag → List ℕ
 issued_to None = []
 issued_to (Some tag) = codes " &#8594; " ++ name_text (Some tag)
 
--- what is said of a step to which it happens
+-- the text of a step to which it happens
 unfoldable pub item : ℕ → List Entry → Event → Entry → List ℕ
 item t es Issue e = instr_text e.step.instr ++ issued_to (station_of e)
 item t es Address e = name_text (station_of e) ++ (codes " A=" ++ hex8 (address_of e.step))

@@ -48,7 +48,7 @@ abbrev pub free_text : Column → List ℕ
 free_text columns.Busy = codes "no"
 free_text _ = []
 
--- what a column has of a station, busy or not
+-- a column's text for a station, busy or not
 abbrev pub column_text : Option Busy → Column → List ℕ
 column_text None column = free_text column
 column_text (Some b) column = busy_text b column
@@ -71,7 +71,7 @@ row_in t h pool number =
     let tag : Tag = record { pool = pool; number = number } in
     station_row tag (shown (t - 1) h tag) (shown t h tag)
 
--- all that the machine has of a pool
+-- all stations that the machine has of a pool
 unfoldable pub pool_rows : Configuration → ℕ → List Done → PoolId → List ℕ
 pool_rows config t h pool = flat_map (row_in t h pool) (range_with_len 0 (stations_of config pool))
 
@@ -81,7 +81,7 @@ all_pools = pools.Alu ∷ pools.Mul ∷ pools.Div ∷ pools.Load ∷ pools.Store
 unfoldable pub station_table : Configuration → ℕ → List Done → List ℕ
 station_table config t h = station_head ++ (flat_map (pool_rows config t h) all_pools ++ table_end)
 
--- a register, with its Qi after the cycle before: an empty one is marked too if its result has come
+-- a register, with its Qi after the cycle before: an empty one is marked too if its result has arrived
 unfoldable pub register_cell : ℕ → Option Tag → Option Tag → List ℕ
 register_cell r was now =
     (if same_name was now then codes "<div>" else codes "<div class=\"n\">")

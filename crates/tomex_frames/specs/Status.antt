@@ -1,4 +1,4 @@
--- Instruction status: a row for each step that is there.
+-- Instruction status: a row for each step that is listed.
 use Rattle.std.specs.Prelude.{ℕ, ◌-◌, nat_le, nat_lt, if◌then◌else◌, List, [], ◌++◌, codes, count_by}
 use Rattle.std.specs.List.{flat_map}
 use Rattle.std.specs.Fmt.{decimal}
@@ -30,8 +30,8 @@ unfoldable pub step_row : ℕ → Entry → List ℕ
 step_row t e =
     row_head t e ++ (row_cells t e ++ (codes "<td>" ++ (doing_text (doing_in t e) ++ codes "</td></tr>\n")))
 
--- All steps of the page's cycles if these are 16 at most: then the table stays as it is, and fills in. Else those of a
--- cycle and the two before it.
+-- All steps of the page's cycles if these are at most 16: then the table keeps its rows, and fills in. Otherwise those
+-- of a cycle and the two before it.
 abbrev pub listed : Span → List Entry → ℕ → Span
 listed page es t =
     if nat_le (count_by (is_there page) es) 16 then page else record { from = t - 2; to = t }

@@ -9,7 +9,7 @@ use tomex_html::cell_start;
 use tomex_snapshots::Entry;
 use tomex_timing::Tag;
 
-/// What a cell shows.
+/// The content of a cell.
 #[derive(Clone, Copy)]
 pub enum Content {
     Nothing,
@@ -17,9 +17,9 @@ pub enum Content {
     NotUsed,
     Station(Tag),
     Cycle(u64),
-    /// It began in this cycle, and goes on.
+    /// The execution began in this cycle, and continues.
     Since(u64),
-    /// Its first and its last cycle.
+    /// The first and the last cycle of the execution.
     Took(u64, u64),
 }
 
@@ -41,10 +41,9 @@ impl fmt::Display for Content {
     }
 }
 
-/// A cell.
 #[derive(Clone, Copy)]
 pub struct Cell {
-    /// Whether what it shows came in the view's cycle.
+    /// True if the content appeared in the view's cycle.
     pub new: bool,
     pub content: Content,
 }
@@ -61,7 +60,7 @@ impl fmt::Display for Cell {
     }
 }
 
-/// A cycle, once it has come.
+/// A cycle, after it has been reached.
 fn cycle_by(by: u64, cycle: u64) -> Content
     ensures { result ≡ cycle_by by cycle }
 {
@@ -87,7 +86,7 @@ fn unused(cycle: u64, entry: &Entry) -> Cell
     }
 }
 
-/// Its station, once it has issued.
+/// The step's station, after it has issued.
 pub fn station_cell(cycle: u64, entry: &Entry) -> Cell
     ensures { result ≡ station_cell cycle entry.now }
 {
@@ -103,7 +102,7 @@ pub fn station_cell(cycle: u64, entry: &Entry) -> Cell
     }
 }
 
-/// The cycle of its issue.
+/// The cycle of the step's issue.
 pub fn issue_cell(cycle: u64, entry: &Entry) -> Cell
     ensures { result ≡ issue_cell cycle entry.now }
 {
@@ -127,7 +126,7 @@ pub fn address_cell(cycle: u64, entry: &Entry) -> Cell
     }
 }
 
-/// An execution that is over, by its first and its last cycle.
+/// A completed execution, by its first and its last cycle.
 fn took(start: u64, finish: u64) -> Content
     ensures { result ≡ took start finish }
 {
@@ -138,7 +137,7 @@ fn took(start: u64, finish: u64) -> Content
     }
 }
 
-/// The cycles in its unit, as far as they have come.
+/// The cycles in the step's unit, as far as they have been reached.
 pub fn execute_cell(cycle: u64, entry: &Entry) -> Cell
     ensures { result ≡ execute_cell cycle entry.now }
 {
@@ -164,7 +163,7 @@ pub fn execute_cell(cycle: u64, entry: &Entry) -> Cell
     }
 }
 
-/// The cycle in which its result is sent.
+/// The cycle in which the step's result is sent.
 pub fn write_cell(cycle: u64, entry: &Entry) -> Cell
     ensures { result ≡ write_cell cycle entry.now }
 {

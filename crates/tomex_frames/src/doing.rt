@@ -1,4 +1,4 @@
-//! What a step does in a cycle, or waits for.
+//! The activity of a step in a cycle, or what it waits for.
 
 ghost use Rattle.std.specs.Prelude.{◌≡◌};
 ghost use Rattle.tomex_frames.specs.Cells.{doing_in, issue_cause, start_cause};
@@ -8,8 +8,8 @@ use tomex_run_views::{Stage, stage_in};
 use tomex_snapshots::Entry;
 use tomex_timing::Waits;
 
-/// What a step waits for: to issue an older branch, the issue width or a station, to start an operand, its address, an
-/// older access or a unit, and in the end a bus.
+/// The cause of a wait: to issue, an older branch, the issue width or a station; to start, an operand,
+/// its address, an older access or a unit; at the end, a bus.
 #[derive(Clone, Copy)]
 pub enum Cause {
     Branch,
@@ -42,18 +42,18 @@ impl fmt::Display for Cause {
     }
 }
 
-/// What a step does in a cycle.
+/// The activity of a step in a cycle.
 #[derive(Clone, Copy)]
 pub enum Doing {
     Issues,
-    /// It computes its address.
+    /// The step computes its address.
     Computes,
     Executes,
     Writes,
     Waits(Cause),
 }
 
-/// What a step does, in words, or nothing.
+/// The activity of a step, in words; nothing for `None`.
 #[derive(Clone, Copy)]
 pub struct Words(pub Option<Doing>);
 
@@ -75,7 +75,8 @@ impl fmt::Display for Words {
     }
 }
 
-/// What a cycle of a step's waits to start is charged to; `waited` others come before it.
+/// The cause that a cycle of a step's waits to start is charged to; `waited` other cycles come
+/// before it.
 fn start_cause(waits: &Waits, waited: u64) -> Cause
     ensures { result ≡ start_cause waits.now waited }
 {
@@ -91,7 +92,8 @@ fn start_cause(waits: &Waits, waited: u64) -> Cause
     }
 }
 
-/// What a cycle of a step's waits to issue is charged to; `waited` others come before it.
+/// The cause that a cycle of a step's waits to issue is charged to; `waited` other cycles come
+/// before it.
 fn issue_cause(waits: &Waits, waited: u64) -> Cause
     ensures { result ≡ issue_cause waits.now waited }
 {
@@ -104,7 +106,7 @@ fn issue_cause(waits: &Waits, waited: u64) -> Cause
     }
 }
 
-/// What a step does in a cycle, if anything.
+/// The activity of a step in a cycle, if any.
 #[tactic(auto, unfolding(crate::specs::Cells::doing_in))]
 pub fn doing_in(cycle: u64, entry: &Entry) -> Option<Doing>
     ensures { result ≡ doing_in cycle entry.now }

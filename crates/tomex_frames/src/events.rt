@@ -1,4 +1,4 @@
-//! What happens in a cycle.
+//! The events of a cycle.
 
 ghost use Rattle.std.specs.Prelude.{◌≡◌, ◌++◌, OnOk, string_bytes};
 ghost use Rattle.std.specs.List.{flat_map, list_any};
@@ -9,7 +9,7 @@ use std::alloc::{AllocError, Allocator, Global};
 use std::fmt::Write;
 use tomex_snapshots::{Entry, Name, View, push_takers};
 
-/// What may happen to a step in a cycle.
+/// An event of a step in a cycle.
 #[derive(Clone, Copy)]
 pub enum Event {
     Issue,
@@ -21,7 +21,6 @@ pub enum Event {
     Write,
 }
 
-/// All of them, in the order in which a view has them.
 const EVENTS: [Event; 5] = [
     Event::Issue,
     Event::Address,
@@ -30,7 +29,7 @@ const EVENTS: [Event; 5] = [
     Event::Write,
 ];
 
-/// All of them, in the order in which a view has them.
+/// All events, in the order in which a view has them.
 #[tactic(auto, unfolding(crate::specs::Events::all_events))]
 fn all_events() -> &'static [Event]
     ensures { result.now ≡ all_events }
@@ -51,7 +50,7 @@ impl Event {
         }
     }
 
-    /// Whether it happens to a step in a cycle.
+    /// True if it happens to a step in a cycle.
     fn happens(self, cycle: u64, entry: &Entry) -> bool
         ensures { result ≡ happens self cycle entry.now }
     {
@@ -69,7 +68,7 @@ impl Event {
     }
 }
 
-/// Adds what is said of a step to which it happens.
+/// Adds the text of a step to which it happens.
 #[tactic(auto, unfolding(crate::specs::Events::item))]
 fn push_item<A: Allocator>(
     text: &mut String<A>,
@@ -104,7 +103,7 @@ fn push_item<A: Allocator>(
     }
 }
 
-/// Adds a step, if it happens to it.
+/// Adds a step, if the event happens to it.
 #[tactic(auto, unfolding(crate::specs::Events::item_if))]
 fn push_item_if<A: Allocator>(
     text: &mut String<A>,
@@ -124,7 +123,7 @@ fn push_item_if<A: Allocator>(
     Ok(())
 }
 
-/// Adds the steps to which it happens.
+/// Adds the steps to which the event happens.
 fn push_all_items<A: Allocator>(
     text: &mut String<A>,
     heap: Global,
@@ -140,14 +139,14 @@ fn push_all_items<A: Allocator>(
     Ok(())
 }
 
-/// Whether it happens to any of these steps.
+/// True if the event happens to any of these steps.
 fn happens_to_any(entries: &[Entry], cycle: u64, event: Event) -> bool
     ensures { result ≡ list_any (happens event cycle) entries.now }
 {
     entries.iter().any(|entry| event.happens(cycle, entry))
 }
 
-/// Adds the steps to which it happens, or a dash if there are none.
+/// Adds the steps to which the event happens, or a dash if there are none.
 #[tactic(auto, unfolding(crate::specs::Events::items))]
 fn push_items<A: Allocator>(
     text: &mut String<A>,
@@ -165,7 +164,6 @@ fn push_items<A: Allocator>(
     }
 }
 
-/// Adds an entry.
 #[tactic(auto, unfolding(crate::specs::Events::event_text))]
 fn push_event<A: Allocator>(
     text: &mut String<A>,
@@ -182,7 +180,6 @@ fn push_event<A: Allocator>(
     write!(text, "</div>\n")
 }
 
-/// Adds an entry for each of these events.
 fn push_all_events<A: Allocator>(
     text: &mut String<A>,
     heap: Global,

@@ -32,7 +32,6 @@ fn push_register<A: Allocator>(
     }
 }
 
-/// Adds a register of a view.
 #[tactic(auto, unfolding(crate::specs::Stations::register_at))]
 fn push_register_at<A: Allocator>(
     text: &mut String<A>,
@@ -48,7 +47,7 @@ fn push_register_at<A: Allocator>(
     push_register(text, register, was, now)
 }
 
-/// Adds some registers, without the last.
+/// Adds the registers from `from` to `to`, exclusive.
 fn push_some<A: Allocator>(
     text: &mut String<A>,
     view: &View<'_>,

@@ -15,7 +15,7 @@ use tomex_rvdec::PoolId;
 use tomex_snapshots::{Name, View};
 use tomex_timing::{Busy, Field, Tag};
 
-/// A column of the table, except the station's name.
+/// A column of the table, except that of the station's name.
 #[derive(Clone, Copy)]
 pub enum Column {
     Busy,
@@ -83,7 +83,7 @@ fn push_a(text: &mut String, a: Option<u32>) -> Result<(), AllocError>
     }
 }
 
-/// Adds what a column has of a busy station.
+/// Adds a column's text for a busy station.
 fn push_busy(text: &mut String, busy: &Busy, column: Column) -> Result<(), AllocError>
     ensures { OnOk result (string_bytes text.new
         ≡ string_bytes text.old ++ busy_text busy.now column) }
@@ -99,7 +99,7 @@ fn push_busy(text: &mut String, busy: &Busy, column: Column) -> Result<(), Alloc
     }
 }
 
-/// Adds what a column has of a free station.
+/// Adds a column's text for a free station.
 fn push_free(text: &mut String, column: Column) -> Result<(), AllocError>
     ensures { OnOk result (string_bytes text.new ≡ string_bytes text.old ++ free_text column) }
 {
@@ -109,7 +109,7 @@ fn push_free(text: &mut String, column: Column) -> Result<(), AllocError>
     }
 }
 
-/// Writes what a column has of a station.
+/// Writes a column's text for a station.
 fn write_column(text: &mut String, station: &Option<Busy>, column: Column) -> Result<(), AllocError>
     ensures { OnOk result (string_bytes text.new ≡ column_text station.now column) }
 {
@@ -120,7 +120,7 @@ fn write_column(text: &mut String, station: &Option<Busy>, column: Column) -> Re
     }
 }
 
-/// Two texts that are written again and again.
+/// Two texts, overwritten for each field.
 #[derive(Drop)]
 pub struct Scratch {
     was: String,
@@ -128,7 +128,7 @@ pub struct Scratch {
 }
 
 impl Scratch {
-    /// Two texts of this heap.
+    /// Two empty texts with memory from `heap`.
     pub fn new(heap: Global) -> Scratch {
         Scratch {
             was: String::new(heap),
@@ -154,7 +154,6 @@ fn push_field<A: Allocator>(
     push_changed_cell(text, scratch.was.as_str(), scratch.now.as_str())
 }
 
-/// Adds fields of a station.
 fn push_fields<A: Allocator>(
     text: &mut String<A>,
     scratch: &mut Scratch,
@@ -171,7 +170,6 @@ fn push_fields<A: Allocator>(
     Ok(())
 }
 
-/// Adds a station's row.
 #[tactic(auto, unfolding(crate::specs::Stations::station_row))]
 fn push_row<A: Allocator>(
     text: &mut String<A>,
@@ -189,7 +187,7 @@ fn push_row<A: Allocator>(
     write!(text, "</tr>\n")
 }
 
-/// Adds the row of a station of a pool.
+/// Adds the row of a station in a pool.
 fn push_row_in<A: Allocator>(
     text: &mut String<A>,
     scratch: &mut Scratch,
@@ -208,7 +206,6 @@ fn push_row_in<A: Allocator>(
     push_row(text, scratch, Tag { pool, number }, &was, &now)
 }
 
-/// Adds the rows of a pool.
 fn push_pool<A: Allocator>(
     text: &mut String<A>,
     scratch: &mut Scratch,
@@ -225,7 +222,6 @@ fn push_pool<A: Allocator>(
     Ok(())
 }
 
-/// Adds the rows of some pools.
 fn push_pools<A: Allocator>(
     text: &mut String<A>,
     scratch: &mut Scratch,

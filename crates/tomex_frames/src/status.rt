@@ -13,10 +13,10 @@ use std::fmt::Write;
 use tomex_html::push_table_end;
 use tomex_snapshots::{Entry, Span};
 
-/// How many steps a table has that stays as it is.
+/// The most steps of a table that keeps its rows from view to view.
 const FEW_STEPS: usize = 16;
 
-/// How a row looks: paler before the step's issue and after its end.
+/// The class of a row: paler before the step's issue and after its end.
 fn row_class(cycle: u64, entry: &Entry) -> &'static str
     ensures { result.now ≡ row_class cycle entry.now }
 {
@@ -29,7 +29,7 @@ fn row_class(cycle: u64, entry: &Entry) -> &'static str
     }
 }
 
-/// Adds what a row begins with: its number and its instruction.
+/// Adds the start of a row: the step's number and its instruction.
 #[tactic(auto, unfolding(crate::specs::Status::row_head))]
 fn push_row_head<A: Allocator>(
     text: &mut String<A>,
@@ -47,7 +47,6 @@ fn push_row_head<A: Allocator>(
     )
 }
 
-/// Adds a row's cells.
 #[tactic(auto, unfolding(crate::specs::Status::row_cells))]
 fn push_row_cells<A: Allocator>(
     text: &mut String<A>,
@@ -63,7 +62,6 @@ fn push_row_cells<A: Allocator>(
     write!(text, "{station}{issue}{address}{execute}{write}")
 }
 
-/// Adds a step's row.
 #[tactic(auto, unfolding(crate::specs::Status::step_row))]
 fn push_row<A: Allocator>(text: &mut String<A>, cycle: u64, entry: &Entry) -> Result<(), AllocError>
     ensures { OnOk result (string_bytes text.new
@@ -75,7 +73,7 @@ fn push_row<A: Allocator>(text: &mut String<A>, cycle: u64, entry: &Entry) -> Re
     write!(text, "<td>{words}</td></tr>\n")
 }
 
-/// How many steps are there in some of these cycles.
+/// The number of steps that are listed in some of these cycles.
 fn count_in(span: Span, entries: &[Entry]) -> usize
     ensures { result ≡ count_by (is_there span) entries.now }
 {
@@ -96,7 +94,7 @@ fn listed(page: Span, entries: &[Entry], cycle: u64) -> Span
     }
 }
 
-/// Adds the rows of the steps that are there in some of these cycles.
+/// Adds the rows of the steps that are listed in some of these cycles.
 fn push_rows<A: Allocator>(
     text: &mut String<A>,
     span: Span,

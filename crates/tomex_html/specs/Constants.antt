@@ -1,7 +1,7 @@
 -- The constant pieces of all pages.
 use Rattle.std.specs.Prelude.{ℕ, List, ◌++◌, codes}
 
--- what every page begins with, up to the text of its title
+-- the start of every page, up to the text of its title
 unfoldable pub head_html : List ℕ
 head_html =
     codes "<!DOCTYPE html>\n"
@@ -13,7 +13,7 @@ head_html =
     ++ (codes "'unsafe-inline'\"/>\n"
     ++ codes "<title>"))))))
 
--- how texts, tables and links look
+-- the style of texts, tables and links
 unfoldable pub base_css : List ℕ
 base_css =
     codes ":root{color-scheme:light dark;--page:#fff;--ink:#1c2126;--soft:#59636e;--line:#d8dee4;"
@@ -39,7 +39,7 @@ base_css =
     ++ (codes ".w{overflow-x:auto}\n"
     ++ codes "summary{cursor:pointer}\n"))))))))))))))))))))
 
--- how views look, of which one is shown at a time
+-- the style of views, of which one is shown at a time
 unfoldable pub frame_css : List ℕ
 frame_css =
     codes "nav{display:flex;flex-wrap:wrap;gap:.4rem .5rem}\n"

@@ -11,7 +11,7 @@ use Rattle.tomex_html.specs.declared.links.Anchor.{Anchor}
 use Rattle.tomex_html.specs.declared.links.Anchor.TheVariants.{Next, Previous}
 use Rattle.tomex_html.specs.declared.links.Links.{Links}
 
--- a character of a name: what HTML reads as markup by its reference, a control character as refusals show it
+-- a character of a name: its reference if HTML reads it as markup, and a control character as refusals show it
 unfoldable pub html_char : ℕ → List ℕ
 html_char c =
     if c == 38 then codes "&amp;"
@@ -24,7 +24,7 @@ html_char c =
 unfoldable pub html_name : List ℕ → List ℕ
 html_name name = flat_map html_char (chars name)
 
--- from a page's first byte into its body
+-- the start of a page, from its first byte into its body
 unfoldable pub page_start : List ℕ → List ℕ → List ℕ
 page_start title style =
     head_html ++ (title ++ (codes "</title>\n<style>\n" ++ (base_css ++ (frame_css ++ (style
@@ -33,7 +33,7 @@ page_start title style =
 unfoldable pub page_end : List ℕ
 page_end = codes "</body>\n</html>\n"
 
--- a cell, which is marked if what it shows is new
+-- a cell, which is marked if its content is new
 abbrev pub cell_start : Bool → List ℕ
 cell_start true = codes "<td class=\"n\">"
 cell_start false = codes "<td>"
@@ -44,7 +44,7 @@ cell new text = cell_start new ++ (text ++ codes "</td>")
 abbrev pub td : List ℕ → List ℕ
 td text = cell false text
 
--- what is shown has changed, and isn't empty now
+-- the content has changed, and isn't empty now
 abbrev pub is_new : List ℕ → List ℕ → Bool
 is_new was now = not (bytes_eq was now) && nat_lt 0 (length now)
 
@@ -70,7 +70,7 @@ link_or_text id (Some to) text =
 link_or_text id None text = codes "<span" ++ (id_text id ++ (codes ">" ++ (text ++ codes "</span>\n")))
 
 -- A view's links. *next* leads to the next view's *next*, *previous* to the *previous* of the one before, so that a
--- browser gives the focus to the link that leads on.
+-- browser gives the focus to the link that leads further.
 unfoldable pub links : Links → List ℕ
 links view =
     codes "<nav>\n"

@@ -3,7 +3,6 @@
 ghost use Rattle.std.specs.Prelude.{◌≡◌};
 ghost use Rattle.tomex_html.specs.Constants.{base_css, frame_css, head_html};
 
-/// What every page begins with, up to the text of its title.
 const HEAD_HTML: &str = "\
 <!DOCTYPE html>
 <html lang=\"en\">
@@ -13,7 +12,6 @@ const HEAD_HTML: &str = "\
 <meta http-equiv=\"Content-Security-Policy\" content=\"default-src 'none';style-src 'unsafe-inline'\"/>
 <title>";
 
-/// How texts, tables and links look.
 const BASE_CSS: &str = "\
 :root{color-scheme:light dark;--page:#fff;--ink:#1c2126;--soft:#59636e;--line:#d8dee4;--link:#1f5fa8;\
 --new:#fff0b8;--mark:#a86a00}
@@ -37,7 +35,6 @@ thead th{font-size:.85rem;color:var(--soft);border-bottom:1px solid var(--soft)}
 summary{cursor:pointer}
 ";
 
-/// How views look, of which one is shown at a time.
 const FRAME_CSS: &str = "\
 nav{display:flex;flex-wrap:wrap;gap:.4rem .5rem}
 nav>*{padding:.1rem .7rem;border:1px solid var(--line);border-radius:.3rem;text-decoration:none}
@@ -58,7 +55,7 @@ font-size:.82rem}
 svg{break-inside:avoid}.n{font-weight:700}}
 ";
 
-/// What every page begins with, up to the text of its title.
+/// The start of every page, up to the text of its title.
 #[tactic(auto, unfolding(crate::specs::Constants::head_html))]
 pub fn head_html() -> &'static str
     ensures { result.now ≡ head_html }
@@ -66,7 +63,7 @@ pub fn head_html() -> &'static str
     HEAD_HTML
 }
 
-/// How texts, tables and links look.
+/// The style of texts, tables and links.
 #[tactic(auto, unfolding(crate::specs::Constants::base_css))]
 pub fn base_css() -> &'static str
     ensures { result.now ≡ base_css }
@@ -74,7 +71,7 @@ pub fn base_css() -> &'static str
     BASE_CSS
 }
 
-/// How views look, of which one is shown at a time.
+/// The style of views, of which one is shown at a time.
 #[tactic(auto, unfolding(crate::specs::Constants::frame_css))]
 pub fn frame_css() -> &'static str
     ensures { result.now ≡ frame_css }

@@ -27,7 +27,7 @@ impl fmt::Display for Anchor {
     }
 }
 
-/// Where a view is among the views of its page, which have numbers.
+/// The position of a view among the views of its page, which have numbers.
 #[derive(Clone, Copy)]
 pub struct Links {
     /// The page's first view.

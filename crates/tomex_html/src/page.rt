@@ -1,4 +1,4 @@
-//! How pages begin and end.
+//! The start and the end of pages.
 
 ghost use Rattle.std.specs.Prelude.{◌≡◌, ◌++◌, OnOk, string_bytes};
 ghost use Rattle.tomex_html.specs.Html.{page_end, page_start};
@@ -7,8 +7,8 @@ use crate::constants::{base_css, frame_css, head_html};
 use std::alloc::{AllocError, Allocator};
 use std::fmt::Write;
 
-/// Adds what a page begins with, up to its body. `title` is text in which nothing is markup, `style` what the page has
-/// beside the styles of all pages.
+/// Adds the start of a page, up to its body. `title` is text in which nothing is markup, `style` the page's own style,
+/// after that of all pages.
 #[tactic(auto, unfolding(crate::specs::Html::page_start))]
 pub fn push_page_start<A: Allocator>(
     text: &mut String<A>,
@@ -25,7 +25,7 @@ pub fn push_page_start<A: Allocator>(
     )
 }
 
-/// Adds what a page ends with.
+/// Adds the end of a page.
 #[tactic(auto, unfolding(crate::specs::Html::page_end))]
 pub fn push_page_end<A: Allocator>(text: &mut String<A>) -> Result<(), AllocError>
     ensures { OnOk result (string_bytes text.new ≡ string_bytes text.old ++ page_end) }

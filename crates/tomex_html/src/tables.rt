@@ -5,21 +5,21 @@ ghost use Rattle.tomex_html.specs.Html.{cell_start, changed_cell, is_new, table_
 
 use std::alloc::{AllocError, Allocator};
 
-/// What a cell begins with; it is marked if what it shows is new.
+/// The start of a cell, which is marked if its content is new.
 pub fn cell_start(new: bool) -> &'static str
     ensures { result.now ≡ cell_start new }
 {
     if new { "<td class=\"n\">" } else { "<td>" }
 }
 
-/// Whether what is shown has changed, and isn't empty now.
+/// True if the content has changed, and isn't empty now.
 fn is_new(was: &str, now: &str) -> bool
     ensures { result ≡ is_new was.now now.now }
 {
     was != now && !now.is_empty()
 }
 
-/// Adds a cell, which is marked if it has changed and isn't empty.
+/// Adds a cell, which is marked if its content has changed and isn't empty.
 pub fn push_changed_cell<A: Allocator>(
     text: &mut String<A>,
     was: &str,
@@ -33,7 +33,7 @@ pub fn push_changed_cell<A: Allocator>(
     text.push_str("</td>")
 }
 
-/// Adds what a table ends with.
+/// Adds the end of a table.
 #[tactic(auto, unfolding(crate::specs::Html::table_end))]
 pub fn push_table_end<A: Allocator>(text: &mut String<A>) -> Result<(), AllocError>
     ensures { OnOk result (string_bytes text.new ≡ string_bytes text.old ++ table_end) }

@@ -1,4 +1,4 @@
--- The needs of a history are one value.
+-- A history has only one value of needs.
 use Rattle.std.proofs.Common.{◌≡◌, ◌∙◌, ap, refl, sym, arith, ℕ, suc, ◌<◌, List, [], ◌∷◌, length, map}
 use Rattle.tomex_config.specs.Configuration.{Configuration}
 use Rattle.tomex_config.specs.Cost.{all_pools}
@@ -71,7 +71,7 @@ needs_are config h n are =
     (are.parts (Units units.Div)) (are.parts (Units units.Mem)) (are.parts (Units units.Bru)))
     (are.parts Buses) (are.parts Width) are.branch are.operand are.address are.memory are.last_issue are.total
 
--- and so are those of a program on a configuration
+-- so has a program on a configuration
 pub needs_of_run : (config : Configuration) (p : Workload) (n : Needs)
     → AreNeeds config (history config (steps_of p)) n → n ≡ needs_on config p
 unfolding needs_on

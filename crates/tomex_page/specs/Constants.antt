@@ -1,7 +1,7 @@
 -- The constant pieces of a page.
 use Rattle.std.specs.Prelude.{ℕ, List, ◌++◌, codes}
 
--- how a study's report looks
+-- the style of a study's report
 unfoldable pub page_css : List ℕ
 page_css =
     codes ":root{--shade:#edf3fa;--dot:#a9b8c9;--bar:#7ba3d0}\n"
@@ -41,7 +41,7 @@ page_css =
     ++ (codes "@media print{section{break-inside:auto;break-before:page}."
     ++ codes "w,details{break-inside:avoid}}\n"))))))))))))))))))))))))))))))))))
 
--- how to read it
+-- the explanation of the page
 unfoldable pub page_help : List ℕ
 page_help =
     codes "<footer><h2>How to read this</h2>\n"

@@ -42,7 +42,7 @@ number_of r = r.row
 abbrev pub number_before : ShownRow → ℕ
 number_before r = r.row.row
 
--- a row's view among those of the rows that are shown, which are called by the rows' numbers
+-- a row's view among those of the rows that are shown; a view's number is the row's
 abbrev pub view_of : List FrontRow → View → Links
 view_of shown v = record {
   first = (slice_index_or shown 0 no_row).row;
@@ -56,13 +56,13 @@ view_of shown v = record {
 unfoldable pub section_head : List FrontRow → View → List ℕ
 section_head shown v = section_start v.here.row ++ (links (view_of shown v) ++ codes "</header>\n")
 
--- what it has of the row
+-- the tables of a row
 unfoldable pub section_tables : DesignSpace → List FrontRow → View → List ℕ
 section_tables s shown v =
     against v.before v.here ++ (parts_table s.prices v.before v.here
     ++ (changes_table s shown v.here.row ++ prices_table s v.here.row))
 
--- and of the programs' runs on it
+-- the programs' runs on a row
 unfoldable pub section_runs : DesignSpace → Configuration → List ℕ
 section_runs s config =
     codes "<div class=\"l\">\n" ++ (flat_map (run_block config) s.programs ++ codes "</div>\n</section>\n")
@@ -81,7 +81,7 @@ row_sections s shown before [] = []
 row_sections s shown before (r ∷ rows) =
     row_section s shown (view_at s before r rows) ++ row_sections s shown (Some (row_of s r)) rows
 
--- what isn't shown
+-- the rows of the front that aren't shown
 unfoldable pub all_in_picture : ℕ → List ℕ
 all_in_picture front =
     codes "<p>The picture has all " ++ (decimal front
@@ -91,7 +91,7 @@ all_in_picture front =
 unfoldable pub left_out : ℕ → List ℕ
 left_out front = if nat_le front most_rows then [] else all_in_picture front
 
--- how many rows there are, and how many of them are on the front
+-- the number of rows, and how many of them are on the front
 unfoldable pub counts_text : ℕ → ℕ → List ℕ
 counts_text front rows =
     codes ": " ++ (decimal front ++ (codes " of " ++ (decimal rows ++ codes " rows are on the front")))
@@ -99,13 +99,13 @@ counts_text front rows =
 unfoldable pub title_of : List ℕ → ℕ → ℕ → List ℕ
 title_of name front rows = html_name name ++ counts_text front rows
 
--- the study's name may have any characters; in its element it turns nothing else round
+-- the study's name may have any characters; its element isolates its direction from the rest of the page
 unfoldable pub page_head : List ℕ → ℕ → ℕ → List ℕ
 page_head name front rows =
     page_start (title_of name front rows) page_css ++ (codes "<header><h1><bdi>" ++ (html_name name
     ++ (codes "</bdi>" ++ (counts_text front rows ++ codes "</h1></header>\n<main>\n<div class=\"c\">\n"))))
 
--- the picture beside what was asked
+-- the picture next to what was asked
 unfoldable pub overview : DesignSpace → List FrontRow → List ℕ
 overview s shown =
     codes "<div class=\"w\">" ++ (linked_picture_of s shown ++ (codes "</div>\n<div>\n"
@@ -122,6 +122,6 @@ page_over name s front shown =
     page_head name (length front) (length s.rows) ++ (overview s shown
     ++ (rows_text s (length front) shown ++ (page_help ++ page_end)))
 
--- the page of a study of that name
+-- the page of a study with this name
 unfoldable pub page_of : List ℕ → DesignSpace → List ℕ
 page_of name s = page_over name s (front_of_study s) (shown_of (front_of_study s))

@@ -13,11 +13,11 @@ use Rattle.tomex_timing.specs.declared.part.Part.TheVariants.{Stations, Units, B
 use Rattle.tomex_timing.specs.declared.times.Done.{Done}
 use Rattle.tomex_page_tables.specs.Asked.{steps_of}
 
--- what a history needs of a part: the most that it takes of it at once, and how long its steps wait for it
+-- the need of a history for a part: the most that it takes of it at once, and the cycles that its steps wait for it
 abbrev pub need_in : Configuration → List Done → Part → Need
 need_in config h part = record { peak = peak part h; stalls = stalls config part h }
 
--- all that it needs
+-- the needs of a history for all parts
 abbrev pub needs_in : Configuration → List Done → Needs
 needs_in config h = record {
   stations = map (λ pool. need_in config h (Stations pool)) all_pools;
@@ -32,6 +32,6 @@ needs_in config h = record {
   total = greatest_end h;
 }
 
--- and what a program needs on a configuration
+-- the needs of a program on a configuration
 unfoldable pub needs_on : Configuration → Workload → Needs
 needs_on config p = needs_in config (history config (steps_of p))

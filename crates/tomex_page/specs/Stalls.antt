@@ -1,4 +1,4 @@
--- A run's stalls with bars: in how many cycles instructions wait for each part, and for what is no part.
+-- A run's stalls with bars: the cycles in which instructions wait for each part, and for what is no part.
 use Rattle.std.specs.Prelude.{ℕ, ◌-◌, ◌*◌, ◌/◌, ◌==◌, min, if◌then◌else◌, List, [], ◌∷◌, ◌++◌, codes, map}
 use Rattle.std.specs.Fmt.{decimal}
 use Rattle.std.specs.List.{flat_map}
@@ -16,29 +16,29 @@ use Rattle.tomex_page_tables.specs.Pieces.{number_cell, table_head, table_row}
 unfoldable pub group : List ℕ → List ℕ
 group text = codes "<tr><th scope=\"rowgroup\" colspan=\"5\">" ++ (text ++ codes "</th></tr>\n")
 
--- a number of cycles in percent of all, a bar as wide as the cell at most
+-- a number of cycles in percent of all, at most 100, so that a bar fits its cell
 abbrev pub share : ℕ → ℕ → ℕ
 share n total = min 100 (n * 100 / total)
 
--- a bar as wide as this percentage of its cell
+-- a bar with this percentage of its cell's width
 unfoldable pub filled : ℕ → List ℕ
 filled percent = codes "<td><i style=\"width:" ++ (decimal percent ++ codes "%\"></i></td>")
 
--- no bar for no cycle
+-- no bar for 0 cycles
 unfoldable pub bar : ℕ → ℕ → List ℕ
 bar n total = if n == 0 then td [] else filled (share n total)
 
 abbrev pub cycle_cells : ℕ → ℕ → List ℕ
 cycle_cells n total = number_cell n ++ bar n total
 
--- of what is no part, and has no count
+-- the cells of something that is no part, and has no count
 abbrev pub cause_cells : Needs → ℕ → List ℕ
 cause_cells needs n = td [] ++ (td [] ++ cycle_cells n needs.total)
 
 unfoldable pub cause_row : Needs → List ℕ → ℕ → List ℕ
 cause_row needs name n = table_row name (cause_cells needs n)
 
--- of a part: how many there are, and how many are in use at once at most
+-- the cells of a part: how many there are, and the most in use at once
 abbrev pub part_cells : Configuration → Needs → Part → List ℕ
 part_cells config needs part =
     number_cell (count_of config part) ++ (number_cell (need_of needs part).peak
@@ -53,14 +53,14 @@ pool_parts = map Stations all_pools
 unfoldable pub unit_parts : List Part
 unit_parts = map Units all_units
 
--- what instructions wait for before they issue, one at a time: these and the first cycle are all cycles of the run
+-- the causes of waits before the issue, one at a time: together with the first cycle these are all cycles of the run
 unfoldable pub before_issue : Configuration → Needs → List ℕ
 before_issue config needs =
     group (codes "Before an issue: these and 1 add up to all cycles") ++ (cause_row needs (codes "branch") needs.branch
     ++ (stall_row config needs Width ++ (flat_map (stall_row config needs) pool_parts
     ++ cause_row needs (codes "drain") (needs.total - needs.last_issue))))
 
--- and in their stations
+-- the causes of waits in stations
 unfoldable pub after_issue : Configuration → Needs → List ℕ
 after_issue config needs =
     group (codes "After it: of all instructions together") ++ (cause_row needs (codes "operand") needs.operand

@@ -10,10 +10,10 @@ use tomex_config::Config;
 use tomex_run_views::{Excerpt, push_picture, signs_of};
 use tomex_study::Program;
 
-/// So many instructions have a chart at most.
+/// The most instructions of a chart.
 const CHART_STEPS: u32 = 32;
 
-/// A chart of more signs than this isn't drawn.
+/// The most signs of a chart that is drawn.
 const CHART_SIGNS: u64 = 16_384;
 
 /// Adds the picture of an excerpt.
@@ -56,7 +56,7 @@ fn push_picture_text<A: Allocator, B: Allocator>(
     }
 }
 
-/// Adds what a chart begins with.
+/// Adds the start of a chart.
 #[tactic(auto, unfolding(crate::specs::Charts::chart_start))]
 fn push_chart_start<A: Allocator>(text: &mut String<A>, name: &str) -> Result<(), AllocError>
     ensures { OnOk result (string_bytes text.new ≡ string_bytes text.old ++ chart_start name.now) }

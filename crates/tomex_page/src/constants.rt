@@ -3,7 +3,6 @@
 ghost use Rattle.std.specs.Prelude.{◌≡◌};
 ghost use Rattle.tomex_page.specs.Constants.{page_css, page_help};
 
-/// How a study's report looks.
 const PAGE_CSS: &str = "\
 :root{--shade:#edf3fa;--dot:#a9b8c9;--bar:#7ba3d0}
 @media screen and (prefers-color-scheme:dark){:root{--shade:#1c2733;--dot:#5b6b7c;--bar:#4678ad}}
@@ -41,7 +40,6 @@ column-gap:4rem}}
 @media print{section{break-inside:auto;break-before:page}.w,details{break-inside:avoid}}
 ";
 
-/// How to read it.
 const PAGE_HELP: &str = "\
 <footer><h2>How to read this</h2>
 <p>A row is a configuration, by its number. It is on the front if no other one costs as much or less and \
@@ -59,7 +57,7 @@ use at once: a part without stalls is large enough, and any number of it down to
 <p>Each number is one that a command of tomex prints: front, worth, prices, stalls, pipeline.</p></footer>
 ";
 
-/// How a study's report looks.
+/// The style of a study's report.
 #[tactic(auto, unfolding(crate::specs::Constants::page_css))]
 pub fn page_css() -> &'static str
     ensures { result.now ≡ page_css }
@@ -67,7 +65,7 @@ pub fn page_css() -> &'static str
     PAGE_CSS
 }
 
-/// How to read it.
+/// The explanation of the page.
 #[tactic(auto, unfolding(crate::specs::Constants::page_help))]
 pub fn page_help() -> &'static str
     ensures { result.now ≡ page_help }

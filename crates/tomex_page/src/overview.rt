@@ -1,4 +1,4 @@
-//! What stands above the rows' views: the name, the picture beside what was asked, and the front.
+//! The part above the rows' views: the name, the picture next to what was asked, and the front.
 
 ghost use Rattle.std.specs.Prelude.{◌≡◌, ◌++◌, IfOk, OnOk, string_bytes};
 ghost use Rattle.tomex_page.specs.Page.{all_in_picture, counts_text, left_out, overview, page_head, title_of};
@@ -13,7 +13,7 @@ use tomex_page_tables::{MOST_ROWS, push_lists_table, push_programs_table};
 use tomex_pareto::FrontRow;
 use tomex_study::Study;
 
-/// Adds how many rows there are, and how many of them are on the front.
+/// Adds the number of rows, and how many of them are on the front.
 #[tactic(auto, unfolding(crate::specs::Page::counts_text))]
 fn push_counts<A: Allocator>(
     text: &mut String<A>,
@@ -37,7 +37,7 @@ fn title_of(heap: Global, name: &str, front: usize, rows: usize) -> Result<Strin
     Ok(title)
 }
 
-/// Adds what the page begins with, up to the picture.
+/// Adds the start of the page, up to the picture.
 #[tactic(auto, unfolding(crate::specs::Page::page_head))]
 pub fn push_page_head<A: Allocator>(
     text: &mut String<A>,
@@ -58,9 +58,9 @@ pub fn push_page_head<A: Allocator>(
     write!(text, "</h1></header>\n<main>\n<div class=\"c\">\n")
 }
 
-/// Adds the picture of all rows beside what was asked.
+/// Adds the picture of all rows next to what was asked.
 ///
-/// `rows` are all rows of the study, `front` those of its front, `shown` those of them that are shown.
+/// `rows` are all rows of the study, `front` those of its front, `shown` those of the front that are shown.
 #[tactic(auto, unfolding(crate::specs::Page::overview))]
 pub fn push_overview<A: Allocator + Clone>(
     text: &mut String<A>,
@@ -96,7 +96,7 @@ them: <code>tomex front</code> has them all.</p>\n"
     )
 }
 
-/// Adds what isn't shown, if anything.
+/// Adds that some rows of the front aren't shown, if so.
 #[tactic(auto, unfolding(crate::specs::Page::left_out))]
 pub fn push_left_out<A: Allocator>(text: &mut String<A>, front: usize) -> Result<(), AllocError>
     ensures { OnOk result (string_bytes text.new ≡ string_bytes text.old ++ left_out front) }

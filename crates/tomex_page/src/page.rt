@@ -43,7 +43,7 @@ fn push_rows<A: Allocator, B: Allocator + Clone>(
     write!(text, "</div>\n</main>\n")
 }
 
-/// Adds the page of a study of that name, with these rows of its front.
+/// Adds the page of a study with this name and these rows of its front.
 #[tactic(auto, unfolding(crate::specs::Page::page_over))]
 fn push_page<A: Allocator + Clone>(
     text: &mut String<A>,
@@ -71,12 +71,12 @@ fn push_page<A: Allocator + Clone>(
 }
 
 /// A study's report as a page: the picture of all rows, the programs and the lists of parts, the front, and for each
-/// row of the front, or for 64 of more, what it has more than the row before, its parts, what one part changed brings,
-/// the prices with which it stays on the front, and for each program its stalls and the chart of its first
+/// row of the front, or for 64 if it has more, its differences from the row before, its parts, the gains from changing
+/// one part, the prices with which it stays on the front, and for each program its stalls and the chart of its first
 /// instructions.
 ///
 /// `name` is the study's, and may have any characters. The work is that of a run of each program on each row that is
-/// shown. What is small is taken of `heap`.
+/// shown. Small temporary data is allocated from `heap`.
 pub fn study_page<A: Allocator + Clone>(
     alloc: A,
     heap: Global,

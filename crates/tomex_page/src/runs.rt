@@ -14,7 +14,7 @@ use tomex_study::Program;
 use tomex_timing::Needs;
 use tomex_timing::evaluate::needs;
 
-/// What a program needs on a configuration.
+/// The needs of a program on a configuration.
 fn needs_on<A: Allocator>(
     alloc: A,
     program: &Program<A>,

@@ -29,7 +29,7 @@ pub struct View {
     pub after: Option<FrontRow>,
 }
 
-/// Adds what a row's view begins with.
+/// Adds the start of a row's view.
 #[tactic(auto, unfolding(crate::specs::Page::section_start))]
 fn push_start<A: Allocator>(text: &mut String<A>, row: FrontRow) -> Result<(), AllocError>
     ensures { OnOk result (string_bytes text.new ≡ string_bytes text.old ++ section_start row) }
@@ -51,7 +51,7 @@ fn number_before(before: &Option<ShownRow>) -> Option<u64>
     }
 }
 
-/// Where a row's view is among those of the rows that are shown.
+/// The position of a row's view among those of the rows that are shown.
 fn links_of(shown: &[FrontRow], view: &View) -> Links
     requires { 0 < length shown.now }
     ensures { result ≡ view_of shown.now view.now }
@@ -81,7 +81,7 @@ fn push_head<A: Allocator>(
     write!(text, "</header>\n")
 }
 
-/// Adds the tables of the row that is shown at a place.
+/// Adds the tables of the row at a place among those that are shown.
 #[tactic(auto, unfolding(crate::specs::Page::section_tables))]
 fn push_tables<A: Allocator, B: Allocator>(
     text: &mut String<A>,
@@ -124,7 +124,7 @@ fn push_section_runs<A: Allocator, B: Allocator + Clone>(
     write!(text, "</div>\n</section>\n")
 }
 
-/// Adds the view of the row that is shown at a place.
+/// Adds the view of the row at a place among those that are shown.
 #[tactic(auto, unfolding(crate::specs::Page::row_section))]
 fn push_section<A: Allocator, B: Allocator + Clone>(
     text: &mut String<A>,

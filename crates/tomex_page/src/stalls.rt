@@ -17,7 +17,6 @@ use tomex_run_views::push_name_of_part;
 use tomex_rvdec::{PoolId, UnitId};
 use tomex_timing::{Needs, Part};
 
-/// The stations of each pool.
 const POOL_PARTS: [Part; 6] = [
     Part::Stations(PoolId::Alu),
     Part::Stations(PoolId::Mul),
@@ -27,7 +26,6 @@ const POOL_PARTS: [Part; 6] = [
     Part::Stations(PoolId::Bru),
 ];
 
-/// The units of each kind.
 const UNIT_PARTS: [Part; 5] = [
     Part::Units(UnitId::Alu),
     Part::Units(UnitId::Mul),
@@ -52,7 +50,7 @@ fn unit_parts() -> &'static [Part]
     &UNIT_PARTS
 }
 
-/// Adds a line above some others.
+/// Adds the heading of a group of lines.
 #[tactic(auto, unfolding(crate::specs::Stalls::group))]
 fn push_group<A: Allocator>(text: &mut String<A>, words: &str) -> Result<(), AllocError>
     ensures { OnOk result (string_bytes text.new ≡ string_bytes text.old ++ group words.now) }
@@ -73,7 +71,7 @@ fn share(cycles: u64, total: u64) -> u64
     percent.min(100) as u64
 }
 
-/// Adds a cell with a bar as wide as this percentage of it.
+/// Adds a cell with a bar of this percentage of the cell's width.
 #[tactic(auto, unfolding(crate::specs::Stalls::filled))]
 fn push_filled<A: Allocator>(text: &mut String<A>, percent: u64) -> Result<(), AllocError>
     ensures { OnOk result (string_bytes text.new ≡ string_bytes text.old ++ filled percent) }
@@ -81,7 +79,7 @@ fn push_filled<A: Allocator>(text: &mut String<A>, percent: u64) -> Result<(), A
     write!(text, "<td><i style=\"width:{percent}%\"></i></td>")
 }
 
-/// Adds a cell with a bar, as long as the cycles' part of all.
+/// Adds a cell with a bar, as long as the cycles' share of all.
 #[tactic(auto, unfolding(crate::specs::Stalls::bar))]
 fn push_bar<A: Allocator>(text: &mut String<A>, cycles: u64, total: u64) -> Result<(), AllocError>
     ensures { OnOk result (string_bytes text.new ≡ string_bytes text.old ++ bar cycles total) }
@@ -93,7 +91,7 @@ fn push_bar<A: Allocator>(text: &mut String<A>, cycles: u64, total: u64) -> Resu
     }
 }
 
-/// Adds cells with a number of cycles, and their bar.
+/// Adds cells with a number of cycles, and its bar.
 fn push_cycles<A: Allocator>(
     text: &mut String<A>,
     cycles: u64,
@@ -106,7 +104,7 @@ fn push_cycles<A: Allocator>(
     push_bar(text, cycles, total)
 }
 
-/// Adds the cells of what is no part, of which there is no count.
+/// Adds the cells of something that is no part, and has no count.
 fn push_cause_cells<A: Allocator>(
     text: &mut String<A>,
     needs: &Needs,
@@ -120,7 +118,7 @@ fn push_cause_cells<A: Allocator>(
     push_cycles(text, cycles, needs.total)
 }
 
-/// Adds the line of what is no part.
+/// Adds the line of something that is no part.
 #[tactic(auto, unfolding(crate::specs::Stalls::cause_row, tomex_page_tables::specs::Pieces::table_row))]
 fn push_cause<A: Allocator>(
     text: &mut String<A>,
@@ -136,7 +134,7 @@ fn push_cause<A: Allocator>(
     text.push_str("</tr>\n")
 }
 
-/// Adds what a line begins with that is called by a part.
+/// Adds the start of a part's line.
 #[tactic(auto, unfolding(tomex_page_tables::specs::Pieces::row_start))]
 fn push_part_start<A: Allocator>(text: &mut String<A>, part: Part) -> Result<(), AllocError>
     ensures { OnOk result (string_bytes text.new
@@ -147,7 +145,7 @@ fn push_part_start<A: Allocator>(text: &mut String<A>, part: Part) -> Result<(),
     write!(text, "</th>")
 }
 
-/// Adds how many there are of a part, how many are in use at once at most, and how long instructions wait for it.
+/// Adds how many there are of a part, the most in use at once, and the cycles that instructions wait for it.
 fn push_part_cells<A: Allocator>(
     text: &mut String<A>,
     config: &Config,
@@ -163,7 +161,6 @@ fn push_part_cells<A: Allocator>(
     push_cycles(text, need.stalls, needs.total)
 }
 
-/// Adds the line of a part.
 #[tactic(auto, unfolding(crate::specs::Stalls::stall_row, tomex_page_tables::specs::Pieces::table_row))]
 fn push_part<A: Allocator>(
     text: &mut String<A>,
@@ -179,7 +176,6 @@ fn push_part<A: Allocator>(
     text.push_str("</tr>\n")
 }
 
-/// Adds the lines of some parts.
 fn push_parts<A: Allocator>(
     text: &mut String<A>,
     config: &Config,
@@ -212,7 +208,7 @@ fn push_before_issue<A: Allocator>(
     push_cause(text, needs, "drain", needs.drain())
 }
 
-/// Adds what they wait for after it.
+/// Adds what instructions wait for after the issue.
 #[tactic(auto, unfolding(crate::specs::Stalls::after_issue))]
 fn push_after_issue<A: Allocator>(
     text: &mut String<A>,
@@ -230,7 +226,7 @@ fn push_after_issue<A: Allocator>(
     push_part(text, config, needs, Part::Buses)
 }
 
-/// What the table of a program's stalls is called.
+/// The caption of the table of a program's stalls.
 #[tactic(auto, unfolding(crate::specs::Stalls::stalls_caption))]
 fn caption(heap: Global, name: &str, total: u64) -> Result<String, AllocError>
     ensures { IfOk result (λ text. string_bytes text ≡ stalls_caption name.now total) }

@@ -1,10 +1,10 @@
--- The rows that are chosen of a long front.
+-- The rows that are chosen from a long front.
 use Rattle.std.proofs.Common.{◌≡◌, ◌∙◌, ap, sym, arith, ℕ, suc, ◌+◌, ◌-◌, ◌<◌, ◌≤◌, List, [], ◌∷◌, ◌++◌, append_assoc}
 use Rattle.std.proofs.Common.{map}
 use Rattle.std.specs.List.{range_with_len}
 use Rattle.std.proofs.lemmas.List.{append-nil}
 
--- one more of the values of a function
+-- one more value of a function
 pub value_more : {X : Type 0} (f : ℕ → X) (k until : ℕ) (x : X) (before after whole : List X) → k < until → x ≡ f k
     → after ≡ before ++ x ∷ [] → before ++ map f (range_with_len k (until - k)) ≡ whole
     → after ++ map f (range_with_len (k + 1) (until - (k + 1))) ≡ whole

@@ -36,7 +36,7 @@ several_totals s totals given programs row are several is within given_is =
     given_is ∙ (totals_there s totals row is within
     ∙ ap (totals_at s row) (own_of_several s (rw are at several)))
 
--- and a single one has none
+-- a single program has no total
 pub no_totals : (s : DesignSpace) (programs : List Workload) (row : ℕ) → programs ≡ s.programs → length programs ≤ 1
     → [] ≡ totals_at s row (own_programs s)
 no_totals s programs row are one = ap (totals_at s row) (own_of_one s (rw are at one))

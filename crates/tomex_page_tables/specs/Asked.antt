@@ -33,7 +33,7 @@ instruction_text (Some step) = instr_text step.instr
 abbrev pub end_text : List Step → List ℕ
 end_text steps = instruction_text (slice_get steps (length steps - 1))
 
--- a program: how many instructions its run has, the one that ends it, and how often its cycles count
+-- a program: the number of instructions of its run, the one that ends it, and how often its cycles count
 abbrev pub program_cells : Workload → List ℕ
 program_cells p = number_cell (length (steps_of p)) ++ (td (end_text (steps_of p)) ++ number_cell p.weight)
 
@@ -47,33 +47,33 @@ unfoldable pub programs_table : DesignSpace → List ℕ
 programs_table s =
     table_head (codes " class=\"a\"") (codes "Programs") program_names ++ (flat_map program_row s.programs ++ table_end)
 
--- the first rows with each entry of a part's list: theirs are all entries, each once
+-- the first rows with each entry of a part's list: they have all entries, each once
 abbrev pub firsts : Part → List Configuration → List Configuration
 firsts part [] = []
 firsts part (config ∷ rows) = config ∷ filter (λ c. not (same_entry config c part)) (firsts part rows)
 
--- the price of one more of a part, which a unit option doesn't have
+-- the price of one more of a part; a unit option has none
 abbrev pub price_of_part : PriceList → Part → ℕ
 price_of_part prices (Stations pool) = price_of prices pool
 price_of_part prices (Units unit) = 0
 price_of_part prices Buses = prices.bus
 price_of_part prices Width = prices.width
 
--- what a configuration's entry in a part's list costs: a unit option as a whole, else the count times the price
+-- the cost of a configuration's entry in a part's list: a unit option as a whole, otherwise the count times the price
 abbrev pub cost_of_part : PriceList → Configuration → Part → ℕ
 cost_of_part prices config (Units unit) = (option_of config unit).price
 cost_of_part prices config part = count_of config part * price_of_part prices part
 
--- what is shown of a configuration's entry in a part's list
+-- the text of a configuration's entry in a part's list
 abbrev pub facet_text : PriceList → Facet → Part → Configuration → List ℕ
 facet_text prices Choice part config = entry_text config part
 facet_text prices Cost part config = decimal (cost_of_part prices config part)
 
--- of each entry of a list that some row has
+-- the texts of the entries of a list that some row has
 unfoldable pub entries_text : DesignSpace → Facet → Part → List ℕ
 entries_text s facet part = some (facet_text s.prices facet part) (firsts part s.rows)
 
--- what a list's entries cost: each option has its price, any other list one for all
+-- the prices of a list's entries: each option has its price, any other list one for all
 abbrev pub prices_text : DesignSpace → Part → List ℕ
 prices_text s (Units unit) = entries_text s Cost (Units unit)
 prices_text s part = decimal (price_of_part s.prices part)

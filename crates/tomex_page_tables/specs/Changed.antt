@@ -1,4 +1,4 @@
--- What one part changed brings, as `worth` has it.
+-- The gain from changing one part, as `worth` gives it.
 use Rattle.std.specs.Prelude.{ℕ, if◌then◌else◌, List, [], ◌∷◌, ◌++◌, codes, length, take}
 use Rattle.std.specs.Fmt.{decimal}
 use Rattle.std.specs.List.{flat_map}
@@ -16,11 +16,11 @@ use Rattle.tomex_page_tables.specs.Pieces.{more, most_lines, table_head, table_r
 unfoldable pub row_text : List FrontRow → ℕ → List ℕ
 row_text shown row = if is_shown shown row then link_to row (decimal row) else decimal row
 
--- what a change leads to
+-- the entry and the row that a change leads to
 unfoldable pub to_cells : DesignSpace → List FrontRow → Change → List ℕ
 to_cells s shown c = td (entry_text (config_at s c.row.row) c.part) ++ td (row_text shown c.row.row)
 
--- and what it brings
+-- the gain from a change
 unfoldable pub gain_cells : FrontRow → FrontRow → List ℕ
 gain_cells own other =
     td (signed own.cost other.cost) ++ (td (signed own.cycles other.cycles)

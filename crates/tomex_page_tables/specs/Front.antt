@@ -1,4 +1,4 @@
--- The front as a table, in which a row's differences are to the row above.
+-- The front as a table, in which a row's differences are from the row above.
 use Rattle.std.specs.Prelude.{ℕ, ◌==◌, nat_lt, Bool, false, not, if◌then◌else◌, List, [], ◌∷◌, ◌++◌, codes, length}
 use Rattle.std.specs.Prelude.{Option, Some, None}
 use Rattle.std.specs.Fmt.{decimal}
@@ -16,15 +16,15 @@ use Rattle.tomex_page_tables.specs.Pieces.{column_head, head_end, number_cell, t
 use Rattle.tomex_page_tables.specs.Shown.{row_of}
 use Rattle.tomex_page_tables.specs.declared.shown.ShownRow.{ShownRow}
 
--- what rows of the study differ in
+-- the settings in which rows of the study differ
 unfoldable pub settings_of : DesignSpace → List Setting
 settings_of s = filter (differs s.rows) all_settings
 
--- the programs whose own cycles are shown: all of several
+-- the programs whose own cycles are shown: all, if there are several
 unfoldable pub own_programs : DesignSpace → List Workload
 own_programs s = if nat_lt 1 (length s.programs) then s.programs else []
 
--- what a row has more than the one before, which the first doesn't have
+-- the cost that a row has more than the one before; the first has none before it
 abbrev pub more_cost : Option ShownRow → ShownRow → List ℕ
 more_cost None r = []
 more_cost (Some before) r = signed before.row.cost r.row.cost
@@ -33,7 +33,7 @@ abbrev pub more_cycles : Option ShownRow → ShownRow → List ℕ
 more_cycles None r = []
 more_cycles (Some before) r = signed before.row.cycles r.row.cycles
 
--- and in percent of the cycles of the one before
+-- the same in percent of the cycles of the row before
 abbrev pub more_percent : Option ShownRow → ShownRow → List ℕ
 more_percent None r = []
 more_percent (Some before) r = percent before.row.cycles r.row.cycles
@@ -71,7 +71,7 @@ front_rows s before (r ∷ rows) = front_row s before (row_of s r) ++ front_rows
 abbrev pub own_names : List (List ℕ)
 own_names = codes "row" ∷ codes "cost" ∷ codes "more" ∷ codes "cycles" ∷ codes "more" ∷ codes "%" ∷ []
 
--- what its columns are called
+-- the names of the columns
 unfoldable pub column_heads : DesignSpace → List ℕ
 column_heads s =
     flat_map column_head own_names ++ (flat_map (λ setting. column_head (name_of_setting setting)) (settings_of s)

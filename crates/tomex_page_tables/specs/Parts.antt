@@ -1,4 +1,4 @@
--- A row's parts, and what it has more than the row before.
+-- A row's parts, and its differences from the row before.
 use Rattle.std.specs.Prelude.{ℕ, Bool, false, not, if◌then◌else◌, List, [], ◌∷◌, ◌++◌, codes, Option, Some, None}
 use Rattle.std.specs.Fmt.{decimal}
 use Rattle.std.specs.List.{flat_map}
@@ -16,7 +16,7 @@ use Rattle.tomex_page_tables.specs.declared.shown.ShownRow.{ShownRow}
 unfoldable pub against_start : ℕ → List ℕ
 against_start row = codes "<p>Against row " ++ (decimal row ++ codes ": cost ")
 
--- what a row has more than the one before
+-- the differences of a row from the one before
 unfoldable pub against_text : ShownRow → ShownRow → List ℕ
 against_text before r =
     against_start before.row.row ++ (more_cost (Some before) r ++ (codes ", cycles "
@@ -25,7 +25,7 @@ against_text before r =
 unfoldable pub cheapest : List ℕ
 cheapest = codes "<p>The cheapest row of the front.</p>\n"
 
--- the first has none before it
+-- the first row has none before it
 abbrev pub against : Option ShownRow → ShownRow → List ℕ
 against None r = cheapest
 against (Some before) r = against_text before r
@@ -35,7 +35,7 @@ abbrev pub has_other : Option ShownRow → ShownRow → Part → Bool
 has_other None r part = false
 has_other (Some before) r part = not (same_entry before.config r.config part)
 
--- that entry
+-- the entry of the row before, if it is another one
 abbrev pub was_text : Option ShownRow → ShownRow → Part → List ℕ
 was_text None r part = []
 was_text (Some before) r part = if same_entry before.config r.config part then [] else entry_text before.config part

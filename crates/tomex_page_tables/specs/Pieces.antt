@@ -22,7 +22,7 @@ head_end = codes "</tr></thead>\n<tbody>\n"
 unfoldable pub table_head : List ℕ → List ℕ → List (List ℕ) → List ℕ
 table_head attributes caption names = table_start attributes caption ++ (flat_map column_head names ++ head_end)
 
--- a row of a table: what it is of, and its cells
+-- a row of a table: its head, and its cells
 unfoldable pub row_start : List ℕ → List ℕ
 row_start head = codes "<tr><th scope=\"row\">" ++ (head ++ codes "</th>")
 
@@ -32,11 +32,11 @@ table_row head cells = row_start head ++ (cells ++ codes "</tr>\n")
 unfoldable pub number_cell : ℕ → List ℕ
 number_cell n = td (decimal n)
 
--- no more lines of a table, or entries of a list, than this are shown
+-- the most lines of a table, or entries of a list, that are shown
 abbrev pub most_lines : ℕ
 most_lines = 64
 
--- how many lines aren't shown, and the command that prints them all
+-- the number of lines that aren't shown, and the command that prints them all
 unfoldable pub rest_text : List ℕ → ℕ → List ℕ
 rest_text command rest =
     codes "<p>" ++ (decimal rest ++ (codes " more: <code>tomex "
@@ -45,11 +45,11 @@ rest_text command rest =
 unfoldable pub more : List ℕ → ℕ → List ℕ
 more command lines = if nat_le lines most_lines then [] else rest_text command (lines - most_lines)
 
--- the texts of some things, with commas between them
+-- the texts of the items, with commas between them
 abbrev pub joined : {X : Type 0} → (X → List ℕ) → List X → List ℕ
 joined text [] = []
 joined text (x ∷ xs) = text x ++ flat_map (λ y. codes ", " ++ text y) xs
 
--- the same of the first ones, and a sign that there are more
+-- the same for the first items, with a sign if there are more
 unfoldable pub some : {X : Type 0} → (X → List ℕ) → List X → List ℕ
 some text xs = joined text (take most_lines xs) ++ (if nat_lt most_lines (length xs) then codes " .." else [])

@@ -6,15 +6,15 @@ use Rattle.tomex_study.specs.Study.{DesignSpace}
 use Rattle.tomex_front_views.specs.FrontTable.{config_of}
 use Rattle.tomex_page_tables.specs.declared.shown.ShownRow.{ShownRow}
 
--- no more rows than this are shown
+-- the most rows that are shown
 abbrev pub most_rows : ℕ
 most_rows = 64
 
 abbrev pub no_row : FrontRow
 no_row = record { row = 0; cost = 0; cycles = 0 }
 
--- of n rows the place of the k-th that is shown, from 0 to 63: so the first and the last are among them, and the others
--- evenly between these
+-- the place, among n rows, of the k-th that is shown, from 0 to 63: so the first and the last are among them, and the
+-- others evenly between these
 abbrev pub chosen_place : ℕ → ℕ → ℕ
 chosen_place n k = k * (n - 1) / 63
 

@@ -1,4 +1,4 @@
--- The prices with which a row stays on the front, as `prices` has them.
+-- The prices with which a row stays on the front, as `prices` gives them.
 use Rattle.std.specs.Prelude.{◌≡◌, ℕ, nat_lt, if◌then◌else◌, List, [], ◌∷◌, ◌++◌, codes, length, map}
 use Rattle.std.specs.Prelude.{slice_index_or, take}
 use Rattle.std.specs.Fmt.{decimal}
@@ -15,7 +15,7 @@ use Rattle.tomex_prices.specs.declared.intervals.PriceRange.{PriceRange}
 use Rattle.tomex_prices.specs.declared.price.Price.{Price}
 use Rattle.tomex_page_tables.specs.Pieces.{more, most_lines, number_cell, table_head, table_row}
 
--- a price: its name, what it is stated as, and the range in which a row stays
+-- a price: its name, its stated value, and the range in which a row stays on the front
 unfoldable pub range_row : Price → ℕ → PriceRange → List ℕ
 range_row price now range = table_row (name_of_price price) (number_cell now ++ td (range_text range))
 
@@ -45,7 +45,7 @@ prices_table s r =
     ++ (flat_map (price_row s r) (shown_prices s)
     ++ (table_end ++ (more (codes "prices") (length (relevant_prices_of s)) ++ off_text (percent_of s r)))))
 
--- what is found out once for all rows that are shown: a price, what it is stated as, and a range for each of them
+-- a price's results for all rows that are shown, computed only once: its stated value, and a range for each row
 pub record PriceRanges : Type 0 where
   pub price : Price
   pub stated : ℕ
@@ -58,7 +58,7 @@ ranges_of s shown price =
 abbrev pub no_range : PriceRange
 no_range = record { least = 0; most = 0 }
 
--- its line for the row at a place
+-- the line of a price for the row at a place
 unfoldable pub range_row_at : ℕ → PriceRanges → List ℕ
 range_row_at place p = range_row p.price p.stated (slice_index_or p.ranges place no_range)
 

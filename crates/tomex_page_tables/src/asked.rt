@@ -33,7 +33,7 @@ fn push_end<A: Allocator>(text: &mut String<A>, steps: &[Step]) -> Result<(), Al
     }
 }
 
-/// Adds how many instructions a run has, the one that ends it, and how often its cycles count.
+/// Adds the number of a run's instructions, the one that ends it, and how often its cycles count.
 fn push_program_cells<A: Allocator>(
     text: &mut String<A>,
     steps: &[Step],
@@ -47,7 +47,6 @@ fn push_program_cells<A: Allocator>(
     push_number(text, u64::from(weight))
 }
 
-/// Adds a program's row.
 #[tactic(auto, unfolding(crate::specs::Asked::program_row, crate::specs::Pieces::table_row))]
 fn push_program_row<A: Allocator, B: Allocator>(
     text: &mut String<A>,
@@ -61,7 +60,6 @@ fn push_program_row<A: Allocator, B: Allocator>(
     text.push_str("</tr>\n")
 }
 
-/// Adds the rows of some programs.
 fn push_program_rows<A: Allocator, B: Allocator>(
     text: &mut String<A>,
     programs: &[Program<B>],
@@ -90,7 +88,7 @@ pub fn push_programs_table<A: Allocator, B: Allocator>(
     push_table_end(text)
 }
 
-/// Adds what a row begins with that is called by a part's list.
+/// Adds the start of a row for a part's list.
 #[tactic(auto, unfolding(crate::specs::Pieces::row_start))]
 pub fn push_list_start<A: Allocator>(text: &mut String<A>, part: Part) -> Result<(), AllocError>
     ensures { OnOk result (string_bytes text.new
@@ -118,7 +116,6 @@ fn push_list_cells<A: Allocator, B: Allocator>(
     text.push_str("</td>")
 }
 
-/// Adds the row of a part's list.
 #[tactic(auto, unfolding(crate::specs::Asked::list_row, crate::specs::Pieces::table_row))]
 fn push_list_row<A: Allocator, B: Allocator>(
     text: &mut String<A>,
@@ -134,7 +131,6 @@ fn push_list_row<A: Allocator, B: Allocator>(
     text.push_str("</tr>\n")
 }
 
-/// Adds the rows of some parts' lists.
 fn push_list_rows<A: Allocator, B: Allocator>(
     text: &mut String<A>,
     heap: Global,

@@ -1,4 +1,4 @@
-//! What one part changed brings.
+//! The gain from changing one part.
 
 ghost use Rattle.std.specs.Prelude.{◌≡◌, ◌<◌, ◌++◌, length, All, OnOk, string_bytes};
 ghost use Rattle.std.specs.List.{flat_map};
@@ -36,7 +36,7 @@ fn push_row_text<A: Allocator>(
     }
 }
 
-/// Adds a cell with it.
+/// Adds a cell with a row's number, which is a link if the row is shown.
 fn push_row_cell<A: Allocator>(
     text: &mut String<A>,
     shown: &[FrontRow],
@@ -81,7 +81,7 @@ fn push_to_cells<A: Allocator, B: Allocator>(
     push_row_cell(text, shown, number)
 }
 
-/// Adds what the other row has more of cost and of cycles, and cycles for 1 of cost.
+/// Adds by how much the other row's cost and cycles are greater, and the cycles for 1 of cost.
 #[tactic(auto, unfolding(crate::specs::Changed::gain_cells))]
 fn push_gain_cells<A: Allocator>(
     text: &mut String<A>,
@@ -113,7 +113,6 @@ fn push_change_cells<A: Allocator, B: Allocator>(
     push_gain_cells(text, own, change.row)
 }
 
-/// Adds the line of a change.
 #[tactic(auto, unfolding(crate::specs::Changed::change_row, crate::specs::Pieces::table_row))]
 fn push_change_row<A: Allocator, B: Allocator>(
     text: &mut String<A>,
@@ -131,7 +130,6 @@ fn push_change_row<A: Allocator, B: Allocator>(
     text.push_str("</tr>\n")
 }
 
-/// Adds the lines of some changes.
 fn push_change_rows<A: Allocator, B: Allocator>(
     text: &mut String<A>,
     study: &Study<B>,
@@ -149,7 +147,7 @@ fn push_change_rows<A: Allocator, B: Allocator>(
     Ok(())
 }
 
-/// Adds the table of what one part changed brings on a row.
+/// Adds the table of the gains from changing one part of a row.
 #[tactic(auto, unfolding(crate::specs::Changed::changes_table))]
 pub fn push_changes_table<A: Allocator, B: Allocator>(
     text: &mut String<A>,

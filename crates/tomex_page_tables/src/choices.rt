@@ -15,16 +15,16 @@ use tomex_study::Study;
 use tomex_timing::Part;
 use tomex_worth::{push_entry, same_entry};
 
-/// What is shown of an entry of a list.
+/// The facet of an entry of a list that is shown.
 #[derive(Clone, Copy)]
 pub enum Facet {
-    /// What it is.
+    /// The entry itself.
     Choice,
-    /// What it costs.
+    /// The entry's cost.
     Cost,
 }
 
-/// The price of one more of a part, which a unit option doesn't have.
+/// The price of one more of a part; a unit option has none.
 pub fn price_of_part(prices: &Prices, part: Part) -> u64
     ensures { result ≡ price_of_part prices.now part }
 {
@@ -36,14 +36,14 @@ pub fn price_of_part(prices: &Prices, part: Part) -> u64
     }
 }
 
-/// What a count of a part costs.
+/// The cost of `count` of a part.
 fn cost_of_count(count: u8, price: u32) -> u64
     ensures { result ≡ count * price }
 {
     u64::from(count) * u64::from(price)
 }
 
-/// What a configuration's entry in a part's list costs.
+/// The cost of a configuration's entry in a part's list.
 pub fn cost_of_part(prices: &Prices, config: &Config, part: Part) -> u64
     ensures { result ≡ cost_of_part prices.now config.now part }
 {
@@ -67,7 +67,7 @@ fn has_entry(rows: &[Config], config: &Config, part: Part) -> bool
     false
 }
 
-/// The first rows with each entry of a part's list: theirs are all entries, each once.
+/// The first rows with each entry of a part's list: they have all entries, each once.
 fn firsts(heap: Global, rows: &[Config], part: Part) -> Result<Vec<Config>, AllocError>
     ensures { IfOk result (λ v. v.items ≡ firsts part rows.now) }
 {
@@ -80,7 +80,7 @@ fn firsts(heap: Global, rows: &[Config], part: Part) -> Result<Vec<Config>, Allo
     Ok(firsts)
 }
 
-/// Adds what is shown of a configuration's entry in a part's list.
+/// Adds the text of a configuration's entry in a part's list.
 fn push_facet<A: Allocator>(
     text: &mut String<A>,
     prices: &Prices,
@@ -100,7 +100,7 @@ fn push_facet<A: Allocator>(
     }
 }
 
-/// Adds the same of several configurations, after commas.
+/// Adds the texts of several configurations' entries, each after a comma.
 fn push_others<A: Allocator>(
     text: &mut String<A>,
     prices: &Prices,
@@ -118,7 +118,7 @@ fn push_others<A: Allocator>(
     Ok(())
 }
 
-/// Adds the same of several configurations, with commas between them.
+/// Adds the texts of several configurations' entries, with commas between them.
 fn push_joined<A: Allocator>(
     text: &mut String<A>,
     prices: &Prices,
@@ -136,7 +136,7 @@ fn push_joined<A: Allocator>(
     push_others(text, prices, facet, part, rest)
 }
 
-/// Adds the same of the first ones, and a sign that there are more.
+/// Adds the texts of the first entries, with a sign if there are more.
 #[tactic(auto, unfolding(crate::specs::Pieces::some))]
 fn push_some<A: Allocator>(
     text: &mut String<A>,
@@ -155,7 +155,7 @@ fn push_some<A: Allocator>(
     Ok(())
 }
 
-/// Adds what is shown of each entry of a part's list.
+/// Adds the text of each entry of a part's list.
 #[tactic(auto, unfolding(crate::specs::Asked::entries_text))]
 pub fn push_entries<A: Allocator, B: Allocator>(
     text: &mut String<A>,
@@ -171,7 +171,7 @@ pub fn push_entries<A: Allocator, B: Allocator>(
     push_some(text, &study.prices(), facet, part, firsts.as_slice())
 }
 
-/// Adds what the entries of a part's list cost: each unit option has its price, any other list one for all.
+/// Adds the prices of a part's list: each unit option has its own, any other list one for all.
 pub fn push_prices<A: Allocator, B: Allocator>(
     text: &mut String<A>,
     heap: Global,

@@ -1,4 +1,4 @@
-//! The front as a table, in which a row's differences are to the row above.
+//! The front as a table, in which a row's differences are from the row above.
 
 ghost use Rattle.std.specs.Prelude.{◌≡◌, ◌<◌, ◌++◌, length, All, None, OnOk, string_bytes};
 ghost use Rattle.std.specs.Fmt.{decimal};
@@ -24,7 +24,7 @@ use tomex_study::Study;
 use tomex_survey::Survey;
 use tomex_worth::{push_percent, push_signed};
 
-/// Adds a cell with how much `b` is more than `a`.
+/// Adds a cell with the difference from `a` to `b`.
 pub fn push_signed_cell<A: Allocator>(
     text: &mut String<A>,
     a: u64,
@@ -37,7 +37,7 @@ pub fn push_signed_cell<A: Allocator>(
     text.push_str("</td>")
 }
 
-/// Adds a cell with the same in percent of `a`.
+/// Adds a cell with the difference in percent of `a`.
 pub fn push_percent_cell<A: Allocator>(
     text: &mut String<A>,
     a: u64,
@@ -50,7 +50,7 @@ pub fn push_percent_cell<A: Allocator>(
     text.push_str("</td>")
 }
 
-/// Adds what a row costs more than the one before, which the first doesn't have.
+/// Adds the cost that a row has more than the one before; the first has none before it.
 fn push_more_cost<A: Allocator>(
     text: &mut String<A>,
     before: &Option<ShownRow>,
@@ -65,7 +65,7 @@ fn push_more_cost<A: Allocator>(
     }
 }
 
-/// Adds how many cycles it takes more.
+/// Adds the cycles that a row takes more than the one before.
 fn push_more_cycles<A: Allocator>(
     text: &mut String<A>,
     before: &Option<ShownRow>,
@@ -80,7 +80,7 @@ fn push_more_cycles<A: Allocator>(
     }
 }
 
-/// Adds how many it takes more in percent.
+/// Adds the same in percent.
 fn push_more_percent<A: Allocator>(
     text: &mut String<A>,
     before: &Option<ShownRow>,
@@ -95,7 +95,7 @@ fn push_more_percent<A: Allocator>(
     }
 }
 
-/// Adds a row's cost and cycles, and what it has more of each than the row before.
+/// Adds a row's cost and cycles, and the differences of each from the row before.
 #[tactic(auto, unfolding(crate::specs::Front::own_cells))]
 fn push_own_cells<A: Allocator>(
     text: &mut String<A>,
@@ -122,7 +122,7 @@ pub fn push_row_link<A: Allocator>(text: &mut String<A>, row: usize) -> Result<(
     write!(text, "{row}</a>")
 }
 
-/// Adds what a row begins with that is called by a row's number.
+/// Adds the start of a row, whose head is a row's number.
 fn push_link_head<A: Allocator>(text: &mut String<A>, row: usize) -> Result<(), AllocError>
     ensures { OnOk result (string_bytes text.new
         ≡ string_bytes text.old ++ row_start (link_to row (decimal row))) }
@@ -132,7 +132,6 @@ fn push_link_head<A: Allocator>(text: &mut String<A>, row: usize) -> Result<(), 
     write!(text, "</th>")
 }
 
-/// Adds the cells of a row.
 #[tactic(auto, unfolding(crate::specs::Front::front_cells))]
 fn push_front_cells<A: Allocator, B: Allocator>(
     text: &mut String<A>,
@@ -154,7 +153,6 @@ fn push_front_cells<A: Allocator, B: Allocator>(
     push_numbers(text, own_totals(study, survey, row.row))
 }
 
-/// Adds a row.
 #[tactic(auto, unfolding(crate::specs::Front::front_row, crate::specs::Pieces::table_row))]
 fn push_front_row<A: Allocator, B: Allocator>(
     text: &mut String<A>,
@@ -175,7 +173,6 @@ fn push_front_row<A: Allocator, B: Allocator>(
     text.push_str("</tr>\n")
 }
 
-/// Adds the rows that are shown.
 fn push_front_rows<A: Allocator, B: Allocator>(
     text: &mut String<A>,
     study: &Study<B>,

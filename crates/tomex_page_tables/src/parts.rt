@@ -1,4 +1,4 @@
-//! A row's parts, and what it has more than the row before.
+//! A row's parts, and its differences from the row before.
 
 ghost use Rattle.std.specs.Prelude.{◌≡◌, ◌++◌, OnOk, string_bytes};
 ghost use Rattle.std.specs.List.{flat_map};
@@ -18,7 +18,7 @@ use tomex_html::{cell_start, push_table_end};
 use tomex_timing::Part;
 use tomex_worth::{push_entry, push_percent, push_signed, same_entry};
 
-/// Adds what the differences begin with, up to that of cost.
+/// Adds the start of the differences, up to that of cost.
 #[tactic(auto, unfolding(crate::specs::Parts::against_start))]
 fn push_against_start<A: Allocator>(text: &mut String<A>, row: usize) -> Result<(), AllocError>
     ensures { OnOk result (string_bytes text.new ≡ string_bytes text.old ++ against_start row) }
@@ -26,7 +26,7 @@ fn push_against_start<A: Allocator>(text: &mut String<A>, row: usize) -> Result<
     write!(text, "<p>Against row {row}: cost ")
 }
 
-/// Adds what a row has more than the one before.
+/// Adds the differences of a row from the one before.
 #[tactic(auto, unfolding(crate::specs::Parts::against_text))]
 fn push_differences<A: Allocator>(
     text: &mut String<A>,
@@ -53,7 +53,7 @@ fn push_cheapest<A: Allocator>(text: &mut String<A>) -> Result<(), AllocError>
     text.push_str("<p>The cheapest row of the front.</p>\n")
 }
 
-/// Adds what a row has more than the one before, if there is one.
+/// Adds the differences of a row from the one before, if there is one.
 pub fn push_against<A: Allocator>(
     text: &mut String<A>,
     before: &Option<ShownRow>,
@@ -93,7 +93,7 @@ pub fn push_entry_cell<A: Allocator>(
     text.push_str("</td>")
 }
 
-/// Adds a cell with that other entry.
+/// Adds a cell with the entry of the row before, if it is another one.
 fn push_was<A: Allocator>(
     text: &mut String<A>,
     before: &Option<ShownRow>,
@@ -115,7 +115,7 @@ fn push_was<A: Allocator>(
     }
 }
 
-/// Adds what a row has of a part, what the row before had, and what it costs.
+/// Adds a row's entry for a part, that of the row before, and what it costs.
 #[tactic(auto, unfolding(crate::specs::Parts::part_cells))]
 fn push_part_cells<A: Allocator>(
     text: &mut String<A>,
@@ -132,7 +132,6 @@ fn push_part_cells<A: Allocator>(
     push_number(text, cost_of_part(prices, &row.config, part))
 }
 
-/// Adds the line of a part.
 #[tactic(auto, unfolding(crate::specs::Parts::part_row, crate::specs::Pieces::table_row))]
 fn push_part_row<A: Allocator>(
     text: &mut String<A>,
@@ -149,7 +148,6 @@ fn push_part_row<A: Allocator>(
     text.push_str("</tr>\n")
 }
 
-/// Adds the lines of some parts.
 fn push_part_rows<A: Allocator>(
     text: &mut String<A>,
     prices: &Prices,
@@ -166,7 +164,7 @@ fn push_part_rows<A: Allocator>(
     Ok(())
 }
 
-/// Adds the line of what all parts cost.
+/// Adds the line of the cost of all parts.
 #[tactic(auto, unfolding(crate::specs::Parts::cost_row))]
 fn push_cost_row<A: Allocator>(text: &mut String<A>, cost: u64) -> Result<(), AllocError>
     ensures { OnOk result (string_bytes text.new ≡ string_bytes text.old ++ cost_row cost) }

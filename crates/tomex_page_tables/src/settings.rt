@@ -1,5 +1,5 @@
-//! What the front's table has of each row beside its cost and cycles: what rows of the study differ in, and the own
-//! cycles of several programs.
+//! What the front's table shows of each row besides its cost and cycles: the settings in which rows of the study
+//! differ, and each program's own cycles if there are several.
 
 ghost use Rattle.std.specs.Prelude.{◌≡◌, ◌<◌, ◌++◌, length, map, IfOk, OnOk, string_bytes};
 ghost use Rattle.std.specs.List.{flat_map};
@@ -19,14 +19,13 @@ use tomex_html::cell_start;
 use tomex_study::{Program, Study};
 use tomex_survey::Survey;
 
-/// All settings.
 fn all_settings() -> &'static [Setting]
     ensures { result.now ≡ all_settings }
 {
     &Setting::ALL
 }
 
-/// What rows of the study differ in.
+/// The settings in which rows of the study differ.
 #[tactic(auto, unfolding(crate::specs::Front::settings_of))]
 pub fn settings_of<A: Allocator>(heap: Global, study: &Study<A>) -> Result<Vec<Setting>, AllocError>
     ensures { IfOk result (λ v. v.items ≡ settings_of study.now) }
@@ -82,7 +81,7 @@ pub fn push_setting_cells<A: Allocator>(
     Ok(())
 }
 
-/// The programs whose own cycles are shown: all of several.
+/// The programs whose own cycles are shown: all, if there are several.
 #[tactic(auto, unfolding(crate::specs::Front::own_programs))]
 fn own_programs<A: Allocator>(study: &Study<A>) -> &[Program<A>]
     ensures { result.now ≡ own_programs study.now }
@@ -94,7 +93,7 @@ fn own_programs<A: Allocator>(study: &Study<A>) -> &[Program<A>]
     }
 }
 
-/// Their own cycles on a row.
+/// The own cycles on a row of the programs whose own cycles are shown.
 pub fn own_totals<'s, A: Allocator>(
     study: &Study<A>,
     survey: &'s Survey<A>,

@@ -9,7 +9,7 @@ use tomex_config::Config;
 use tomex_pareto::FrontRow;
 use tomex_study::Study;
 
-/// No more rows than this are shown.
+/// The most rows that are shown.
 pub const MOST_ROWS: usize = 64;
 
 /// A row of a study, with its configuration.
@@ -30,7 +30,7 @@ pub fn row_of<A: Allocator>(study: &Study<A>, row: FrontRow) -> ShownRow
     }
 }
 
-/// Of `front`, which are more than are shown, the k-th that is shown.
+/// The k-th row that is shown of a `front` with more rows than that.
 fn chosen(front: &[FrontRow], k: usize) -> FrontRow
     requires many { 64 ≤ length front.now }
     requires k { k < 64 }

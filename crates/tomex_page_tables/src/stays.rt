@@ -21,7 +21,7 @@ use tomex_pareto::FrontRow;
 use tomex_prices::{Price, PriceRange, interval_of, percent, prices, relevant_prices, rows_with};
 use tomex_study::Study;
 
-/// A price, what it is stated as, and for which values of it each row that is shown stays on the front.
+/// A price, its stated value, and the range in which each row that is shown stays on the front.
 #[derive(Drop)]
 pub struct Ranges {
     price: Price,
@@ -37,14 +37,14 @@ impl Model for Ranges {
     ghost view = { λ r. record { price = r.price; stated = r.stated; ranges = r.ranges.items } };
 }
 
-/// The prices of a study, with what is found out of them once for all rows that are shown.
+/// The prices of a study, with results computed only once for all rows that are shown.
 #[derive(Drop)]
 pub struct PriceBook {
     /// All prices.
     all: Vec<Price>,
-    /// How many of them some rows pay more often than others.
+    /// The number of prices that some rows pay more often than others.
     relevant: usize,
-    /// The first of these.
+    /// The results for the first of these.
     ranges: Vec<Ranges>,
 }
 
@@ -56,7 +56,7 @@ impl Model for PriceBook {
     ghost view = { λ b. record { prices = b.all.items; relevant = b.relevant; ranges = b.ranges.items } };
 }
 
-/// For which values of a price each row that is shown stays on the front.
+/// The range of a price in which each row that is shown stays on the front.
 fn ranges_of<A: Allocator>(
     heap: Global,
     study: &Study<A>,
@@ -80,7 +80,7 @@ fn ranges_of<A: Allocator>(
     })
 }
 
-/// The same of several prices.
+/// The same for several prices.
 fn all_ranges<A: Allocator>(
     heap: Global,
     study: &Study<A>,
@@ -124,21 +124,20 @@ impl PriceBook {
         })
     }
 
-    /// All prices.
     fn all(&self) -> &[Price]
         ensures value { result.now ≡ self.now.prices }
     {
         self.all.as_slice()
     }
 
-    /// How many of them some rows pay more often than others.
+    /// The number of prices that some rows pay more often than others.
     fn relevant(&self) -> usize
         ensures value { result ≡ self.now.relevant }
     {
         self.relevant
     }
 
-    /// The first of these.
+    /// The results for the first of these.
     fn ranges(&self) -> &[Ranges]
         ensures value { result.now ≡ self.now.ranges }
     {
@@ -146,7 +145,7 @@ impl PriceBook {
     }
 }
 
-/// Adds what a row begins with that is called by a price.
+/// Adds the start of a row for a price.
 #[tactic(auto, unfolding(crate::specs::Pieces::row_start))]
 fn push_price_start<A: Allocator>(text: &mut String<A>, price: Price) -> Result<(), AllocError>
     ensures { OnOk result (string_bytes text.new
@@ -162,7 +161,7 @@ fn push_range_cell<A: Allocator>(text: &mut String<A>, range: PriceRange) -> Res
     write!(text, "<td>{range}</td>")
 }
 
-/// Adds what a price is stated as, and a range.
+/// Adds a price's stated value, and a range.
 fn push_range_cells<A: Allocator>(
     text: &mut String<A>,
     now: u64,
@@ -175,7 +174,6 @@ fn push_range_cells<A: Allocator>(
     push_range_cell(text, range)
 }
 
-/// Adds the line of a price.
 #[tactic(auto, unfolding(crate::specs::Stays::range_row, crate::specs::Pieces::table_row))]
 fn push_range_row<A: Allocator>(
     text: &mut String<A>,
@@ -205,7 +203,6 @@ fn push_range_row_at<A: Allocator>(
     push_range_row(text, ranges.price, ranges.stated, ranges.ranges[place])
 }
 
-/// Adds the lines of some prices.
 fn push_range_rows<A: Allocator>(
     text: &mut String<A>,
     place: usize,

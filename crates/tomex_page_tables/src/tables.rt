@@ -9,10 +9,10 @@ ghost use Rattle.tomex_page_tables.specs.Pieces.{row_start, table_head, table_st
 use std::alloc::{AllocError, Allocator};
 use std::fmt::Write;
 
-/// No more lines of a table, or entries of a list, than this are shown.
+/// The most lines of a table, or entries of a list, that are shown.
 pub const MOST_LINES: usize = 64;
 
-/// The first lines, up to a given number.
+/// The first lines, at most `count`.
 fn first_of<T>(lines: &[T], count: usize) -> &[T]
     ensures { result.now ≡ take count lines.now }
 {
@@ -49,7 +49,7 @@ pub fn push_column_heads<A: Allocator>(
     Ok(())
 }
 
-/// Adds what a table begins with, up to the names of its columns.
+/// Adds the start of a table, up to the names of its columns.
 #[tactic(auto, unfolding(crate::specs::Pieces::table_start))]
 pub fn push_table_start<A: Allocator>(
     text: &mut String<A>,
@@ -65,7 +65,7 @@ pub fn push_table_start<A: Allocator>(
     )
 }
 
-/// Adds what stands between the names of a table's columns and its rows.
+/// Adds the part between the names of a table's columns and its rows.
 #[tactic(auto, unfolding(crate::specs::Pieces::head_end))]
 pub fn push_head_end<A: Allocator>(text: &mut String<A>) -> Result<(), AllocError>
     ensures { OnOk result (string_bytes text.new ≡ string_bytes text.old ++ head_end) }
@@ -73,7 +73,7 @@ pub fn push_head_end<A: Allocator>(text: &mut String<A>) -> Result<(), AllocErro
     text.push_str("</tr></thead>\n<tbody>\n")
 }
 
-/// Adds what a table begins with, up to its rows.
+/// Adds the start of a table, up to its rows.
 #[tactic(auto, unfolding(crate::specs::Pieces::table_head))]
 pub fn push_table_head<A: Allocator>(
     text: &mut String<A>,
@@ -89,7 +89,7 @@ pub fn push_table_head<A: Allocator>(
     push_head_end(text)
 }
 
-/// Adds what a row begins with, up to its cells.
+/// Adds the start of a row, up to its cells.
 #[tactic(auto, unfolding(crate::specs::Pieces::row_start))]
 pub fn push_row_start<A: Allocator>(text: &mut String<A>, head: &str) -> Result<(), AllocError>
     ensures { OnOk result (string_bytes text.new ≡ string_bytes text.old ++ row_start head.now) }
@@ -116,14 +116,14 @@ pub fn push_numbers<A: Allocator>(text: &mut String<A>, numbers: &[u64]) -> Resu
     Ok(())
 }
 
-/// Adds a cell without anything.
+/// Adds an empty cell.
 pub fn push_empty<A: Allocator>(text: &mut String<A>) -> Result<(), AllocError>
     ensures { OnOk result (string_bytes text.new ≡ string_bytes text.old ++ td []) }
 {
     text.push_str("<td></td>")
 }
 
-/// Adds how many lines aren't shown, and the command that prints them.
+/// Adds the number of lines that aren't shown, and the command that prints them.
 #[tactic(auto, unfolding(crate::specs::Pieces::rest_text))]
 fn push_rest<A: Allocator>(
     text: &mut String<A>,
@@ -139,7 +139,7 @@ fn push_rest<A: Allocator>(
     )
 }
 
-/// Adds how many lines more there are than are shown, if any, and the command that prints them.
+/// Adds the number of lines that aren't shown, if any, and the command that prints them.
 #[tactic(auto, unfolding(crate::specs::Pieces::more))]
 pub fn push_more<A: Allocator>(
     text: &mut String<A>,

@@ -1,4 +1,4 @@
-//! The program `tomex`, run on a command line that it refuses, for the status that its process ends with.
+//! The program `tomex`, run on a command line that it refuses, for the exit status of its process.
 #![tactic(auto)]
 
 use std::process::ExitCode;

@@ -1,4 +1,4 @@
--- The cycles of a program on a front row, among how the row's programs end.
+-- The cycles of a program on a front row, taken from the ends of the row's programs.
 use Rattle.std.proofs.Common.{◌≡◌, ◌∙◌, ap, sym, refl, arith, ℕ, zero, suc, ◌+◌, ◌<◌, ◌≤◌, List, [], ◌∷◌, ◌++◌, Some}
 use Rattle.std.proofs.Common.{drop, get_or, length, map}
 use Rattle.std.specs.Prelude.{slice_get}
@@ -38,13 +38,13 @@ cycles_at s r e place p x are is found =
     let ends = at_both (IsProgramEnd are.config) s.programs e.programs.items place p x are.ends within program found in
     ends.total ∙ ap (λ (config : Configuration). total config p.image) (sym own)
 
--- a read whatever the default is
+-- a read, whatever the default
 same_read : {X : Type 0} (xs : List X) (k : ℕ) (d : X) → k < length xs → get_or xs k d ≡ get_or xs k (get_or xs k d)
 same_read [] k d within = absurd (omega (arith, within))
 same_read (x ∷ xs) zero d within = refl
 same_read (x ∷ xs) (suc k) d within = same_read xs k d (omega (arith, within))
 
--- the same of a row of a front
+-- the same for a row of a front
 pub has_end_at : {A : Type 0} (s : DesignSpace) (front : List FrontRow) (ends : List (RowEnds A)) (k place : ℕ)
     (p : Workload)
     (e : RowEnds A) → AllZip (λ r e. AreEndsOf s r e) front ends → slice_get s.programs place ≡ Some p → k < length ends
@@ -55,7 +55,7 @@ has_end_at s front ends k place p e are is within here =
     has_end s (get_or front k none) e place p
     (at_read (λ r e. AreEndsOf s r e) front ends k none e are (omega (arith, long, within)) here) is
 
--- the cycles on one row more
+-- the cycles on one more row
 pub cycles_more : {A : Type 0} (s : DesignSpace) (front : List FrontRow) (ends : List (RowEnds A)) (k place : ℕ)
     (p : Workload)
     (e : RowEnds A) (x : ProgramEnd A) (before after whole : List ℕ) → AllZip (λ r e. AreEndsOf s r e) front ends
@@ -73,7 +73,7 @@ cycles_more s front ends k place p e x before after whole are is within here fou
     (same_read front k none inside)
     grown (cycles_at s row e place p x ends_of_row is found) so_far
 
--- all are there where no row is left
+-- if no row is left, all cycles are there
 pub cycles_whole : {A : Type 0} (s : DesignSpace) (front : List FrontRow) (ends : List (RowEnds A)) (k : ℕ)
     (f : FrontRow → ℕ)
     (so_far : List ℕ) → AllZip (λ r e. AreEndsOf s r e) front ends → length ends ≤ k

@@ -1,4 +1,4 @@
--- What a `collect` into a `Result` says of its `Ok`.
+-- What a `collect` into a `Result` says about its `Ok`.
 use Rattle.std.proofs.Common.{List, [], ◌∷◌, map, Ok, Err, IfOk, MatchResult, Result}
 use Rattle.std.specs.List.{AllZip}
 

@@ -1,4 +1,4 @@
--- What has no text was read as a study.
+-- A survey without text was read as a study.
 use Rattle.std.proofs.Common.{ℕ, List}
 use Rattle.tomex_study.specs.Study.{DesignSpace}
 use Rattle.tomex_study_reader.specs.Study.{IsStudyOf}

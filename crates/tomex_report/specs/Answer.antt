@@ -1,4 +1,4 @@
--- From bytes to a report, and to what else shows a front.
+-- From bytes to a report, and to other views of a front.
 use Rattle.std.specs.Prelude.{◌≡◌, ℕ, List}
 use Rattle.tomex_study.specs.Study.{DesignSpace}
 use Rattle.tomex_front_views.specs.FrontTable.{front_table_of}
@@ -10,17 +10,17 @@ use Rattle.tomex_report.specs.declared.answer_error.AnswerError.TheVariants.{Stu
 use Rattle.tomex_report.specs.declared.front_view.FrontView.{FrontView}
 use Rattle.tomex_report.specs.declared.front_view.FrontView.TheVariants.{Report, Table, Picture}
 
--- the bytes and the files stand for a study, and the text is its report
+-- the bytes and the files are those of a study, and the text is its report
 abbrev pub IsAnswer : List ℕ → List (List ℕ) → List ℕ → Type 0
 IsAnswer bytes files text = (s : DesignSpace) × IsStudyOf bytes files s × (text ≡ report_of s)
 
--- what the front of a study is shown as
+-- the text of a study's front in a view
 abbrev pub shown_as : FrontView → DesignSpace → List ℕ
 shown_as Report s = report_of s
 shown_as Table s = front_table_of s
 shown_as Picture s = front_picture_of s
 
--- the bytes and the files stand for a study, and the text shows its front so
+-- the bytes and the files are those of a study, and the text is its front in this view
 abbrev pub IsShown : FrontView → List ℕ → List (List ℕ) → List ℕ → Type 0
 IsShown view bytes files text = (s : DesignSpace) × IsStudyOf bytes files s × (text ≡ shown_as view s)
 
@@ -29,7 +29,7 @@ abbrev pub IsAnswerRefusal : List ℕ → List (List ℕ) → AnswerError → Ty
 IsAnswerRefusal bytes files (Study error) = IsStudyRefusal bytes files error
 IsAnswerRefusal bytes files (Sweep error) = (s : DesignSpace) × IsStudyOf bytes files s
 
--- after the study was read: no refusal of it
+-- a refusal after the study was read: none of the study itself
 abbrev pub IsOfSweep : AnswerError → Type 0
 IsOfSweep (Study error) = ⊥
 IsOfSweep (Sweep error) = Unit {0}

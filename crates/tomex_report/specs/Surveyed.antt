@@ -14,7 +14,7 @@ use Rattle.tomex_report.specs.declared.survey_error.SurveyError.TheVariants.{Stu
 use Rattle.tomex_report.specs.declared.surveying.SurveyView.{SurveyView}
 use Rattle.tomex_report.specs.declared.surveying.SurveyView.TheVariants.{Rows, Picture, Worth, Prices, Page}
 
--- what is printed of all rows of a study
+-- the text for all rows of a study
 abbrev pub surveyed_as : SurveyView → DesignSpace → List ℕ
 surveyed_as Rows s = rows_text_of s
 surveyed_as Picture s = rows_picture_of s
@@ -22,12 +22,12 @@ surveyed_as (Worth row) s = worth_table_of s row
 surveyed_as Prices s = prices_table_of s
 surveyed_as (Page name) s = page_of name.now s
 
--- it is of a configuration that the study doesn't have
+-- the view is of a configuration that the study doesn't have
 abbrev pub lacks_row : SurveyView → DesignSpace → Bool
 lacks_row (Worth row) s = nat_le (length s.rows) row
 lacks_row view s = false
 
--- the study has that text: it has a configuration of that number, and its table of prices isn't too large
+-- the study has a text: it has a configuration with this number, and its table of prices isn't too large
 abbrev pub HasText : SurveyView → DesignSpace → Type 0
 HasText (Worth row) s = lacks_row (Worth row) s ≡ false
 HasText Prices s = is_too_large s ≡ false
@@ -38,18 +38,18 @@ pub record IsTextOf (view : SurveyView) (s : DesignSpace) (text : List ℕ) : Ty
   pub has_text : HasText view s
   pub text_is : text ≡ surveyed_as view s
 
--- why a study has no such text; or memory was refused
+-- why a study has no such text; or out of memory
 abbrev pub IsWithoutText : SurveyView → DesignSpace → SurveyError → Type 0
 IsWithoutText (Worth row) s NoSuchRow = lacks_row (Worth row) s ≡ true
 IsWithoutText Prices s TooLarge = is_too_large s ≡ true
 IsWithoutText view s Memory = Unit {0}
 IsWithoutText view s error = ⊥
 
--- the bytes and the files stand for a study, and the text is what is printed of its rows
+-- the bytes and the files are those of a study, and the text is what is printed of its rows
 abbrev pub IsSurveyed : SurveyView → List ℕ → List (List ℕ) → List ℕ → Type 0
 IsSurveyed view bytes files text = (s : DesignSpace) × IsStudyOf bytes files s × IsTextOf view s text
 
--- they stand for a study that has no such text for this reason, or memory was refused
+-- they are those of a study that has no such text for this reason, or out of memory
 abbrev pub IsUnsurveyed : SurveyView → List ℕ → List (List ℕ) → SurveyError → Type 0
 IsUnsurveyed view bytes files error = (s : DesignSpace) × IsStudyOf bytes files s × IsWithoutText view s error
 

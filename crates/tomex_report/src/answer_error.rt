@@ -36,7 +36,7 @@ impl From<SweepError> for AnswerError {
     }
 }
 
-/// Of what comes after the study was read.
+/// Errors after the study was read.
 impl From<AllocError> for AnswerError {
     ghost from_gives = { λ _ e. e ≡ Sweep Memory };
 

@@ -20,7 +20,7 @@ use tomex_front_views::{front_picture, front_table};
 use tomex_study::Study;
 use tomex_sweep::{FrontRow, Gate, OpenGate, explore, run_all_under};
 
-/// The front of a study, shown.
+/// The front of a study in a view.
 fn shown<R: Threads + Sync, A: Allocator + Clone + Send + Sync + Drop>(
     rt: &R,
     alloc: A,
@@ -44,7 +44,7 @@ fn shown<R: Threads + Sync, A: Allocator + Clone + Send + Sync + Drop>(
     front_table(alloc, heap, study, front, cycles.as_slice())
 }
 
-/// The front of a study, which workers explore, shown.
+/// Explores a study with workers and renders its front in a view.
 fn explored<R: Threads + Wait + Sync, A: Allocator + Clone + Send + Sync + Drop, G: Gate + Sync>(
     rt: &R,
     alloc: A,
@@ -62,7 +62,7 @@ fn explored<R: Threads + Wait + Sync, A: Allocator + Clone + Send + Sync + Drop,
     Ok(shown(rt, alloc, heap, study, outcome.front.as_slice(), view)?)
 }
 
-/// The front of the study that the bytes and the files stand for, shown. Refusals are those of `answer`.
+/// The front, in a view, of the study in the bytes and the files. Refusals are those of `answer`.
 pub fn answer_shown<
     R: Threads + Wait + Sync,
     A: Allocator + Clone + Send + Sync + Drop,
@@ -94,7 +94,7 @@ pub fn answer_shown<
 ///
 /// `study` is the document, `files` the contents of its programs' files in their order. A study is
 /// refused as `read_study` refuses it; of one that isn't, only memory and the start of a thread can
-/// be refused. What `toml` and `csv` need they take of `heap`.
+/// be refused. `toml` and `csv` allocate from `heap`.
 pub fn answer<R: Threads + Wait + Sync, A: Allocator + Clone + Send + Sync + Drop, G: Gate + Sync>(
     rt: &R,
     alloc: A,
@@ -136,7 +136,7 @@ fn explored_whole<R: Threads + Sync, A: Allocator + Clone + Send + Sync + Drop, 
     )?)
 }
 
-/// `answer_all` with a gate, which hears of worker 0 only.
+/// `answer_all` with a gate, which hears only of worker 0.
 pub fn answer_all_under<R: Threads + Sync, A: Allocator + Clone + Send + Sync + Drop, G: Gate>(
     rt: &R,
     alloc: A,
@@ -154,7 +154,7 @@ pub fn answer_all_under<R: Threads + Sync, A: Allocator + Clone + Send + Sync + 
     explored_whole(rt, alloc, heap, &read, gate)
 }
 
-/// The same report, of rows that are all run to their ends on the calling thread.
+/// The same report, with all rows run to their ends on the calling thread.
 pub fn answer_all<R: Threads + Sync, A: Allocator + Clone + Send + Sync + Drop>(
     rt: &R,
     alloc: A,

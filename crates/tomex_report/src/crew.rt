@@ -1,6 +1,6 @@
-//! Who works on a study's rows.
+//! The workers on a study's rows.
 
-/// A number of workers, and what hears of each of their rows.
+/// A number of workers, and a gate that hears of each of their rows.
 #[derive(Drop)]
 pub struct Crew<'g, G> {
     pub workers: usize,

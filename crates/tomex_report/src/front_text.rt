@@ -96,10 +96,10 @@ fn put_rows<A: Allocator>(
     Ok(())
 }
 
-/// The front report of a study, from its front and what its rows come to: CSV with a header, and
+/// The front report of a study, given its front and the ends of its rows: CSV with a header, and
 /// for each row of the front a record for each program.
 ///
-/// What `csv` needs for its records it takes of `heap`.
+/// `csv` allocates its records from `heap`.
 #[tactic(auto, unfolding(tomex_texts::specs::FrontReport::report_of))]
 pub fn front_report<A: Allocator + Clone>(
     alloc: A,

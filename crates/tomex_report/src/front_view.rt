@@ -1,4 +1,4 @@
-//! What a front is shown as, and what its table has of each program.
+//! The views of a front, and what its table has of each program.
 
 ghost use Rattle.std.specs.Prelude.{◌≡◌, ◌<◌, length, Some, slice_get, IfOk};
 ghost use Rattle.std.specs.List.{AllZip};
@@ -10,7 +10,7 @@ use tomex_study::{Program, Study};
 use tomex_sweep::FrontRow;
 use tomex_texts::RowEnds;
 
-/// What a front is shown as.
+/// A view of a front.
 #[derive(Clone, Copy, Debug, PartialEq, Eq)]
 pub enum FrontView {
     /// The report, in CSV.
@@ -21,7 +21,7 @@ pub enum FrontView {
     Picture,
 }
 
-/// A program's own cycles on each row of a front. The program is the study's at this place.
+/// A program's own cycles on each row of a front. The program is the study's at `place`.
 fn program_cycles<A: Allocator>(
     alloc: A,
     study: &Study<A>,

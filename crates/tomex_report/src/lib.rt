@@ -1,6 +1,6 @@
-//! What goes into an exploration and what comes out of it: studies, which are read from a document and
-//! its programs' files, the front report of a study and what else shows its front, the times report of a
-//! program on one row, and the text of a machine's tables.
+//! The input and the output of an exploration: studies, which are read from a document and its programs' files, the
+//! front report of a study and other views of its front, the times report of a program on one row, and the text of a
+//! machine's tables.
 #![tactic(auto)]
 
 mod answer_error;

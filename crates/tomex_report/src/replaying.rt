@@ -11,7 +11,7 @@ use tomex_study::Study;
 use tomex_sweep::FrontRow;
 use tomex_texts::{RowEnds, each_end};
 
-/// How the programs end on one row, which is run again.
+/// The ends of the programs on one row, which is run again.
 fn ends_of<A: Allocator + Clone>(
     alloc: A,
     study: &Study<A>,

@@ -7,7 +7,7 @@ use std::alloc::{Allocator, Global};
 use tomex_study::Study;
 use tomex_study_reader::{StudyError, read_study};
 
-/// The study that the bytes and the files stand for.
+/// The study in the bytes and the files.
 pub(crate) fn studied<A: Allocator + Clone>(
     alloc: &A,
     heap: Global,

@@ -15,13 +15,13 @@ pub enum SurveyError {
     /// The bytes and the files are refused.
     #[error(transparent)]
     Study(StudyError),
-    /// They are a study that has no configuration of that number.
+    /// They are a study without a configuration of this number.
     #[error("no such row")]
     NoSuchRow,
     /// They are a study whose table of prices would have too many intervals.
     #[error("table too large")]
     TooLarge,
-    /// They are a study, and memory was refused.
+    /// They are a study, and out of memory.
     #[error("out of memory")]
     Memory,
 }
@@ -45,7 +45,7 @@ impl From<PricesError> for SurveyError {
     }
 }
 
-/// Of what comes after the study was read.
+/// Errors after the study was read.
 impl From<AllocError> for SurveyError {
     ghost from_gives = { λ _ e. e ≡ Memory };
 

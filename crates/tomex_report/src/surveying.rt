@@ -20,16 +20,16 @@ use tomex_survey::{Survey, survey};
 use tomex_sweep::Gate;
 use tomex_worth::worth_table;
 
-/// What is printed of all rows of a study.
+/// A view of all rows of a study.
 #[derive(Clone, Copy)]
 pub enum SurveyView<'a> {
     /// Each row, in CSV.
     Rows,
     /// The front with all rows, as a picture in SVG.
     Picture,
-    /// What each change of one list brings on the configuration of this number, as a table.
+    /// The gain from each change of one list on the configuration of this number, as a table.
     Worth(usize),
-    /// For which prices each row of the front stays on it, as a table.
+    /// The prices with which each row of the front stays on it, as a table.
     Prices,
     /// A report of the study of this name, as a page in HTML.
     Page(&'a str),
@@ -70,11 +70,10 @@ fn lacks_row<A: Allocator>(study: &Study<A>, view: SurveyView<'_>) -> bool
     }
 }
 
-/// What is printed of all rows of the study that the bytes and the files stand for. The number of workers doesn't
-/// change it.
+/// The text for all rows of the study in the bytes and the files. The number of workers doesn't change it.
 ///
-/// A study is refused as `read_study` refuses it; that it has no such row is found before any of its rows is evaluated.
-/// What `toml` and `csv` need, and what is small, they take of `heap`.
+/// A study is refused as `read_study` refuses it; a missing row is found before any row is evaluated. `toml` and `csv`
+/// allocate from `heap`, and so do small temporary texts.
 pub fn answer_survey<R: Threads + Sync, A: Allocator + Clone + Send + Sync + Drop, G: Gate + Sync>(
     rt: &R,
     alloc: A,

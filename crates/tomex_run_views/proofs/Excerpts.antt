@@ -19,12 +19,12 @@ total_drop zero times = omega arith
 total_drop (suc n) [] = omega arith
 total_drop (suc n) (at ∷ times) = omega (arith, total_drop n times)
 
--- how long a part is
+-- the length of a part
 part_length : {X : Type 0} (n k : ℕ) (xs part : List X) → part ≡ take n (drop k xs)
     → length part ≡ min n (length xs - k)
 part_length n k xs part is = ap length is ∙ (length-take n (drop k xs) ∙ ap (min n) (length-drop k xs))
 
--- what an excerpt holds is an excerpt: the parts of the steps and of the times begin at the same number
+-- the value that is kept is an excerpt: the parts of the steps and of the times begin at the same number
 pub kept : (number count : ℕ) (run part : List Step) (times : List Times) → 0 < number → number < 4294967296
     → number ≤ length run → length run ≤ 262144 → length times ≡ length run → total_of times ≤ 67 * length run
     → part ≡ take count (drop (number - 1) run)
@@ -43,7 +43,7 @@ kept number count run part times some low there few pairs bound is = (
   },
 )
 
--- what begins at the first step is one too, also of a run without steps
+-- a part from the first step on is an excerpt too, even of a run without steps
 pub kept_first : (count : ℕ) (run part : List Step) (times : List Times) → length run ≤ 262144
     → length times ≡ length run → total_of times ≤ 67 * length run → part ≡ take count (drop 0 run)
     → (1 - 1 ≤ length times)

@@ -1,4 +1,4 @@
--- What a picture's loops have written one turn later, and that the steps shown end no later than the whole run.
+-- The text of a picture's loops after one more turn; and the steps shown end no later than the whole run.
 use Rattle.std.proofs.Common.{◌≡◌, ◌∙◌, ap, ap₂, sym, subst, refl, arith, ℕ, zero, suc, ◌+◌, ◌-◌, ◌<◌, ◌≤◌}
 use Rattle.std.proofs.Common.{List, [], ◌∷◌, ◌++◌, append_assoc, drop, get_or, length}
 use Rattle.std.specs.Prelude.{codes}
@@ -67,7 +67,7 @@ no_line frame number index steps times text whole past so_far =
     ∙ (ap (λ (ss : List Step). text ++ lines_of frame number ss (drop index times)) (sym (drop_all index steps past))
     ∙ so_far)
 
--- what comes after five pieces
+-- the text after five pieces
 line_after : (a b c d e rest : List ℕ) → (a ++ (b ++ (c ++ (d ++ e)))) ++ rest ≡ a ++ (b ++ (c ++ (d ++ (e ++ rest))))
 line_after a b c d e rest =
     append_assoc a (b ++ (c ++ (d ++ e))) rest

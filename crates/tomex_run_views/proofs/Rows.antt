@@ -10,7 +10,7 @@ use Rattle.tomex_timing.proofs.Programs.{product, two_results, stored_and_loaded
 use Rattle.tomex_run_views.specs.Chart.{line_of, picture_of, sign_in}
 use Rattle.tomex_run_views.specs.Excerpt.{shown}
 
--- the picture of so many steps from a number on
+-- the picture of count steps from a number on
 abbrev picture : ℕ → ℕ → Configuration → List Step → List ℕ
 picture number count config steps =
     picture_of number (shown number count steps) (shown number count (times_in config steps))

@@ -20,8 +20,8 @@ use Rattle.tomex_run_views.specs.declared.picture_error.PictureError.TheVariants
 use Rattle.tomex_run_views.specs.declared.stage.Stage.{Stage}
 use Rattle.tomex_run_views.specs.declared.stage.Stage.TheVariants.{Issue, Address, Execute, Write, BusWait, Wait}
 
--- what a step does in a cycle, if anything: the first row that fits. A step without a destination ends as it
--- finishes, in its unit; those without a unit start as they issue.
+-- the activity of a step in a cycle, if any: the first row that fits. A step without a destination ends as it finishes,
+-- in its unit; those without a unit start as they issue.
 abbrev pub stage_in : Times → ℕ → Option Stage
 stage_in at t =
     if nat_lt t at.issue then None
@@ -71,7 +71,7 @@ abbrev pub first_issue : List Times → ℕ
 first_issue [] = 0
 first_issue (at ∷ times) = at.issue
 
--- how long the longest of their instructions is
+-- the length of the longest of their instructions
 abbrev pub longest_instruction : List Step → ℕ
 longest_instruction [] = 0
 longest_instruction (step ∷ steps) = max (length (instr_text step.instr)) (longest_instruction steps)
@@ -91,11 +91,11 @@ picture_of number steps times =
     codes "cycles " ++ (decimal (first_issue times) ++ (codes " to " ++ (decimal (total_of times)
     ++ (codes "\n" ++ lines_of (frame_of number steps times) number steps times))))
 
--- how many signs it has
+-- the number of its signs
 abbrev pub signs_of : List Times → ℕ
 signs_of times = length times * (total_of times + 1 - first_issue times)
 
--- no more of them than this, 2^24, are drawn
+-- the most signs that are drawn: 2^24
 abbrev pub most_signs : ℕ
 most_signs = 16777216
 
@@ -109,14 +109,14 @@ pub record IsPictureOf (config : Configuration) (steps : List Step) (number coun
   pub drawn : signs_shown config steps number count ≤ most_signs
   pub is : text ≡ picture_of number (shown number count steps) (shown number count (times_in config steps))
 
--- why there is none: the step is looked for first, and how large the picture would be last
+-- why there is no picture: the step is looked up first, and the size of the picture is tested last
 abbrev pub IsUnpictured : Configuration → List Step → ℕ → ℕ → PictureError → Type 0
 IsUnpictured config steps number count NoSuchStep = length steps < number
 IsUnpictured config steps number count TooLarge =
     (number ≤ length steps) × (most_signs < signs_shown config steps number count)
 IsUnpictured config steps number count Memory = Unit {0}
 
--- no excerpt, no picture
+-- without an excerpt there is no picture
 abbrev pub error_of_excerpt : ExcerptError → PictureError
 error_of_excerpt excerpts.NoSuchStep = NoSuchStep
 error_of_excerpt excerpts.Memory = Memory

@@ -7,13 +7,13 @@ use Rattle.tomex_timing.specs.declared.times.Times.{Times}
 use Rattle.tomex_run_views.specs.declared.excerpt_error.ExcerptError.{ExcerptError}
 use Rattle.tomex_run_views.specs.declared.excerpt_error.ExcerptError.TheVariants.{Memory, NoSuchStep}
 
--- the number of the first of them, the run's first step being number 1; the steps in program order; a time each
+-- the number of the first step, the run's first step being number 1; the steps in program order; the times of each
 pub record TimedSteps : Type 0 where
   pub number : ℕ
   pub steps : List Step
   pub times : List Times
 
--- what is shown of a list: `count` at most, from a number on; the first is number 1
+-- the part of a list that is shown: at most `count` items, from a number on; the first item is number 1
 abbrev pub shown : {X : Type 0} → ℕ → ℕ → List X → List X
 shown number count xs = take count (drop (number - 1) xs)
 
@@ -25,7 +25,7 @@ excerpt_of config steps number count = record {
   times = shown number count (times_in config steps);
 }
 
--- what each excerpt of a program's run has: its numbers are those of a run, and its cycles too
+-- the limits of each excerpt of a program's run: its numbers are those of a run, and its cycles too
 pub record IsExcerpt (e : TimedSteps) : Type 0 where
   pub number : 0 < e.number
   pub pairs : length e.times ≡ length e.steps
@@ -33,12 +33,12 @@ pub record IsExcerpt (e : TimedSteps) : Type 0 where
   pub numbers : e.number < 2 ^ 32
   pub bound : total_of e.times < 2 ^ 32
 
--- it is the one that is asked for
+-- it is the excerpt that is asked for
 pub record IsExcerptOf (config : Configuration) (steps : List Step) (number count : ℕ) (e : TimedSteps) : Type 0 where
   pub there : number ≤ length steps
   pub is : e ≡ excerpt_of config steps number count
 
--- why there is none
+-- why there is no excerpt
 abbrev pub HasNoExcerpt : List Step → ℕ → ExcerptError → Type 0
 HasNoExcerpt steps number NoSuchStep = length steps < number
 HasNoExcerpt steps number Memory = Unit {0}

@@ -14,15 +14,15 @@ use tomex_study::Program;
 use tomex_timing::Times;
 use tomex_timing::evaluate::times;
 
-/// Neighbouring steps of a program's run, and when they happen on a configuration.
+/// Neighbouring steps of a program's run, with their times on a configuration.
 #[derive(Drop)]
 pub struct Excerpt<'a, A: Allocator> {
-    /// The number of the first of them; the run's first step is number 1.
+    /// The number of the first step; the run's first step is number 1.
     number: u32,
     steps: &'a [Step],
     /// The times of all steps of the run.
     run_times: Vec<Times, A>,
-    /// How many steps are shown at most.
+    /// The most steps that are shown.
     count: usize,
 }
 
@@ -45,7 +45,7 @@ impl<'a, A: Allocator> Model for Excerpt<'a, A> {
     }) };
 }
 
-/// `count` of these at most, after the first ones.
+/// At most `count` of these items, after the first `skipped`.
 fn part_of<T>(items: &[T], skipped: usize, count: usize) -> &[T]
     requires { skipped ≤ length items.now }
     ensures { result.now ≡ take count (drop skipped items.now) }
@@ -133,7 +133,7 @@ impl<'a, A: Allocator> Excerpt<'a, A> {
         self.steps
     }
 
-    /// When each of them happens.
+    /// The times of each step.
     pub fn times(&self) -> &[Times]
         ensures { result.now ≡ self.now.times }
     {

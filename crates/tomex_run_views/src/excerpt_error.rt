@@ -5,12 +5,12 @@ ghost use Rattle.tomex_run_views.specs.declared.excerpt_error.ExcerptError.TheVa
 
 use std::alloc::{AllocError, AllocFailed};
 
-/// Why a run has no such steps to show.
+/// Why an excerpt of a run can't be made.
 #[derive(Clone, Copy, Debug, Drop, PartialEq, Eq)]
 pub enum ExcerptError {
     /// The run ends before the first of them.
     NoSuchStep,
-    /// Memory was refused.
+    /// Out of memory.
     Memory,
 }
 

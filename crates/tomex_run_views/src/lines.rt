@@ -13,12 +13,12 @@ use tomex_csv_text::{push_aligned_number, push_left_aligned};
 use tomex_rvexec::Step;
 use tomex_timing::Times;
 
-/// What all lines have in common.
+/// The layout that all lines share.
 #[derive(Clone, Copy)]
 pub struct Frame {
-    /// How wide the numbers are.
+    /// The width of the numbers.
     pub digits: usize,
-    /// How wide the instructions are.
+    /// The width of the instructions.
     pub letters: usize,
     /// The cycle of the first column of signs.
     pub first: u64,
@@ -34,7 +34,7 @@ fn push_chart<A: Allocator>(text: &mut String<A>, at: &Times, from: u64) -> Resu
     Ok(())
 }
 
-/// Adds what a step is: its address and its instruction, which is as wide as the widest.
+/// Adds a step's address and its instruction, which is as wide as the widest.
 fn push_what<A: Allocator>(
     text: &mut String<A>,
     scratch: &mut String,

@@ -12,9 +12,9 @@ use std::alloc::{AllocError, AllocFailed};
 pub enum PictureError {
     /// The run ends before the first of them.
     NoSuchStep,
-    /// Their lines times its columns are too many.
+    /// The number of lines times the number of columns is too large.
     TooLarge,
-    /// Memory was refused.
+    /// Out of memory.
     Memory,
 }
 

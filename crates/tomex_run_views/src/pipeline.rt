@@ -22,7 +22,7 @@ use tomex_timing::evaluate::total;
 /// The most signs of one picture.
 const MOST_SIGNS: u64 = 16_777_216;
 
-/// The issue of the first step, 0 of none.
+/// The issue of the first step; 0 if there are no steps.
 pub fn first_issue(times: &[Times]) -> u64
     ensures { result ≡ first_issue times.now }
 {
@@ -32,7 +32,7 @@ pub fn first_issue(times: &[Times]) -> u64
     }
 }
 
-/// How many signs the picture of an excerpt has: its lines times its columns.
+/// The number of signs in the picture of an excerpt: its lines times its columns.
 pub fn signs_of<A: Allocator>(excerpt: &Excerpt<A>) -> u64
     ensures { result ≡ signs_of excerpt.now.times }
 {
@@ -42,7 +42,7 @@ pub fn signs_of<A: Allocator>(excerpt: &Excerpt<A>) -> u64
     times.len() as u64 * columns
 }
 
-/// How long the longest instruction of some steps is.
+/// The length of the longest instruction of some steps.
 fn longest_instruction(heap: Global, steps: &[Step]) -> Result<usize, AllocError>
     ensures { IfOk result (λ letters. letters ≡ longest_instruction steps.now) }
 {
@@ -73,7 +73,8 @@ fn frame_of<A: Allocator>(heap: Global, excerpt: &Excerpt<A>) -> Result<Frame, A
     })
 }
 
-/// Adds the picture of an excerpt, whatever its size. What is small is taken of `heap`.
+/// Adds the picture of an excerpt, whatever its size. Small temporary data is allocated from
+/// `heap`.
 pub fn push_picture<A: Allocator, B: Allocator>(
     text: &mut String<A>,
     heap: Global,
@@ -90,7 +91,7 @@ pub fn push_picture<A: Allocator, B: Allocator>(
     push_lines(text, heap, &frame, excerpt.number(), excerpt.steps(), times)
 }
 
-/// The picture of an excerpt, whatever its size. What is small is taken of `heap`.
+/// The picture of an excerpt, whatever its size. Small temporary data is allocated from `heap`.
 pub fn picture_of<A: Allocator, B: Allocator>(
     alloc: A,
     heap: Global,
@@ -104,11 +105,11 @@ pub fn picture_of<A: Allocator, B: Allocator>(
     Ok(text.into_bytes())
 }
 
-/// The picture of some steps of a program's run on a configuration, at most `count` of them from step `number` on;
-/// the first step is number 1. A line with the cycles, from the first step's issue to the greatest end, and then a
-/// line a step: its number, its address, its instruction, and a sign for each cycle up to its end.
+/// The picture of some steps of a program's run on a configuration, at most `count` of them from step `number` on; the
+/// first step is number 1. It has a line with the cycles, from the first step's issue to the greatest end, and then a
+/// line for each step: its number, its address, its instruction, and a sign for each cycle up to its end.
 ///
-/// A picture of more than 2^24 signs isn't made. What is small is taken of `heap`.
+/// A picture of more than 2^24 signs isn't made. Small temporary data is allocated from `heap`.
 pub fn pipeline_text<A: Allocator + Clone>(
     alloc: A,
     heap: Global,

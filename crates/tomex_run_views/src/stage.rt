@@ -1,4 +1,4 @@
-//! What a step does in a cycle.
+//! The activity of a step in a cycle.
 
 ghost use Rattle.std.specs.Prelude.{◌≡◌, nat_le, ◌&&◌};
 ghost use Rattle.tomex_steps.specs.Steps.{is_number};
@@ -6,7 +6,7 @@ ghost use Rattle.tomex_run_views.specs.Chart.{sign_in, sign_of, stage_in};
 
 use tomex_timing::Times;
 
-/// What a step does in a cycle, from its issue to its end.
+/// The activity of a step in a cycle, from its issue to its end.
 #[derive(Clone, Copy, Debug, PartialEq, Eq)]
 pub enum Stage {
     Issue,
@@ -23,7 +23,7 @@ pub enum Stage {
 }
 
 impl Stage {
-    /// Its sign in a chart.
+    /// The stage's sign in a chart.
     pub fn sign(self) -> &'static str
         ensures { result.now ≡ sign_of self }
     {
@@ -38,7 +38,7 @@ impl Stage {
     }
 }
 
-/// Whether there is a cycle, and it is this one.
+/// True if there is a cycle, and it is `this`.
 fn is_cycle(cycle: Option<u64>, this: u64) -> bool
     ensures { result ≡ is_number cycle this }
 {
@@ -48,14 +48,14 @@ fn is_cycle(cycle: Option<u64>, this: u64) -> bool
     }
 }
 
-/// Whether a cycle is none before `from` and none after `to`.
+/// True if a cycle is neither before `from` nor after `to`.
 fn is_within(from: u64, to: u64, cycle: u64) -> bool
     ensures { result ≡ (nat_le from cycle && nat_le cycle to) }
 {
     from <= cycle && cycle <= to
 }
 
-/// What a step does in a cycle, if anything.
+/// The activity of a step in a cycle, if any.
 pub fn stage_in(at: &Times, cycle: u64) -> Option<Stage>
     ensures { result ≡ stage_in at.now cycle }
 {
@@ -83,7 +83,7 @@ pub fn stage_in(at: &Times, cycle: u64) -> Option<Stage>
     Some(Stage::Wait)
 }
 
-/// A step's sign in a cycle: a space where it does nothing.
+/// A step's sign in a cycle; a space if it does nothing.
 #[tactic(auto, unfolding(crate::specs::Chart::sign_in))]
 pub fn sign_in(at: &Times, cycle: u64) -> &'static str
     ensures { result.now ≡ sign_in at.now cycle }

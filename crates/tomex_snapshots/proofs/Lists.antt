@@ -1,4 +1,4 @@
--- Lists that are made of functions, and pieces of text that some elements don't have.
+-- Lists of a function's values, and pieces of text that some elements don't have.
 use Rattle.std.proofs.Common.{◌≡◌, ◌∙◌, ◌<◌, ◌≤◌, ◌+◌, ◌-◌, ℕ, zero, suc, arith, refl, ap, sym, List, [], ◌∷◌}
 use Rattle.std.proofs.Common.{◌++◌, append_assoc, length}
 use Rattle.std.proofs.Common.{map, inl, inr}
@@ -88,7 +88,7 @@ seven_pieces s0 s1 s2 s3 s4 s5 s6 s7 a b c d e f g e1 e2 e3 e4 e5 e6 e7 =
     two_pieces s0 s1 s7 a (b ++ (c ++ (d ++ (e ++ (f ++ g))))) e1
     (six_pieces s1 s2 s3 s4 s5 s6 s7 b c d e f g e2 e3 e4 e5 e6 e7)
 
--- the piece of one number more
+-- the piece of one more number
 pub number_more : (f : ℕ → List ℕ) (i n : ℕ) (before after whole : List ℕ) → i < n → after ≡ before ++ f i
     → before ++ flat_map f (range_with_len i (n - i)) ≡ whole
     → after ++ flat_map f (range_with_len (i + 1) (n - (i + 1))) ≡ whole

@@ -1,4 +1,4 @@
--- What stations and registers show, by one step more.
+-- What stations and registers show after one more step.
 use Rattle.std.proofs.Common.{◌≡◌, ◌∙◌, ◌<◌, ◌≤◌, ◌+◌, ◌*◌, ◌/◌, ◌%◌, ℕ, zero, suc, arith, refl, ap, sym, List, [], ◌∷◌}
 use Rattle.std.proofs.Common.{ap₂, get_or, Bool, Option, Some, None, map, reverse, take, true, false, inl}
 use Rattle.std.proofs.Common.{inr, length, replicate}
@@ -69,7 +69,7 @@ low_place pools.Load = omega arith
 low_place pools.Store = omega arith
 low_place pools.Bru = omega arith
 
--- a place is that of its station alone
+-- a place is only that of its station
 other_place : (p : PoolId) (n k : ℕ) → k < 96 → k ≢ 16 * place_of_pool p + n
     → (place_of_pool p == place_of_pool (pool_at (k / 16)) && n == k % 16) ≡ false
 other_place p n k l apart = false_from_ne_true _ (λ e.
@@ -85,7 +85,7 @@ same_place p n l =
     let r : (16 * place_of_pool p + n) % 16 ≡ n = omega (arith, l) in
     rw (q, r, pool_back p) refl
 
--- what a table of all stations has of one
+-- the entry of one station in a table of all
 pub at_station : (f : Tag → Option Busy) (p : PoolId) (n : ℕ) (d : Option Busy) → n < 16
     → slice_index_or (map f all_tags) (16 * place_of_pool p + n) d ≡ f (record { pool = p; number = n })
 at_station f p n d l =
@@ -96,7 +96,7 @@ at_station f p n d l =
     ∙ (get_or-map-range_with_len (λ x. f (tag_at_place x)) 0 96 (16 * place_of_pool p + n)
     (16 * place_of_pool p + n) d (omega (arith, low, l)) (omega arith) ∙ ap f (same_place p n l)))
 
--- what a table of all registers has of one
+-- the entry of one register in a table of all
 pub at_register : (f : ℕ → Option Tag) (r : ℕ) (d : Option Tag) → r < 32
     → slice_index_or (map f (range_with_len 0 32)) r d ≡ f r
 at_register f r d l = get_or-map-range_with_len f 0 32 r r d l (omega arith)
@@ -127,7 +127,7 @@ busy_is by h producers tag e is low_j low_k =
     ap₂ (λ (x y : Field). record { tag = tag; instr = e.step.instr; j = x; k = y; a = a_of by (done_of e) })
     (operand_is by h producers (j_of e.step) is low_j) (operand_is by h producers (k_of e.step) is low_k)
 
--- what is in a place
+-- the content of a place
 abbrev in_place : ℕ → ℕ → List Done → ℕ → Option Busy
 in_place by at h x = held by at h (tag_at_place x)
 
@@ -142,7 +142,7 @@ elsewhere : (by at : ℕ) (d : Done) (h : List Done) (x : ℕ)
     → in_place by at (d ∷ h) x ≡ in_place by at h x
 elsewhere by at d h x absent = rw absent refl
 
--- one that is in it is seen there
+-- a step in this place is seen there
 within : (by at : ℕ) (d : Done) (h : List Done) (x : ℕ)
     → (is_under_way at d && is_in (pool_at (x / 16)) (step_pool d.step) && is_number d.at.station (x % 16)) ≡ true
     → in_place by at (d ∷ h) x ≡ Some (busy_of by (tag_at_place x) d h)
@@ -222,7 +222,7 @@ stations_more by at e h producers stations made low_j low_k is =
     ap (λ (xs : List (Option Busy)). stations_after by at e producers xs) (is ∙ in_places by at h)
     ∙ (places_more 96 (omega arith) by at e h producers made low_j low_k ∙ sym (in_places by at (done_of e ∷ h)))
 
--- one step more
+-- one more step
 pub snapshot_more : (by at : ℕ) (e : Entry) (h : List Done) (snapshot new : Snapshot) → IsSnapshot by at h snapshot
     → IfSome (j_of e.step) (λ o. o.register < 32) → IfSome (k_of e.step) (λ o. o.register < 32)
     → new ≡ snapshot_after by at e snapshot → IsSnapshot by at (done_of e ∷ h) new
@@ -234,13 +234,13 @@ snapshot_more by at e h snapshot new old low_j low_k is = rw is (record {
       ∙ note_is (producer by h) true (step_dest e.step) (unsent_tag by (done_of e));
 })
 
--- before the first
+-- before the first step
 pub snapshot_none : (by at : ℕ) (snapshot : Snapshot)
     → snapshot ≡ record { stations = replicate 96 None; registers = replicate 32 None; producers = replicate 32 None }
     → IsSnapshot by at [] snapshot
 snapshot_none by at snapshot is = rw is (record { stations = refl; registers = refl; producers = refl })
 
--- the history of one step more
+-- the history of one more step
 pub history_more : (es : List Entry) (i : ℕ) (e first : Entry) → i < length es → e ≡ get_or es i first
     → history_of (take (i + 1) es) ≡ done_of e ∷ history_of (take i es)
 history_more es i e first l is =
@@ -249,7 +249,7 @@ history_more es i e first l is =
     ∙ (reverse-append (map done_of (take i es)) (done_of (get_or es i first) ∷ [])
     ∙ ap (λ (x : Entry). done_of x ∷ history_of (take i es)) (sym is)))
 
--- with the same fields it is what tables show
+-- with the same fields it shows the same as tables do
 pub held_is : (t : ℕ) (h : List Done) (tag : Tag) → held t t h tag ≡ shown t h tag
 held_is t [] tag = refl
 held_is t (d ∷ older) tag =

@@ -30,7 +30,7 @@ entries_of config steps = entries_from 1 1 steps (times_in config steps) (waits_
 abbrev pub done_of : Entry → Done
 done_of e = record { step = e.step; at = e.at }
 
--- as a history, the youngest first
+-- the entries as a history, the youngest first
 abbrev pub history_of : List Entry → List Done
 history_of es = reverse (map done_of es)
 
@@ -46,11 +46,11 @@ has_unit e = is_some (step_unit e.step)
 abbrev pub tag_text : Tag → List ℕ
 tag_text tag = name_of_pool tag.pool ++ decimal tag.number
 
--- its name, or nothing
+-- a station's name, or nothing
 abbrev pub name_text : Option Tag → List ℕ
 name_text None = []
 name_text (Some tag) = tag_text tag
 
--- in some of these cycles the step waits to issue, or has issued and not ended before
+-- the step waits to issue in some of these cycles, or has issued and not ended before them
 abbrev pub is_there : Span → Entry → Bool
 is_there span e = nat_le e.from span.to && nat_le span.from e.at.end

@@ -1,4 +1,4 @@
--- What is kept while a view is made: what stations and registers show, by the steps so far.
+-- The state kept while a view is made: the content of stations and registers after the steps so far.
 use Rattle.std.specs.Prelude.{◌≡◌, ℕ, ◌+◌, ◌-◌, ◌*◌, nat_le, nat_lt, if◌then◌else◌, List}
 use Rattle.std.specs.Prelude.{Option, Some, None, map, slice_index_or, slice_set}
 use Rattle.std.specs.List.{range_with_len}
@@ -26,7 +26,7 @@ abbrev pub set_in : List (Option Tag) → Option ℕ → Option Tag → List (Op
 set_in tags None value = tags
 set_in tags (Some r) value = slice_set tags r value
 
--- an operand, by a table of the stations that registers' values are still to come from
+-- an operand, given the stations that registers' values will come from
 abbrev pub field_in : List (Option Tag) → Option Operand → Field
 field_in producers None = Unread
 field_in producers (Some o) = field_from o.value (slice_index_or producers o.register None)
@@ -55,7 +55,7 @@ abbrev pub registers_after : ℕ → Entry → List (Option Tag) → List (Optio
 registers_after by e registers =
     if nat_le e.at.issue by then set_in registers (step_dest e.step) (unsent_tag by (done_of e)) else registers
 
--- after one step more
+-- the snapshot after one more step
 abbrev pub snapshot_after : ℕ → ℕ → Entry → Snapshot → Snapshot
 snapshot_after by at e snapshot = record {
   stations = stations_after by at e snapshot.producers snapshot.stations;
@@ -63,13 +63,13 @@ snapshot_after by at e snapshot = record {
   producers = set_in snapshot.producers (step_dest e.step) (unsent_tag by (done_of e));
 }
 
--- what is in stations after cycle `at`, with its fields as they are by cycle `by`, and Qi and the producers by then
+-- the stations' contents after cycle `at`, with their fields as of cycle `by`, and Qi and the producers as of then
 pub record IsSnapshot (by at : ℕ) (h : List Done) (snapshot : Snapshot) : Type 0 where
   pub stations : snapshot.stations ≡ map (held by at h) all_tags
   pub registers : snapshot.registers ≡ map (qi_of by h) (range_with_len 0 32)
   pub producers : snapshot.producers ≡ map (producer by h) (range_with_len 0 32)
 
--- the snapshots of a view: that of the cycle before, what is there now with its fields by then, and that of the cycle
+-- the snapshots of a view: the cycle before, the stations' contents now with their fields as of then, and the cycle
 pub record AreSnapshots (t : ℕ) (h : List Done) (snapshots : Snapshots) : Type 0 where
   pub before : IsSnapshot (t - 1) (t - 1) h snapshots.before
   pub taking : IsSnapshot (t - 1) t h snapshots.taking

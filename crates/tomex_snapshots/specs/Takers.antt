@@ -1,4 +1,4 @@
--- What takes a result that is sent in a cycle.
+-- The takers of a result that is sent in a cycle.
 use Rattle.std.specs.Prelude.{ℕ, ◌-◌, ◌==◌, Bool, true, false, ◌&&◌, if◌then◌else◌, List, [], ◌∷◌, ◌++◌, codes}
 use Rattle.std.specs.Prelude.{Option, Some, None}
 use Rattle.std.specs.List.{flat_map}
@@ -19,13 +19,13 @@ use Rattle.tomex_snapshots.specs.declared.takers.Taker.TheVariants.{J, K, Regist
 abbrev pub same_tag : Tag → Tag → Bool
 same_tag a b = place_of_pool a.pool == place_of_pool b.pool && a.number == b.number
 
--- both are this station, or both are none
+-- both are the same station, or both are none
 abbrev pub same_name : Option Tag → Option Tag → Bool
 same_name None None = true
 same_name (Some a) (Some b) = same_tag a b
 same_name _ _ = false
 
--- the step that is in a station after cycle t, with its fields as they are by cycle s; `shown t` is `held t t`
+-- the step in a station after cycle t, with its fields as of cycle s; `shown t` is `held t t`
 abbrev pub held : ℕ → ℕ → List Done → Tag → Option Busy
 held s t [] tag = None
 held s t (d ∷ older) tag =
@@ -33,25 +33,25 @@ held s t (d ∷ older) tag =
     then Some (busy_of s tag d older)
     else held s t older tag
 
--- the operand waits for what this station will have
+-- the operand waits for this station's result
 abbrev pub awaits : Tag → Field → Bool
 awaits tag (Waits other) = same_tag other tag
 awaits tag (Value value) = false
 awaits tag Unread = false
 
--- the operands in a station that wait for it
+-- the operands in a station that wait for this one
 abbrev pub operand_takers : Tag → Option Busy → List Taker
 operand_takers tag None = []
 operand_takers tag (Some b) =
     (if awaits tag b.j then J b.tag ∷ [] else []) ++ (if awaits tag b.k then K b.tag ∷ [] else [])
 
--- the register, if the station was its Qi and none is
+-- the register, if the station was its Qi and it has no Qi now
 abbrev pub register_takers : Tag → ℕ → Option Tag → Option Tag → List Taker
 register_takers tag r (Some qi) None = if same_tag qi tag then Register r ∷ [] else []
 register_takers tag r _ _ = []
 
--- The takers of what a station sends to a register in cycle t: what is in a station after the cycle, and waited for it
--- up to the cycle before; one that issues in the cycle takes what it would have waited for. Then the register.
+-- The takers of what a station sends to a register in cycle t: the operands in stations after the cycle that waited for
+-- it up to the cycle before; one that issues in the cycle takes what it would have waited for. Then the register.
 unfoldable pub takers_to : ℕ → List Done → Tag → ℕ → List Taker
 takers_to t h tag r =
     flat_map (λ station. operand_takers tag (held (t - 1) t h station)) all_tags
@@ -64,13 +64,13 @@ takers_from t h _ _ = []
 unfoldable pub takers : ℕ → List Entry → Entry → List Taker
 takers t es e = takers_from t (history_of es) (station_of e) (step_dest e.step)
 
--- `alu0 Vj`, `alu0 Vk` or `x3`
+-- a taker's text: `alu0 Vj`, `alu0 Vk` or `x3`
 abbrev pub taker_text : Taker → List ℕ
 taker_text (J tag) = tag_text tag ++ codes " Vj"
 taker_text (K tag) = tag_text tag ++ codes " Vk"
 taker_text (Register r) = codes "x" ++ decimal r
 
--- joined by commas, or `none`
+-- the takers' texts, joined by commas, or `none`
 abbrev pub takers_text : List Taker → List ℕ
 takers_text [] = codes "none"
 takers_text (x ∷ xs) = taker_text x ++ flat_map (λ y. codes ", " ++ taker_text y) xs

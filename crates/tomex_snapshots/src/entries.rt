@@ -8,7 +8,7 @@ use std::fmt;
 use tomex_rvexec::Step;
 use tomex_timing::{Tag, Times, Waits};
 
-/// Some cycles, the first and the last of them.
+/// A range of cycles, given by its first and its last.
 #[derive(Clone, Copy)]
 pub struct Span {
     pub from: u64,
@@ -18,9 +18,9 @@ pub struct Span {
 /// A step of a run.
 #[derive(Clone, Copy)]
 pub struct Entry {
-    /// Its number, from 1.
+    /// The step's number, from 1.
     pub number: usize,
-    /// The issue of the step before it, from which on it waits to issue; cycle 1 of the first step.
+    /// The issue of the step before it, from which on it waits to issue; for the first step cycle 1.
     pub from: u64,
     pub step: Step,
     pub at: Times,
@@ -28,7 +28,7 @@ pub struct Entry {
 }
 
 impl Entry {
-    /// Its station, if it has one.
+    /// The step's station, if it has one.
     pub fn station(&self) -> Option<Tag>
         ensures { result ≡ station_of self.now }
     {
@@ -38,14 +38,15 @@ impl Entry {
         }
     }
 
-    /// Whether it uses a unit. FENCE, ECALL and EBREAK use none.
+    /// True if the step uses a unit. FENCE, ECALL and EBREAK use none.
     pub fn has_unit(&self) -> bool
         ensures { result ≡ has_unit self.now }
     {
         self.step.unit().is_some()
     }
 
-    /// Whether it waits to issue in some of these cycles, or has issued and not ended before.
+    /// True if the step waits to issue in some of these cycles, or has issued and not ended before
+    /// them.
     pub fn is_there(&self, span: Span) -> bool
         ensures { result ≡ is_there span self.now }
     {
@@ -53,7 +54,7 @@ impl Entry {
     }
 }
 
-/// A station's name, or nothing.
+/// A station's name; nothing for `None`.
 #[derive(Clone, Copy)]
 pub struct Name(pub Option<Tag>);
 

@@ -1,5 +1,5 @@
-//! What a view of a cycle is made of: the steps of a run with their times and waits, what stations and registers show
-//! after the cycle, and what takes the results that are sent in it.
+//! The data of a cycle's view: the steps of a run with their times and waits, what stations and registers show after
+//! the cycle, and what takes the results that are sent in it.
 #![tactic(auto)]
 
 mod entries;

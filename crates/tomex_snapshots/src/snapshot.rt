@@ -1,4 +1,4 @@
-//! What stations and registers show after a cycle.
+//! The content of stations and registers after a cycle.
 
 ghost use Rattle.std.specs.Prelude.{◌≡◌, ◌-◌, ◌<◌, ◌^◌, length, List, [], None, replicate, IfSome};
 ghost use Rattle.tomex_steps.specs.Steps.{j_of, k_of};
@@ -13,29 +13,29 @@ use tomex_rvdec::PoolId;
 use tomex_rvexec::{Operand, Step};
 use tomex_timing::{Busy, Field, Tag};
 
-/// What is in the stations after a cycle, and what registers wait for.
+/// The stations' contents after a cycle, and what registers wait for.
 #[derive(Clone, Copy)]
 pub struct Snapshot {
     /// 16 places a pool, in the order of the pools.
     pub stations: [Option<Busy>; 96],
     /// Qi of each register.
     pub registers: [Option<Tag>; 32],
-    /// The station that each register's value is still to come from, for the next step of the program.
+    /// The station that each register's value will come from, for the next step of the program.
     pub producers: [Option<Tag>; 32],
 }
 
 /// The snapshots of a view.
 #[derive(Clone, Copy)]
 pub struct Snapshots {
-    /// After the cycle before.
+    /// The cycle before.
     pub before: Snapshot,
-    /// What is in the stations after the cycle, with its fields as they were before it.
+    /// The stations' contents after the cycle, with their fields as they were before it.
     pub taking: Snapshot,
-    /// After the cycle.
+    /// The view's cycle.
     pub now: Snapshot,
 }
 
-/// The station that has a step's result and holds it back after a cycle.
+/// The station whose result isn't sent yet after a cycle.
 fn unsent(entry: &Entry, by: u64) -> Option<Tag>
     ensures { result ≡ unsent_tag by (done_of entry.now) }
 {
@@ -46,7 +46,7 @@ fn unsent(entry: &Entry, by: u64) -> Option<Tag>
     }
 }
 
-/// Whether a step has issued by a cycle, and not ended.
+/// True if a step has issued by a cycle, and not ended.
 fn is_under_way(entry: &Entry, at: u64) -> bool
     ensures { result ≡ is_under_way at (done_of entry.now) }
 {
@@ -70,7 +70,7 @@ fn a_of(entry: &Entry, by: u64) -> Option<u32>
     }
 }
 
-/// An operand, by the stations that registers' values are still to come from.
+/// An operand, given the stations that registers' values will come from.
 fn field_in(producers: &[Option<Tag>; 32], operand: Option<Operand>) -> Field
     requires { IfSome operand (λ o. o.register < 32) }
     ensures { result ≡ field_in producers.now operand }
@@ -84,7 +84,7 @@ fn field_in(producers: &[Option<Tag>; 32], operand: Option<Operand>) -> Field
     }
 }
 
-/// What a station shows of the step that is in it.
+/// The fields of a station, given the step in it.
 fn busy_in(by: u64, tag: Tag, entry: &Entry, producers: &[Option<Tag>; 32]) -> Busy
     ensures { result ≡ busy_in by tag entry.now producers.now }
 {
@@ -97,7 +97,7 @@ fn busy_in(by: u64, tag: Tag, entry: &Entry, producers: &[Option<Tag>; 32]) -> B
     }
 }
 
-/// Sets what the table has of a register, if there is one.
+/// Sets a register's entry in the table, if there is a register.
 fn set_in(tags: &mut [Option<Tag>; 32], register: Option<u8>, value: Option<Tag>)
     requires { IfSome register (λ r. r < 32) }
     ensures { tags.new ≡ set_in tags.old register value }
@@ -117,7 +117,7 @@ fn operands_are_registers(step: &Step)
 }
 
 impl Snapshot {
-    /// Before the first step.
+    /// The snapshot before the first step.
     fn none() -> Snapshot
         ensures { result ≡ record {
           stations = replicate 96 None;
@@ -163,7 +163,7 @@ impl Snapshot {
     }
 }
 
-/// What is in the stations after cycle `at`, with its fields as they are by cycle `by`.
+/// The stations' contents after cycle `at`, with their fields as of cycle `by`.
 fn snapshot_of(entries: &[Entry], by: u64, at: u64) -> Snapshot
     ensures { IsSnapshot by at (history_of entries.now) result }
 {

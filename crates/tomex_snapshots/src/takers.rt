@@ -1,4 +1,4 @@
-//! What takes a result that is sent.
+//! The takers of a result that is sent.
 
 ghost use Rattle.std.specs.Prelude.{◌≡◌, ◌<◌, ◌++◌, IfOk, OnOk, string_bytes};
 ghost use Rattle.std.specs.List.{flat_map};
@@ -12,7 +12,7 @@ use std::alloc::{AllocError, Allocator, Global};
 use std::fmt::{self, Write};
 use tomex_timing::{Busy, Field, Tag};
 
-/// What takes a result: an operand in a station, or a register.
+/// A taker of a result: an operand in a station, or a register.
 #[derive(Clone, Copy)]
 pub enum Taker {
     J(Tag),
@@ -41,7 +41,7 @@ fn same_tag(a: Tag, b: Tag) -> bool
     a.pool.place() == b.pool.place() && a.number == b.number
 }
 
-/// Whether both are the same station, or both are none.
+/// True if both are the same station, or both are none.
 pub fn same_name(a: Option<Tag>, b: Option<Tag>) -> bool
     ensures { result ≡ same_name a b }
 {
@@ -52,7 +52,7 @@ pub fn same_name(a: Option<Tag>, b: Option<Tag>) -> bool
     }
 }
 
-/// Whether an operand waits for what a station will have.
+/// True if an operand waits for this station's result.
 fn awaits(tag: Tag, field: Field) -> bool
     ensures { result ≡ awaits tag field }
 {
@@ -62,7 +62,7 @@ fn awaits(tag: Tag, field: Field) -> bool
     }
 }
 
-/// Adds the operands in a station that wait for another.
+/// Adds the operands in a station that wait for the station `tag`.
 fn push_operands(takers: &mut Vec<Taker>, tag: Tag, station: Option<Busy>) -> Result<(), AllocError>
     ensures { OnOk result (takers.new.items ≡ takers.old.items ++ operand_takers tag station) }
 {
@@ -78,7 +78,7 @@ fn push_operands(takers: &mut Vec<Taker>, tag: Tag, station: Option<Busy>) -> Re
     Ok(())
 }
 
-/// Adds the operands in all stations that wait for one.
+/// Adds the operands in all stations that wait for the station `tag`.
 fn push_all_operands(
     takers: &mut Vec<Taker>,
     tag: Tag,
@@ -93,7 +93,7 @@ fn push_all_operands(
     Ok(())
 }
 
-/// Adds a register, if a station was its Qi and none is.
+/// Adds a register, if the station was its Qi and it has no Qi now.
 fn push_register(
     takers: &mut Vec<Taker>,
     tag: Tag,

@@ -1,4 +1,4 @@
-//! A cycle of a run, and what a view of it is made of.
+//! A cycle of a run, and the data of its view.
 
 ghost use Rattle.std.specs.Prelude.{◌≡◌};
 ghost use Rattle.tomex_snapshots.specs.Entries.{history_of};
@@ -7,7 +7,7 @@ ghost use Rattle.tomex_snapshots.specs.Kept.{AreSnapshots};
 use crate::entries::Entry;
 use crate::snapshot::{Snapshots, snapshots_of};
 
-/// A cycle, and what a view of it is made of.
+/// A cycle, and the data of its view.
 #[derive(Clone, Copy)]
 pub struct View<'a> {
     pub cycle: u64,

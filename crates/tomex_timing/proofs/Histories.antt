@@ -1,4 +1,4 @@
--- A run's history grows by one step at a time, and what stands in it stays.
+-- A run's history grows by one step at a time, and its older steps stay.
 use Rattle.std.proofs.Common.{ℕ, ◌+◌, ◌≤◌, ◌*◌, ◌<◌, ◌≡◌, ◌∙◌, arith, refl, List, [], ◌∷◌, ◌++◌, ap, sym, suc, max}
 use Rattle.std.proofs.Common.{length, map, reverse, append_assoc}
 use Rattle.std.specs.Prelude.{slice_index_or, take}
@@ -52,7 +52,7 @@ total_push : (ts : List Times) (t : Times) → total_of (ts ++ (t ∷ [])) ≡ m
 total_push [] t = refl
 total_push (x ∷ ts) t = let e : total_of (ts ++ (t ∷ [])) ≡ max t.end (total_of ts) = total_push ts t in omega arith
 
--- the greatest end, either way round
+-- the greatest end, in either order
 pub total_of-history : (h : List Done) → total_of (map (λ d. d.at) (reverse h)) ≡ greatest_end h
 total_of-history [] = refl
 total_of-history (d ∷ h) =

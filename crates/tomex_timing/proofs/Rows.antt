@@ -20,12 +20,12 @@ on issue start finish end n = record {
   station = Some n;
 }
 
--- of a load or store, with its address cycle
+-- the times of a load or store, with its address cycle
 abbrev accessing : ℕ → ℕ → ℕ → ℕ → ℕ → ℕ → Times
 accessing issue address start finish end n =
     record { issue = issue; address = Some address; start = start; finish = finish; end = end; station = Some n }
 
--- of an instruction that uses no station
+-- the times of an instruction that uses no station
 abbrev at_once : ℕ → Times
 at_once t = record { issue = t; address = None; start = t; finish = t; end = t; station = None }
 

@@ -25,7 +25,7 @@ no_writers = replicate 32 None
 abbrev product_run : List Done
 product_run = history (with_latency units.Mul two_alu_stations 3) product
 
--- the first operand of the product came with the bus in the cycle of its issue; the second is still awaited
+-- the first operand of the product came with the bus in the cycle of its issue; the product still waits for the second
 product_after_3 : tables_of 3 product_run ≡ record {
   cycle = 3;
   busy = record { tag = tag pools.Alu 1; instr = instr Addi 2 0 0 7; j = Value 0; k = Unread; a = None }
@@ -56,7 +56,7 @@ overwritten_product = record {
   a = None;
 }
 
--- the younger writer of x5 is the one that the register waits for
+-- the register waits for the younger writer of x5
 overwritten_after_3 : tables_of 3 overwritten_run ≡ record {
   cycle = 3;
   busy = record { tag = tag pools.Alu 0; instr = instr Addi 5 0 0 1; j = Value 0; k = Unread; a = None }
@@ -66,7 +66,7 @@ overwritten_after_3 : tables_of 3 overwritten_run ≡ record {
 unfolding times_of
 overwritten_after_3 = refl
 
--- and once it has ended the register waits for nothing, though the older one is busy
+-- after it has ended the register waits for nothing, though the older one is busy
 overwritten_after_4 : tables_of 4 overwritten_run ≡ record {
   cycle = 4;
   busy = overwritten_product ∷ [];
@@ -106,7 +106,7 @@ jump_after_3 : tables_of 3 (history (with_latency units.Mul two_alu_stations 3) 
 unfolding times_of
 jump_after_3 = refl
 
--- what issues in its producers' cycle waits for their stations
+-- an instruction that issues in its producers' cycle waits for their stations
 product_width_four_after_1 : tables_of 1 (history (with_width (with_latency units.Mul two_alu_stations 3) 4) product)
     ≡ record {
       cycle = 1;

@@ -1,5 +1,5 @@
--- What the evaluator holds of the steps before, in place of a list of them: the reservation table of the cycles
--- ahead, the ends of the stations' steps, and the accesses under way; and what a next step makes of them.
+-- The evaluator's record of the earlier steps, in place of a list of them: the reservation table of later cycles, the
+-- ends of the stations' steps, and the accesses under way; and the times that these give a next step.
 use Rattle.std.specs.Prelude.{ℕ, ◌+◌, ◌-◌, ◌^◌, ◌<◌, ◌≤◌, ◌≡◌, ◌==◌, nat_lt, nat_le, Bool, not, ◌&&◌}
 use Rattle.std.specs.Prelude.{◌||◌, if◌then◌else◌, List, [], ◌∷◌, ◌++◌, Option, Some, None, is_some, IfSome}
 use Rattle.std.specs.Prelude.{slice_index, slice_set, MatchOption, All}
@@ -28,11 +28,11 @@ use Rattle.tomex_reservations.specs.Reservations.{station_place, taken_at}
 abbrev pub access_conflicts : Access → Option ByteRange → Bool → Bool
 access_conflicts a bytes is_store = shares_byte (Some a.bytes) bytes && (a.is_store || is_store)
 
--- and if it does, the access has finished before the cycle
+-- if it does, the access has finished before the cycle
 abbrev pub is_past : Facts → ℕ → Access → Bool
 is_past f t a = not (access_conflicts a f.bytes f.is_store) || nat_lt a.finish t
 
--- this is the first cycle from one on that is past each conflict
+-- this is the first cycle from a given one on that is past each conflict
 abbrev pub ArePast : Facts → List Access → ℕ → ℕ → Type 0
 ArePast f accesses from clear = (t : ℕ) → nat_le clear t ≡ (nat_le from t && list_all (is_past f t) accesses)
 
@@ -68,7 +68,7 @@ pub record IsTableAfter (f : Facts) (at : Times) (before after : Reserved) : Typ
 
 -- The next step.
 
--- the end of the producer of what a register holds, 0 without a register
+-- the end of the producer of a register's content; 0 without a register
 abbrev pub end_in : List ℕ → Option ℕ → ℕ
 end_in ends None = 0
 end_in ends (Some r) = slice_index ends r
@@ -80,18 +80,18 @@ TakesStation config ends pool from issue station =
     ((issue ≡ from) × (station ≡ None))
     (λ p. (n : ℕ) × (station ≡ Some n) × IsFreeFirst ends p (stations_of config p) from issue n)
 
--- what is taken of a line with one's own is one more than what others take of it
+-- the amount taken of a line including one's own: one more than others take of it
 abbrev pub with_own : Reserved → ℕ → ℕ → ℕ
 with_own table line t = taken_at table line t + 1
 
--- a result ends in the first cycle after the finish with a bus left
+-- a result ends in the first cycle after the finish with a bus free
 abbrev pub TakesBus : Configuration → Reserved → Option ℕ → ℕ → ℕ → ℕ → Type 0
 TakesBus config table dest finish end buses =
     MatchBool (is_some dest)
     (IsFirst (finish + 1) (is_left table bus_line config.buses) end × (buses ≡ with_own table bus_line end))
     ((end ≡ finish) × (buses ≡ 0))
 
--- what starts and ends as it issues
+-- a step that starts and ends as it issues
 pub record IsIdle (next : Next) : Type 0 where
   pub start : next.at.start ≡ next.at.issue
   pub finish : next.at.finish ≡ next.at.issue
@@ -102,7 +102,7 @@ pub record IsIdle (next : Next) : Type 0 where
   pub units : next.units ≡ 0
   pub buses : next.buses ≡ 0
 
--- what runs on a unit of this kind, given the ends of its operands' producers
+-- a step that runs on a unit of this kind, given the ends of its operands' producers
 pub record RunsOn
     (config : Configuration) (table : Reserved) (accesses : List Access) (f : Facts) (j k : ℕ) (next : Next)
     (unit : UnitId) : Type 0 where
@@ -114,7 +114,7 @@ pub record RunsOn
   pub end : TakesBus config table f.dest next.at.finish next.at.end next.buses
   pub units : next.units ≡ with_own table (place_of_unit unit) next.at.start
 
--- the times of a next step, its marks and what it takes, by what is held
+-- the times of a next step, its marks and what it takes, given what is held
 pub record IsNextBy
     (config : Configuration) (latest : Latest) (table : Reserved) (ends : List ℕ) (accesses : List Access)
     (f : Facts) (next : Next) : Type 0 where
@@ -133,14 +133,14 @@ pub record CanReserve (f : Facts) (at : Times) (table : Reserved) : Type 0 where
   pub units : IfSome f.unit (λ unit. taken_at table (place_of_unit unit) at.start < 255)
   pub buses : IfSome f.unit (λ unit. IfSome f.dest (λ r. taken_at table bus_line at.end < 255))
 
--- and can be kept
+-- a step can be kept
 pub record CanKeep (f : Facts) (at : Times) (latest : Latest) (table : Reserved) : Type 0 where
   pub register : IfSome f.dest (λ r. r < 32)
   pub few : latest.issued < 2 ^ 63
   pub station : IfSome at.station (λ n. n < 16)
   pub reserve : CanReserve f at table
 
--- nothing that is held lies past the greatest end, and the table has each cycle after the last issue
+-- nothing that is held is past the greatest end, and the table has each cycle after the last issue
 pub record IsSettledBy (latest : Latest) (table : Reserved) (taken : List ℕ) (accesses : List Access) : Type 0 where
   pub base : table.base ≤ latest.issue
   pub starts : (unit : UnitId) (t : ℕ) → latest.end < t → taken_at table (place_of_unit unit) t ≡ 0

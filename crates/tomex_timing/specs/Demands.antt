@@ -1,5 +1,5 @@
--- What a run asks of a machine's parts: of its needs, the peak of each part, and whether any step waits for it. The
--- second half says how a step more is counted.
+-- The demands of a run on a machine's parts: of its needs, the peak of each part, and whether any step waits for it.
+-- The second half says how one more step is counted.
 use Rattle.std.specs.Prelude.{ℕ, ◌≡◌, ◌==◌, nat_lt, false, not, ◌||◌, List, Option, Some, None, map, max, replicate}
 use Rattle.std.specs.Prelude.{slice_index_or, slice_set}
 use Rattle.tomex_rvdec.specs.Parts.{place_of_pool, place_of_unit}

@@ -28,7 +28,7 @@ abbrev pub TimesExist : Type 0
 TimesExist = (config : Configuration) (older : List Done) (s : Step) → IsWithinLimits config → AreTimed config older
     → (at : Times) × IsTimed config older s at
 
--- and no others
+-- a step has no two different sets of times
 abbrev pub TimesAreUnique : Type 0
 TimesAreUnique = (config : Configuration) (older : List Done) (s : Step) (a b : Times)
     → IsTimed config older s a → IsTimed config older s b → a ≡ b
@@ -38,7 +38,7 @@ abbrev pub SearchIsTimed : Type 0
 SearchIsTimed = (config : Configuration) (steps : List Step)
     → IsWithinLimits config → AreTimed config (timed_of config steps)
 
--- and a history with the times of the relation is the function's
+-- a history with the times of the relation is the function's
 abbrev pub TimedIsSearch : Type 0
 TimedIsSearch = (config : Configuration) (h : List Done) → IsWithinLimits config → AreTimed config h
     → h ≡ timed_of config (map (λ d. d.step) h)
@@ -58,33 +58,33 @@ abbrev pub YoungerChangeNothing : Type 0
 YoungerChangeNothing = (config : Configuration) (steps more : List Step)
     → (rest : List Times) × (times_in config (steps ++ more) ≡ times_in config steps ++ rest)
 
--- later than the issue before and than the finish of each older branch, with a station left
+-- a test for issue: later than the previous issue and than the finish of each older branch, with a station free
 abbrev pub can_issue_alone : Configuration → List Done → Step → ℕ → Bool
 can_issue_alone config older s t =
     nat_lt (last_issue older) t && are_branches_finished older t && has_station config older (step_pool s) t
 
--- where one instruction issues in a cycle, that is the test for issue
+-- if one instruction issues in a cycle, this is the test for issue
 abbrev pub IssuesAlone : Type 0
 IssuesAlone = (config : Configuration) (older : List Done) (s : Step) (t : ℕ) → config.width ≡ 1
     → AreTimed config older → can_issue config older s t ≡ can_issue_alone config older s t
 
--- and each issue is later than the one before
+-- if one instruction issues in a cycle, each issue is later than the previous one
 abbrev pub IssuesRise : Type 0
 IssuesRise = (config : Configuration) (d : Done) (older : List Done) → config.width ≡ 1
     → AreTimed config (d ∷ older) → last_issue older < d.at.issue
 
--- whatever the width, no issue comes before the one before
+-- whatever the width, no issue is earlier than the previous one
 abbrev pub IssuesStandInOrder : Type 0
 IssuesStandInOrder = (config : Configuration) (d : Done) (older : List Done)
     → AreTimed config (d ∷ older) → last_issue older ≤ d.at.issue
 
--- and in no cycle more than the width of them
+-- in each cycle at most as many steps issue as the width
 abbrev pub IssuesFitTheWidth : Type 0
 IssuesFitTheWidth = (config : Configuration) (h : List Done) (t : ℕ)
     → AreTimed config h → count_by (λ d. d.at.issue == t) h ≤ config.width
 
--- where g is the greatest end before a step, no time of it comes before its issue or after its end, and
--- it ends at most 67 cycles past g
+-- if g is the greatest end before a step, none of its times is before its issue or after its end, and it ends at most
+-- 67 cycles after g
 pub record InReach (g : ℕ) (at : Times) : Type 0 where
   pub issue_low : 0 < at.issue
   pub issue : at.issue ≤ at.end
@@ -95,13 +95,13 @@ pub record InReach (g : ℕ) (at : Times) : Type 0 where
   pub order : at.start ≤ at.finish
   pub end : at.end ≤ g + 67
 
--- so it is of each step
+-- each step of a history is in reach
 abbrev pub TimesAreInReach : Type 0
 TimesAreInReach = (config : Configuration) (d : Done) (older : List Done)
     → IsWithinLimits config → AreTimed config (d ∷ older)
     → InReach (greatest_end older) d.at
 
--- what uses a unit starts after its issue, and after its address where it has one
+-- an operation with a unit starts after its issue, and after its address if it has one
 abbrev pub StartsComeLater : Type 0
 StartsComeLater = (config : Configuration) (d : Done) (older : List Done) → IsTimed config older d.step d.at
     → is_some (step_unit d.step) ≡ true
@@ -130,7 +130,7 @@ StationsAreApart = (config : Configuration) (d : Done) (older : List Done) (pool
     → IsTimed config older d.step d.at → step_pool d.step ≡ Some pool → d.at.station ≡ Some n
     → d.at.issue ≤ t → is_free pool older t n ≡ true
 
--- and what ends later than it issues has a station
+-- a step that ends later than it issues has a station
 abbrev pub StationsAreThere : Type 0
 StationsAreThere = (config : Configuration) (d : Done) (older : List Done) → IsTimed config older d.step d.at
     → d.at.issue < d.at.end → (tag : Tag) × (tag_of d ≡ Some tag)
@@ -140,7 +140,7 @@ abbrev pub AccessesConflict : Type 0
 AccessesConflict = (x y : Step) (a : ℕ) → covers x a ≡ true → covers y a ≡ true
     → (is_store x || is_store y) ≡ true → conflicts x y ≡ true
 
--- and what starts comes after the finish of each older step that it conflicts with
+-- an operation starts after the finish of each older step that it conflicts with
 abbrev pub ConflictsAreFinished : Type 0
 ConflictsAreFinished = (config : Configuration) (d : Done) (older : List Done) → IsTimed config older d.step d.at
     → is_some (step_unit d.step) ≡ true → are_conflicts_finished older d.step d.at.start ≡ true
@@ -150,7 +150,7 @@ abbrev pub PeakIsWithin : Type 0
 PeakIsWithin = (config : Configuration) (h : List Done) (part : Part)
     → AreTimed config h → peak part h ≤ count_of config part
 
--- and all that its configuration has, where steps wait for it
+-- a history takes all of each part that its steps wait for
 abbrev pub StalledPartsAreFull : Type 0
 StalledPartsAreFull = (config : Configuration) (h : List Done) (part : Part) → AreTimed config h
     → 0 < stalls config part h → peak part h ≡ count_of config part
@@ -167,8 +167,8 @@ ServedRunsAreSame = (config other : Configuration) (steps : List Step) → IsWit
     → (history other steps ≡ history config steps)
     × (total_of (times_in other steps) ≡ total_of (times_in config steps))
 
--- Issue accounting: each cycle of a run is one in which something waits to issue, the one in which the last step
--- issues but for waits, or one of the drain after its last issue.
+-- Issue accounting: each cycle of a run is one in which a step waits to issue, the cycle in which the last step issues
+-- if nothing waits, or one of the drain after its last issue.
 abbrev pub IssueCyclesAddUp : Type 0
 IssueCyclesAddUp = (config : Configuration) (d : Done) (older : List Done)
     → IsWithinLimits config → AreTimed config (d ∷ older)
@@ -190,14 +190,14 @@ work_cycles config [] = 0
 work_cycles config (d ∷ older) =
     work_by config (step_unit d.step) (is_some (step_dest d.step)) + work_cycles config older
 
--- Station accounting: the others are waits.
+-- Station accounting: the other cycles are waits.
 abbrev pub StationCyclesAddUp : Type 0
 StationCyclesAddUp = (config : Configuration) (h : List Done) → IsWithinLimits config → AreTimed config h
     → held_cycles h
     ≡ stalls_by (λ w. w.operand) config h + stalls_by (λ w. w.address) config h + stalls_by (λ w. w.memory) config h
     + unit_stalls config h + stalls config Buses h + work_cycles config h
 
--- needs of a run that suffice for another configuration tell that its times are the same there
+-- needs of a run that suffice for another configuration show that its times are the same there
 abbrev pub NeedsTell : Type 0
 NeedsTell = (config other : Configuration) (h : List Done) (needs : Needs)
     → AreNeeds config h needs → suffice needs config other ≡ true
@@ -218,7 +218,7 @@ abbrev pub UnitWaitsAreStalls : Type 0
 UnitWaitsAreStalls = (config : Configuration) (h : List Done) → AreTimed config h
     → stalls_by (λ w. w.unit) config h ≡ unit_stalls config h
 
--- and those for the buses and the width are theirs
+-- those for the buses and the width are the stalls of these
 abbrev pub BusWaitsAreStalls : Type 0
 BusWaitsAreStalls = (config : Configuration) (h : List Done) → stalls_by (λ w. w.bus) config h ≡ stalls config Buses h
 

@@ -1,6 +1,7 @@
--- What a run takes of a machine's parts, and how long its steps wait for each of them. Every cycle in which a step
--- waits is charged to one thing: the first that it lacks, in the order below. This order is the project's choice; the
--- last thing is charged with what is left, since a step that lacked nothing would have gone on.
+-- The needs of a run: what it takes of a machine's parts, and how long its steps wait for each of them. Every cycle in
+-- which a step waits is charged to one thing: the first that is missing, in the order below. This order is the
+-- project's choice; the last thing is charged with what is left, since a step with nothing missing would have
+-- continued.
 use Rattle.std.specs.Prelude.{ℕ, ◌+◌, ◌-◌, ◌≤◌, ◌≡◌, ◌⊎◌, ◌==◌, nat_lt, nat_le, Bool, not, ◌&&◌, ◌||◌}
 use Rattle.std.specs.Prelude.{if◌then◌else◌, List, [], ◌∷◌, Option, Some, None, count_by, is_some, max, length}
 use Rattle.std.specs.Prelude.{reverse, slice_index_or}
@@ -23,18 +24,18 @@ use Rattle.tomex_timing.specs.Recurrence.{can_issue_another, are_branches_finish
 use Rattle.tomex_timing.specs.Recurrence.{has_operands, are_conflicts_finished}
 use Rattle.tomex_timing.specs.Search.{history}
 
--- how many of a part a configuration has
+-- the number of a part that a configuration has
 abbrev pub count_of : Configuration → Part → ℕ
 count_of config (Stations pool) = stations_of config pool
 count_of config (Units unit) = (option_of config unit).units
 count_of config Buses = config.buses
 count_of config Width = config.width
 
--- how many cycles pass a test, from one on and before another
+-- the number of cycles from one on and before another that pass a test
 abbrev pub cycles_that : (ℕ → Bool) → ℕ → ℕ → ℕ
 cycles_that p from to = count_by p (range_with_len from (to - from))
 
--- To issue a step waits from the issue before it on: for a branch, for the width, for a station.
+-- To issue, a step waits from the previous issue on: for a branch, for the width, for a station.
 
 abbrev pub lacks_branch : List Done → ℕ → Bool
 lacks_branch older t = not (are_branches_finished older t)
@@ -48,7 +49,7 @@ lacks_station config older t = are_branches_finished older t && can_issue_anothe
 abbrev pub issue_waits : List Done → Done → (ℕ → Bool) → ℕ
 issue_waits older d lacks = cycles_that lacks (max 1 (last_issue older)) d.at.issue
 
--- To start it waits after its issue: for an operand, for its address, for an older access, for a unit.
+-- To start, it waits after its issue: for an operand, for its address, for an older access, for a unit.
 
 abbrev pub lacks_operand : List Done → Done → ℕ → Bool
 lacks_operand older d t = not (has_operands older d.step t)
@@ -96,16 +97,16 @@ waits_over config (d ∷ older) = waits_of config older d ∷ waits_over config 
 abbrev pub waits_in : Configuration → List Step → List Waits
 waits_in config steps = reverse (waits_over config (history config steps))
 
--- a number of each step, given what is older, added up over a history
+-- a number for each step, given what is older, added up over a history
 abbrev pub sum_over : (List Done → Done → ℕ) → List Done → ℕ
 sum_over f [] = 0
 sum_over f (d ∷ older) = f older d + sum_over f older
 
--- the stalls of a part: how long all steps together wait for it
+-- the stalls of a part: the cycles that all steps together wait for it
 abbrev pub stalls : Configuration → Part → List Done → ℕ
 stalls config part h = sum_over (λ older d. waits_for part d (waits_of config older d)) h
 
--- and how long they wait by a cause, as for an operand, which is no part
+-- the cycles that all steps together wait by a cause, as for an operand, which is no part
 abbrev pub stalls_by : (Waits → ℕ) → Configuration → List Done → ℕ
 stalls_by cause config h = sum_over (λ older d. cause (waits_of config older d)) h
 
@@ -125,13 +126,13 @@ unit_stalls config h =
 abbrev pub drain : List Done → ℕ
 drain h = greatest_end h - last_issue h
 
--- a station's number counts from 0
+-- the number of stations up to this one, whose number counts from 0
 abbrev pub stations_up_to : Option ℕ → ℕ
 stations_up_to None = 0
 stations_up_to (Some n) = n + 1
 
--- What a step takes of a part, with what older steps take of it at the same time: the stations up to its own, the
--- operations of its kind that start with it, the results that end with it, the steps that issue with it.
+-- The amount of a part that a step takes, including what older steps take of it at the same time: the stations up to
+-- its own, the operations of its kind that start with it, the results that end with it, the steps that issue with it.
 abbrev pub taken_by : Part → List Done → Done → ℕ
 taken_by (Stations pool) older d = if is_in pool (step_pool d.step) then stations_up_to d.at.station else 0
 taken_by (Units unit) older d =
@@ -150,7 +151,7 @@ peak part [] = 0
 peak part (d ∷ older) = max (taken_by part older d) (peak part older)
 
 -- A second configuration serves a history as the first does: of each part it has as many, or the history has no stalls
--- of it and takes no more of it than the second configuration has; and each kind of unit that is used has the same
+-- of it and takes at most as many as the second configuration has; and each kind of unit that is used has the same
 -- latency.
 pub record Serves (config other : Configuration) (h : List Done) : Type 0 where
   pub parts : (part : Part)
@@ -182,13 +183,13 @@ pub record AreNeeds (config : Configuration) (h : List Done) (needs : Needs) : T
   pub pools : length needs.stations ≡ 6
   pub kinds : length needs.units ≡ 5
 
--- needs on one configuration tell that a part may be as many as on another
+-- true if the needs on one configuration show that a part may have another's count
 abbrev pub allows : Needs → Configuration → Configuration → Part → Bool
 allows needs own other part =
     count_of own part == count_of other part
     || ((need_of needs part).stalls == 0 && nat_le (need_of needs part).peak (count_of other part))
 
--- and that units of a kind may have the latency that they have there
+-- true if they show that units of a kind may have the other's latency
 abbrev pub allows_latency : Needs → Configuration → Configuration → UnitId → Bool
 allows_latency needs own other unit =
     (option_of own unit).latency == (option_of other unit).latency || (need_of needs (Units unit)).peak == 0
@@ -203,7 +204,7 @@ all_parts =
 abbrev pub all_units : List UnitId
 all_units = units.Alu ∷ units.Mul ∷ units.Div ∷ units.Mem ∷ units.Bru ∷ []
 
--- and so all that the configurations have
+-- true if they show both for all parts and kinds
 abbrev pub suffice : Needs → Configuration → Configuration → Bool
 suffice needs own other =
     list_all (allows needs own other) all_parts && list_all (allows_latency needs own other) all_units

@@ -1,8 +1,8 @@
--- When each step of a run issues, gets its address, starts, finishes and ends: the least cycle that
+-- The cycles in which each step of a run issues, gets its address, starts, finishes and ends: the least cycle that
 -- passes a test over what is older.
--- Sources: R. M. Tomasulo, "An Efficient Algorithm for Exploiting Multiple Arithmetic Units", 1967;
--- Hennessy and Patterson, "Computer Architecture: A Quantitative Approach", the chapter on Tomasulo's
--- algorithm. What they leave open this project chooses, and says so.
+-- Sources: R. M. Tomasulo, "An Efficient Algorithm for Exploiting Multiple Arithmetic Units", 1967; Hennessy and
+-- Patterson, "Computer Architecture: A Quantitative Approach", the chapter on Tomasulo's algorithm.
+-- What they leave open this project chooses, and says so.
 use Rattle.std.specs.Prelude.{ℕ, ◌+◌, ◌-◌, ◌<◌, ◌≡◌, ◌==◌, nat_lt, nat_le, Bool, false, not, ◌&&◌, ◌||◌}
 use Rattle.std.specs.Prelude.{IsTrue, List, [], ◌∷◌, Option, Some, None, count_by, is_some, MatchOption}
 use Rattle.std.specs.Bool.{MatchBool}
@@ -21,7 +21,7 @@ use Rattle.tomex_timing.specs.Station.{has_station, is_free}
 abbrev pub IsLeast : (ℕ → Bool) → ℕ → Type 0
 IsLeast p t = IsTrue (p t) × ((s : ℕ) → s < t → p s ≡ false)
 
--- no earlier than the one before, and fewer than the width of the older ones issue in the cycle
+-- no earlier than the previous issue, and fewer than the width of the older ones issue in the cycle
 abbrev pub can_issue_another : Configuration → List Done → ℕ → Bool
 can_issue_another config older t =
     nat_le (last_issue older) t && nat_lt (count_by (λ d. d.at.issue == t) older) config.width
@@ -30,9 +30,9 @@ can_issue_another config older t =
 abbrev pub are_branches_finished : List Done → ℕ → Bool
 are_branches_finished older t = list_all (λ d. not (is_branch d.step) || nat_lt d.at.finish t) older
 
--- Issue. Hennessy and Patterson: in program order, where a reservation station is left.
--- This project: as many in a cycle as the configuration's width says; nothing is speculated, so later than the
--- finish of each older branch.
+-- Issue. Hennessy and Patterson: in program order, if a reservation station is free.
+-- This project: as many in a cycle as the configuration's width; nothing is speculated, so later than the finish of
+-- each older branch.
 abbrev pub can_issue : Configuration → List Done → Step → ℕ → Bool
 can_issue config older s t =
     nat_lt 0 t && can_issue_another config older t && are_branches_finished older t
@@ -59,20 +59,20 @@ conflicts a b = shares_byte (bytes_of a) (bytes_of b) && (is_store a || is_store
 abbrev pub are_conflicts_finished : List Done → Step → ℕ → Bool
 are_conflicts_finished older s t = list_all (λ d. not (conflicts d.step s) || nat_lt d.at.finish t) older
 
--- a unit of the kind is left: each starts one operation in a cycle
+-- a unit of the kind is free: each starts one operation in a cycle
 abbrev pub has_unit : Configuration → List Done → UnitId → ℕ → Bool
 has_unit config older unit t =
     nat_lt (count_by (λ d. is_of unit (step_unit d.step) && d.at.start == t) older) (option_of config unit).units
 
--- Start. Tomasulo: once the operands have come over the common data bus and a unit is left. Hennessy and
--- Patterson: an access waits for older ones to its bytes, unless both are loads. This project: units are
--- pipelined, and the oldest operations are served first.
+-- Start. Tomasulo: after the operands have arrived on the common data bus, if a unit is free.
+-- Hennessy and Patterson: an access waits for older ones to its bytes, unless both are loads.
+-- This project: units are pipelined, and the oldest operations are served first.
 abbrev pub can_start : Configuration → List Done → Step → UnitId → ℕ → ℕ → ℕ → Bool
 can_start config older s unit issue address t =
     nat_lt issue t && nat_lt address t && has_operands older s t && are_conflicts_finished older s t
     && has_unit config older unit t
 
--- a bus is left
+-- a bus is free
 abbrev pub has_bus : Configuration → List Done → ℕ → Bool
 has_bus config older t =
     nat_lt (count_by (λ d. is_some (step_dest d.step) && d.at.end == t) older) config.buses
@@ -82,7 +82,7 @@ has_bus config older t =
 abbrev pub can_end : Configuration → List Done → ℕ → ℕ → Bool
 can_end config older finish t = nat_lt finish t && has_bus config older t
 
--- a result ends in the first cycle with a bus for it, and a step without a destination as it finishes
+-- a result ends in the first cycle with a bus for it; a step without a destination ends as it finishes
 abbrev pub EndsAfter : Configuration → List Done → Step → ℕ → ℕ → Type 0
 EndsAfter config older s finish end =
     MatchBool (is_some (step_dest s)) (IsLeast (can_end config older finish) end) (end ≡ finish)
@@ -105,7 +105,7 @@ pub record IsTimed (config : Configuration) (older : List Done) (s : Step) (at :
   pub end : MatchOption (step_unit s)
       (at.end ≡ at.issue)
       (λ unit. EndsAfter config older s at.finish at.end)
-  -- the free station of the least number
+  -- the free station with the least number
   pub station : MatchOption (step_pool s)
       (at.station ≡ None)
       (λ pool. (n : ℕ) × (at.station ≡ Some n) × IsLeast (is_free pool older at.issue) n)

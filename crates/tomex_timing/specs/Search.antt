@@ -1,4 +1,4 @@
--- The same times as a function: each is searched for up to a cycle in which nothing older is in the way any more.
+-- The same times as a function: each is searched for up to a cycle in which nothing older can block the step.
 use Rattle.std.specs.Prelude.{ℕ, zero, suc, ◌+◌, ◌-◌, Bool, if◌then◌else◌, List, []}
 use Rattle.std.specs.Prelude.{◌∷◌, Option, Some, None, is_some, map, reverse, max}
 use Rattle.tomex_rvdec.specs.declared.pool.PoolId.{PoolId}
@@ -12,7 +12,7 @@ use Rattle.tomex_timing.specs.History.{is_memory, cycle_of, greatest_end}
 use Rattle.tomex_timing.specs.Station.{is_free}
 use Rattle.tomex_timing.specs.Recurrence.{can_issue, can_address, can_start, can_end}
 
--- the first number from t on that passes, t + n where none before it does
+-- the first number from t on that passes; t + n if none before it does
 abbrev pub first_from : (ℕ → Bool) → ℕ → ℕ → ℕ
 first_from p t zero = t
 first_from p t (suc n) = if p t then t else first_from p (suc t) n
@@ -65,13 +65,13 @@ times_of config older s =
     let issue = issue_of config older s g in
     times_from config older s g issue (address_at older s issue g) (step_unit s)
 
--- steps, the youngest first, with their times
+-- the steps with their times, the youngest first
 abbrev pub timed_of : Configuration → List Step → List Done
 timed_of config [] = []
 timed_of config (s ∷ older) =
     record { step = s; at = times_of config (timed_of config older) s } ∷ timed_of config older
 
--- the history of a run, whose steps stand in program order
+-- the history of a run, whose steps are in program order
 abbrev pub history : Configuration → List Step → List Done
 history config steps = timed_of config (reverse steps)
 
@@ -79,7 +79,7 @@ history config steps = timed_of config (reverse steps)
 abbrev pub times_in : Configuration → List Step → List Times
 times_in config steps = map (λ d. d.at) (reverse (history config steps))
 
--- the cycles that a run takes: its greatest end, 0 of no steps
+-- the cycles that a run takes: its greatest end; 0 if it has no steps
 abbrev pub total_of : List Times → ℕ
 total_of [] = 0
 total_of (at ∷ ats) = max at.end (total_of ats)

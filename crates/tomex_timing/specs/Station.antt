@@ -6,11 +6,11 @@ use Rattle.tomex_steps.specs.Steps.{step_pool, is_in, is_number}
 use Rattle.tomex_config.specs.Configuration.{Configuration, stations_of}
 use Rattle.tomex_timing.specs.declared.times.Done.{Done}
 
--- the step still has a station of the pool in the cycle: one that ends in it gives it back after it
+-- the step still has a station of the pool in the cycle; if it ends in it, it frees the station after it
 abbrev pub is_held : PoolId → ℕ → Done → Bool
 is_held pool t d = is_in pool (step_pool d.step) && nat_le t d.at.end
 
--- a station of the pool is left
+-- a station of the pool is free
 abbrev pub has_station : Configuration → List Done → Option PoolId → ℕ → Bool
 has_station config older None t = true
 has_station config older (Some pool) t = nat_lt (count_by (is_held pool t) older) (stations_of config pool)

@@ -1,4 +1,4 @@
--- The tables after a cycle, of the history of a whole run: the busy stations, their fields, and the register status.
+-- The tables after a cycle, from the history of a whole run: the busy stations, their fields, and the register status.
 -- The fields are those of Hennessy and Patterson's tables: V and Q of both operands, A, and Qi of each register.
 use Rattle.std.specs.Prelude.{ℕ, nat_lt, nat_le, Bool, ◌&&◌, if◌then◌else◌}
 use Rattle.std.specs.Prelude.{List, [], ◌∷◌, ◌++◌, Option, Some, None, map}
@@ -14,7 +14,7 @@ use Rattle.tomex_timing.specs.declared.tables.Tag.{Tag}
 use Rattle.tomex_timing.specs.declared.times.Done.{Done}
 use Rattle.tomex_timing.specs.History.{is_memory, cycle_of}
 
--- what tables show of a machine after a cycle: the busy stations, and Qi of each register
+-- the content of tables after a cycle: the busy stations, and Qi of each register
 pub record Tables : Type 0 where
   pub cycle : ℕ
   pub busy : List Busy
@@ -27,11 +27,11 @@ tag_at _ _ = None
 abbrev pub tag_of : Done → Option Tag
 tag_of d = tag_at (step_pool d.step) d.at.station
 
--- the station that holds its result back after cycle t
+-- the station whose result isn't sent yet after cycle t
 abbrev pub unsent_tag : ℕ → Done → Option Tag
 unsent_tag t d = if nat_lt t d.at.end then tag_of d else None
 
--- the station that a register's value is still to come from, where its youngest writer among these hasn't ended
+-- the station that a register's value will come from, if its youngest writer among these hasn't ended
 abbrev pub producer : ℕ → List Done → ℕ → Option Tag
 producer t [] r = None
 producer t (d ∷ older) r = if is_number (step_dest d.step) r then unsent_tag t d else producer t older r
@@ -64,7 +64,7 @@ busy_of t tag d older = record {
   a = a_of t d;
 }
 
--- what a station shows, where it is busy
+-- the fields of a station, if it is busy
 abbrev pub shown : ℕ → List Done → Tag → Option Busy
 shown t [] tag = None
 shown t (d ∷ older) tag =
@@ -72,7 +72,7 @@ shown t (d ∷ older) tag =
     then Some (busy_of t tag d older)
     else shown t older tag
 
--- Qi: the station of the register's youngest issued writer, where that one hasn't ended
+-- Qi: the station of the register's youngest issued writer, if that one hasn't ended
 abbrev pub qi_of : ℕ → List Done → ℕ → Option Tag
 qi_of t [] r = None
 qi_of t (d ∷ older) r =

@@ -15,22 +15,22 @@ pub(crate) struct Access {
     pub finish: u64,
 }
 
-/// Whether two accesses share a byte.
+/// True if two accesses share a byte.
 fn shares_byte(a: ByteRange, b: ByteRange) -> bool
     ensures { result ≡ shares_byte (Some a) (Some b) }
 {
     a.from < b.to && b.from < a.to
 }
 
-/// Whether a step that touches these bytes conflicts with an older access: it shares a byte with it, and one of the
-/// two is a store.
+/// True if a step that touches these bytes conflicts with an older access: it shares a byte with it, and one of the two
+/// is a store.
 fn conflicts(older: &Access, bytes: ByteRange, is_store: bool) -> bool
     ensures { result ≡ access_conflicts older.now (Some bytes) is_store }
 {
     (older.is_store || is_store) && shares_byte(older.bytes, bytes)
 }
 
-/// The cycle, or the one after the finish where that is to be waited for and later.
+/// The cycle, or the one after `finish` if that is later and has to be waited for.
 fn later(cycle: u64, waits: bool, finish: u64) -> u64
     requires small { finish < 2 ^ 63 }
     ensures past { (t : ℕ) → nat_le result t ≡ (nat_le cycle t && (not waits || nat_lt finish t)) }

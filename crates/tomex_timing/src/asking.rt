@@ -1,4 +1,4 @@
-//! A run's next step timed, noted and kept in one walk, for what a run asks of a configuration's parts.
+//! One walk that times, notes and keeps a run's next step, for the demands of the run.
 
 ghost use Rattle.std.specs.Prelude.{◌≡◌, ℕ, ◌+◌, ◌-◌, ◌^◌, ◌<◌, ◌≤◌, ◌&&◌, ◌==◌, Some, IfOk, is_some, max};
 ghost use Rattle.std.specs.Prelude.{if◌then◌else◌};
@@ -23,8 +23,8 @@ use tomex_config::Config;
 use tomex_reservations::{BUSES, ReservationTable, Room};
 use tomex_rvdec::{PoolId, UnitId};
 
-/// What an operation takes of the cycles ahead: a unit as it starts, and a bus as its result ends. Without a result it
-/// ends as it finishes.
+/// The slots that an operation takes in later cycles: a unit as it starts, and a bus as its result ends. Without a
+/// result it ends as it finishes.
 #[derive(Clone, Copy)]
 struct Slots {
     start: Room,
@@ -32,8 +32,8 @@ struct Slots {
     end: Room,
 }
 
-/// A step's issue: the cycle from which on it lacks no slot and no branch, the cycle of its issue, how many issue in it
-/// up to this one, its station's number in its pool, and its address cycle.
+/// A step's issue: the first cycle in which it waits for neither a slot nor a branch, the cycle of its issue, the
+/// number of steps that issue in it up to this one, its station's number in its pool, and its address cycle.
 #[derive(Clone, Copy)]
 struct Issued {
     from: u64,
@@ -43,7 +43,7 @@ struct Issued {
     address: Option<u64>,
 }
 
-/// Takes a bus for a result, and notes it.
+/// Takes a bus for a result and notes it.
 #[inline(always)]
 fn take_bus<A: Allocator>(
     table: &mut ReservationTable<A>,
@@ -77,7 +77,7 @@ fn take_bus<A: Allocator>(
     }
 }
 
-/// Takes what an operation takes of the cycles ahead from the first in which it may start, and notes it.
+/// Takes a unit and a bus for an operation, from the first cycle in which it may start, and notes them.
 #[inline(always)]
 fn take_slots<A: Allocator>(
     table: &mut ReservationTable<A>,
@@ -149,8 +149,7 @@ fn address_after(latest: &Latest, base: u64, issue: u64) -> u64
     issue.max(base).max(latest.address) + 1
 }
 
-/// The rest of an operation that has issued: its start, finish and end, which are noted. The step is kept, except as
-/// an access.
+/// Completes an operation that has issued: notes its start, finish and end, and keeps the step, except as an access.
 #[inline(always)]
 fn run_issued<A: Allocator>(
     window: &mut Window<A>,
@@ -228,7 +227,7 @@ fn run_issued<A: Allocator>(
     })
 }
 
-/// A next step that takes a station and a unit.
+/// Times, notes and keeps a next step that takes a station and a unit.
 #[inline(always)]
 pub(crate) fn ask_operation<A: Allocator>(
     window: &mut Window<A>,
@@ -267,7 +266,7 @@ pub(crate) fn ask_operation<A: Allocator>(
         address: None,
     };
     note_issue(demands, latest, pool, &issued);
-    // Two calls, so that an operation that touches no memory asks nothing of accesses.
+    // Two calls, so that an operation without an access reads no accesses.
     let Some(_) = facts.bytes else {
         return run_issued(window, demands, config, facts, pool, unit, issued);
     };
@@ -289,7 +288,7 @@ pub(crate) fn ask_operation<A: Allocator>(
     Ok(next)
 }
 
-/// Any other next step. There are few.
+/// Times, notes and keeps any other next step. There are few.
 #[cold]
 #[inline(never)]
 pub(crate) fn ask_rest<A: Allocator>(

@@ -1,4 +1,4 @@
-//! What a run asks of a configuration's parts: how much at once, and whether that was enough.
+//! The demands of a run on a configuration's parts: how much at once, and whether that was enough.
 
 ghost use Rattle.std.specs.Prelude.{◌≡◌};
 ghost use Rattle.tomex_timing.specs.Demands.{demand_after, demand_of, demands_after, nothing_asked};
@@ -9,14 +9,14 @@ use crate::waiting::Taken;
 use crate::window::Facts;
 use tomex_rvdec::{PoolId, UnitId};
 
-/// The most that a run takes of a part at once, and whether any step waits for it. `Need` says for how long.
+/// The most that a run takes of a part at once, and whether any step waits for it. `Need` has the number of cycles.
 #[derive(Clone, Copy, Debug, PartialEq, Eq)]
 pub struct Demand {
     pub peak: u64,
     pub waits: bool,
 }
 
-/// What a run on a configuration asks of its parts, and the cycles that it takes.
+/// The demands of a run on a configuration's parts, and the cycles that it takes.
 #[derive(Clone, Copy, Debug, PartialEq, Eq)]
 pub struct Demands {
     /// In the order of `PoolId::ALL` and of `UnitId::ALL`.
@@ -29,8 +29,8 @@ pub struct Demands {
 }
 
 impl Demand {
-    /// Notes a step that takes that much of the part at once and waits for it for that many cycles.
-    // Both are rare, so that a step costs two comparisons.
+    /// Notes a step that takes `taken` of the part at once and waits `waited` cycles for it.
+    // Both branches are rare, so that a step costs two comparisons.
     #[inline(always)]
     pub(crate) fn note(&mut self, taken: u64, waited: u64)
         ensures { self.new ≡ demand_after self.old taken waited }
@@ -54,7 +54,7 @@ fn note_station(demands: &mut [Demand; 6], pool: Option<PoolId>, taken: u64, wai
     }
 }
 
-/// The same of its kind of unit.
+/// Notes what a step takes of its kind of unit, and how long it waits for it.
 #[inline(always)]
 fn note_unit(demands: &mut [Demand; 5], unit: Option<UnitId>, taken: u64, waited: u64)
     ensures { demands.new ≡ units_asked unit taken waited demands.old }
@@ -65,7 +65,7 @@ fn note_unit(demands: &mut [Demand; 5], unit: Option<UnitId>, taken: u64, waited
 }
 
 impl Demands {
-    /// Of no steps.
+    /// The demands of no steps.
     pub(crate) fn none() -> Demands
         ensures { result ≡ nothing_asked }
     {

@@ -23,9 +23,8 @@ use tomex_rvexec::Step;
 
 /// The times of a run's steps on a configuration, in program order.
 ///
-/// The work is linear in the steps: of those before only what may still be in the way is kept. A cycle
-/// is at most 67 times the number of steps, so fewer than 2^56 of them, more than a memory holds, keep
-/// every cycle within 64 bits.
+/// The work is linear in the steps: of the earlier ones only what may still block a step is kept. A cycle is at most 67
+/// times the number of steps, so fewer than 2^56 of them, more than a memory holds, keep every cycle within 64 bits.
 pub fn times<A: Allocator + Clone>(
     alloc: A,
     steps: &[Step],
@@ -49,7 +48,7 @@ pub fn times<A: Allocator + Clone>(
     Ok(result)
 }
 
-/// In how many cycles each step of a run waits on a configuration, in program order.
+/// The cycles that each step of a run waits on a configuration, in program order.
 ///
 /// The work is that of `times`.
 pub fn waits<A: Allocator + Clone>(
@@ -75,10 +74,10 @@ pub fn waits<A: Allocator + Clone>(
     Ok(result)
 }
 
-/// What a run's steps take of a configuration's parts, and how long they wait for them.
+/// The needs of a run's steps: what they take of a configuration's parts, and how long they wait for them.
 ///
-/// The work is that of `times`. Stalls grow with the square of the steps: fewer than 2^28 of them, of
-/// at most 67 cycles each, keep every sum within 64 bits.
+/// The work is that of `times`. Stalls grow with the square of the steps: fewer than 2^28 of them, of at most 67 cycles
+/// each, keep every sum within 64 bits.
 pub fn needs<A: Allocator>(alloc: A, steps: &[Step], config: &Config) -> Result<Needs, AllocError>
     requires few { length steps.now < 2 ^ 28 }
     ensures exact { IfOk result (λ n. AreNeeds config.now (history config.now steps.now) n) }
@@ -111,8 +110,7 @@ pub(crate) fn needs_of<A: Allocator>(
     Ok(needs)
 }
 
-/// What the run whose steps have these facts asks of a configuration's parts. It adds nothing up: of a wait it notes
-/// that there is one.
+/// The demands of the run whose steps have these facts. Waits are not added up: only whether there is one is noted.
 pub(crate) fn demands_of<A: Allocator>(
     alloc: &A,
     facts: &[Facts],
@@ -137,7 +135,7 @@ pub(crate) fn demands_of<A: Allocator>(
     Ok(demands)
 }
 
-/// The cycles that a run takes: the greatest end of its steps, 0 of none.
+/// The cycles that a run takes: the greatest end of its steps; 0 if there are none.
 pub fn total(times: &[Times]) -> u64
     ensures { result ≡ total_of times.now }
 {

@@ -35,26 +35,26 @@ pub fn total_is_the_greatest_end()
     ensures { TotalIsGreatestEnd }
 {}
 
-/// What comes later in a run changes no times of what is older.
+/// Later steps of a run change no times of older ones.
 pub fn younger_steps_change_nothing()
     ensures { YoungerChangeNothing }
 {}
 
-/// At an issue width of one an instruction issues later than the one before it, and the width asks
-/// nothing else.
+/// At an issue width of one an instruction issues later than the one before it, and the width
+/// requires nothing else.
 pub fn issues_alone_at_width_one()
     ensures test { IssuesAlone }
     ensures rise { IssuesRise }
 {}
 
-/// Instructions issue in program order, and in no cycle more of them than the issue width.
+/// Instructions issue in program order, and in each cycle at most as many as the issue width.
 pub fn issues_fit_the_width()
     ensures order { IssuesStandInOrder }
     ensures few { IssuesFitTheWidth }
 {}
 
-/// What uses a unit issues before it starts, starts no later than it finishes, and finishes no later
-/// than it ends. Addresses are computed in program order.
+/// An operation with a unit issues before it starts, starts no later than it finishes, and finishes no later than it
+/// ends. Addresses are computed in program order.
 pub fn times_stand_in_order()
     ensures reach { TimesAreInReach }
     ensures start { StartsComeLater }
@@ -76,9 +76,9 @@ pub fn accesses_of_one_byte_wait()
     ensures wait { ConflictsAreFinished }
 {}
 
-/// A run takes all of each part that it waits for, and a second configuration gives it the same times where that
-/// part is as many on both, each other part is no fewer than the run takes of it at once, and each kind
-/// of unit that it uses has the same latency.
+/// A run takes all of each part that it waits for, and a second configuration gives it the same times if it has as many
+/// of that part, at least as many of each other part as the run takes of it at once, and the same latency of each kind
+/// of unit that the run uses.
 pub fn parts_without_stalls_may_differ()
     ensures peak { PeakIsWithin }
     ensures full { StalledPartsAreFull }

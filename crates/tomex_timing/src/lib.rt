@@ -1,10 +1,9 @@
-//! When each step of a run issues, gets its address, starts, finishes and ends on a Tomasulo machine
+//! The times at which each step of a run issues, gets its address, starts, finishes and ends on a Tomasulo machine
 //! without speculation: a recurrence over the steps of the in-order run, and its evaluation.
 //!
-//! Sources: R. M. Tomasulo, "An Efficient Algorithm for Exploiting Multiple Arithmetic Units", 1967,
-//! and the chapter on Tomasulo's algorithm in Hennessy and Patterson's "Computer Architecture: A
-//! Quantitative Approach". `specs/Recurrence.antt` is the definition; `specs/Tables.antt` says what
-//! stations and registers show after a cycle.
+//! Sources: R. M. Tomasulo, "An Efficient Algorithm for Exploiting Multiple Arithmetic Units", 1967, and the chapter on
+//! Tomasulo's algorithm in Hennessy and Patterson's "Computer Architecture: A Quantitative Approach".
+//! `specs/Recurrence.antt` is the definition; `specs/Tables.antt` says what stations and registers show after a cycle.
 #![tactic(auto)]
 
 mod accesses;

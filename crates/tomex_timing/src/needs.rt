@@ -1,4 +1,5 @@
-//! What a run takes of a configuration's parts, and how long its steps wait for each of them.
+//! The needs of a run: what it takes of a configuration's parts, and how long its steps wait for
+//! each of them.
 
 ghost use Rattle.std.specs.Prelude.{◌≡◌, ◌+◌, ◌-◌, ◌^◌, ◌<◌, ◌≤◌, slice_index_or};
 ghost use Rattle.tomex_rvdec.specs.Parts.{place_of_pool, place_of_unit};
@@ -15,7 +16,7 @@ use crate::window::Facts;
 use tomex_config::Config;
 use tomex_rvdec::{PoolId, UnitId};
 
-/// What a run on a configuration takes of its parts, and how long its steps wait for them, in cycles.
+/// The needs of a run on a configuration: what it takes of the parts, and how long its steps wait for them, in cycles.
 #[derive(Clone, Copy, Debug, PartialEq, Eq)]
 pub struct Needs {
     /// In the order of `PoolId::ALL` and of `UnitId::ALL`.
@@ -23,20 +24,21 @@ pub struct Needs {
     pub units: [Need; 5],
     pub buses: Need,
     pub width: Need,
-    /// In how many cycles steps wait for what is no part: to issue for older branches, and to start for
-    /// an operand, for an address and for older accesses.
+    /// The cycles in which steps wait for something other than a part: to issue, for older branches; to start, for an
+    /// operand, for an address and for older accesses.
     pub branch: u64,
     pub operand: u64,
     pub address: u64,
     pub memory: u64,
-    /// The last step's issue, 0 of no steps.
+    /// The last step's issue; 0 if there are no steps.
     pub last_issue: u64,
     /// The cycles of the run.
     pub total: u64,
 }
 
 impl Need {
-    /// After one more step, which takes so much of the part at once and waits so long for it.
+    /// The need after one more step, which takes `taken` of the part at once and waits `waited`
+    /// cycles for it.
     fn after(self, taken: u64, waited: u64) -> Need
         requires small { self.stalls + waited < 2 ^ 64 }
         ensures { result ≡ need_after self taken waited }
@@ -61,7 +63,7 @@ fn note_station(needs: &mut [Need; 6], pool: Option<PoolId>, taken: u64, waited:
     }
 }
 
-/// The same of its kind of unit.
+/// Notes what a step takes of its kind of unit, and how long it waits for it.
 fn note_unit(needs: &mut [Need; 5], unit: Option<UnitId>, taken: u64, waited: u64)
     requires needs { (u : UnitId)
         → (slice_index_or needs.old (place_of_unit u) no_need).stalls ≤ 2 ^ 63 }
@@ -75,7 +77,7 @@ fn note_unit(needs: &mut [Need; 5], unit: Option<UnitId>, taken: u64, waited: u6
 }
 
 impl Needs {
-    /// Of no steps.
+    /// The needs of no steps.
     pub(crate) fn none() -> Needs
         ensures { result ≡ nothing_needed }
     {
@@ -113,7 +115,7 @@ impl Needs {
         self.total.saturating_sub(self.last_issue)
     }
 
-    /// Whether a part may be as many as on another configuration.
+    /// True if the count of a part may be that of the other configuration.
     fn allows(&self, part: Part, own: &Config, other: &Config) -> bool
         ensures { result ≡ allows self.now own.now other.now part }
     {
@@ -122,8 +124,8 @@ impl Needs {
         part.count(own) == count || (need.stalls == 0 && need.peak <= count)
     }
 
-    /// Whether these needs, of a run on its own configuration, tell that each step of the run has the same times on
-    /// another configuration. Then the run's total there is `total`.
+    /// True if these needs, of a run on its own configuration, show that each step of the run has the same times on the
+    /// other configuration. Then the run's total there is `total`.
     pub fn suffice(&self, own: &Config, other: &Config) -> bool
         ensures { result ≡ suffice self.now own.now other.now }
     {

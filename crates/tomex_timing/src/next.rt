@@ -1,4 +1,4 @@
-//! The times of the next step, by what is kept of those before.
+//! The times of the next step, given what is kept of the earlier ones.
 
 ghost use Rattle.std.specs.Prelude.{◌≡◌, ℕ, ◌+◌, ◌-◌, ◌^◌, ◌<◌, ◌≤◌, None, max, IfSome, slice_index};
 ghost use Rattle.tomex_config.specs.Configuration.{IsWithinLimits, option_of};
@@ -16,8 +16,7 @@ use tomex_config::Config;
 use tomex_reservations::{BUSES, ReservationTable, Room, Stations};
 use tomex_rvdec::PoolId;
 
-/// The cycles from which on a next step lacks one thing less. Without a unit it lacks nothing from its
-/// issue on.
+/// The cycles from which on a next step waits for one thing less. Without a unit it waits for nothing after its issue.
 #[derive(Clone, Copy)]
 pub(crate) struct Marks {
     /// With a slot to issue in, and each older branch finished.
@@ -25,12 +24,12 @@ pub(crate) struct Marks {
     pub operands: u64,
     /// With its address too.
     pub ready: u64,
-    /// And with no older access in its way.
+    /// Also with no older access that blocks it.
     pub clear: u64,
 }
 
-/// The times of a next step, the marks between its waits, and how many units of its kind and how many
-/// buses are taken with its own: 0 where it takes none.
+/// The times of a next step, the marks between its waits, and how many units of its kind and how many buses are taken,
+/// including its own: 0 if it takes none.
 #[derive(Clone, Copy)]
 pub(crate) struct Next {
     pub at: Times,
@@ -39,8 +38,8 @@ pub(crate) struct Next {
     pub buses: u64,
 }
 
-/// The end of the producer of what a register holds, 0 without a register.
-// Without one it is x0's, so that no jump depends on it.
+/// The end of the producer of a register's content; 0 without a register.
+// Without a register it reads x0's, so that no jump depends on it.
 pub(crate) fn end_of(latest: &Latest, register: Option<u8>) -> u64
     requires register { IfSome register (λ r. r < 32) }
     requires zero { slice_index latest.now.ends 0 ≡ 0 }
@@ -49,7 +48,7 @@ pub(crate) fn end_of(latest: &Latest, register: Option<u8>) -> u64
     latest.ends[usize::from(register.unwrap_or(0))]
 }
 
-/// The first cycle that is in program order, with room for an issue, and later than each branch's
+/// The first cycle that is in program order, has room for an issue, and is later than each branch's
 /// finish.
 pub(crate) fn issue_from(config: &Config, latest: &Latest) -> u64
     requires issue { latest.now.issue ≤ latest.now.end }

@@ -6,8 +6,8 @@ ghost use Rattle.tomex_timing.specs.Needs.{count_of};
 use tomex_config::Config;
 use tomex_rvdec::{PoolId, UnitId};
 
-/// A part of a machine that a configuration has a count of: the stations of a pool, the units of a kind, the
-/// common data buses, and how many instructions issue in a cycle.
+/// A part of a machine whose count a configuration gives: the stations of a pool, the units of a kind, the common data
+/// buses, and how many instructions issue in a cycle.
 #[derive(Clone, Copy, Debug, PartialEq, Eq)]
 pub enum Part {
     Stations(PoolId),
@@ -34,7 +34,7 @@ impl Part {
         Part::Width,
     ];
 
-    /// How many of it a configuration has.
+    /// The number of these that a configuration has.
     pub fn count(self, config: &Config) -> u64
         ensures { result ≡ count_of config.now self }
     {
@@ -47,15 +47,15 @@ impl Part {
     }
 }
 
-/// What a run takes of a part at once at most, and in how many cycles its steps wait for it: two that
-/// wait in one cycle count twice.
+/// The most that a run takes of a part at once, and the cycles that its steps wait for it: two that wait in one cycle
+/// count twice.
 #[derive(Clone, Copy, Debug, PartialEq, Eq)]
 pub struct Need {
     pub peak: u64,
     pub stalls: u64,
 }
 
-/// In how many cycles a step waits, by the first thing that it lacks in each of them.
+/// The cycles that a step waits, each charged to the first thing that is missing in it.
 #[derive(Clone, Copy, Debug, PartialEq, Eq)]
 pub struct Waits {
     /// To issue: for an older branch's finish, for the width, for a station of its pool.

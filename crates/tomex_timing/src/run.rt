@@ -1,4 +1,4 @@
-//! A run whose steps have been read once for all the configurations on which it is timed.
+//! A run whose steps are read only once for all the configurations on which it is timed.
 
 ghost use Rattle.std.specs.Prelude.{◌≡◌, ◌<◌, ◌^◌, length, IfOk};
 ghost use Rattle.tomex_timing.specs.Demands.{AreDemands};
@@ -42,14 +42,14 @@ impl<A: Allocator> Run<A> {
         Ok(Run { steps, facts })
     }
 
-    /// Its steps, in program order.
+    /// The steps of the run, in program order.
     pub fn steps(&self) -> &[Step]
         ensures { result.now ≡ self.now }
     {
         self.steps.as_slice()
     }
 
-    /// What its steps take of a configuration's parts, and how long they wait for them: `evaluate::needs` of them.
+    /// The needs of the run's steps on a configuration: `evaluate::needs` of these steps.
     pub fn needs(&self, alloc: &A, config: &Config) -> Result<Needs, AllocError>
         requires few { length self.now < 2 ^ 28 }
         ensures exact { IfOk result (λ n. AreNeeds config.now (history config.now self.now) n) }
@@ -57,8 +57,8 @@ impl<A: Allocator> Run<A> {
         needs_of(alloc, &self.facts, config)
     }
 
-    /// What its steps ask of a configuration's parts: of its needs no more than which parts are waited for, and the
-    /// peaks. It takes less work.
+    /// The demands of the run's steps on a configuration: of its needs only which parts are waited for, and the peaks.
+    /// This takes less work.
     pub fn demands(&self, alloc: &A, config: &Config) -> Result<Demands, AllocError>
         requires few { length self.now < 2 ^ 28 }
         ensures exact { IfOk result (λ d. AreDemands config.now (history config.now self.now) d) }

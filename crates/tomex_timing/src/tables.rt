@@ -1,4 +1,4 @@
-//! What the tables after a cycle show of stations and registers.
+//! The tables after a cycle: what they show of stations and registers.
 
 ghost use Rattle.std.specs.Prelude.{◌≡◌};
 
@@ -12,7 +12,7 @@ pub struct Tag {
     pub number: u8,
 }
 
-/// What a station shows of an operand: V, or Q, or neither where the instruction doesn't read it.
+/// A station's field for an operand: V, or Q, or neither if the instruction doesn't read it.
 #[derive(Clone, Copy, Debug, PartialEq, Eq)]
 pub enum Field {
     Value(u32),
@@ -20,7 +20,7 @@ pub enum Field {
     Unread,
 }
 
-/// What a busy station shows. A is there for loads and stores.
+/// The fields of a busy station. Only loads and stores have A.
 #[derive(Clone, Copy, Debug, PartialEq, Eq)]
 pub struct Busy {
     pub tag: Tag,
@@ -68,7 +68,7 @@ impl Tables {
         }
     }
 
-    /// The cycle after which they are.
+    /// The cycle after which the tables are taken.
     pub fn cycle(&self) -> u64
         ensures { result ≡ self.now.cycle }
     {

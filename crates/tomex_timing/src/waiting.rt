@@ -1,4 +1,4 @@
-//! How long a next step waits, and what it takes.
+//! The waits of a next step, and what it takes.
 
 ghost use Rattle.std.specs.Prelude.{◌≡◌, ◌^◌, ◌<◌};
 ghost use Rattle.tomex_timing.specs.Waiting.{waits_by, taken_from};
@@ -7,9 +7,8 @@ use crate::next::Next;
 use crate::part::Waits;
 use crate::window::Latest;
 
-/// What one step takes of each part, with what others take of it at the same time: the stations up to
-/// its own, the operations that start with it, the results that end with it, the steps that issue with
-/// it.
+/// The amount of each part that one step takes, including what others take of it at the same time: the stations up to
+/// its own, the operations that start with it, the results that end with it, the steps that issue with it.
 #[derive(Clone, Copy)]
 pub(crate) struct Taken {
     pub station: u64,
@@ -18,7 +17,7 @@ pub(crate) struct Taken {
     pub width: u64,
 }
 
-/// How long a next step waits for each thing.
+/// The cycles that a next step waits for each thing.
 pub(crate) fn waits_of(latest: &Latest, next: &Next) -> Waits
     requires branch { latest.now.branch < 2 ^ 63 }
     ensures { result ≡ waits_by latest.now next.now.marks next.now.at }
@@ -39,7 +38,7 @@ pub(crate) fn waits_of(latest: &Latest, next: &Next) -> Waits
     }
 }
 
-/// What a next step takes of each part.
+/// The amount of each part that a next step takes.
 pub(crate) fn taken_by(latest: &Latest, next: &Next) -> Taken
     requires few { latest.now.issued < 2 ^ 63 }
     ensures { result ≡ taken_from latest.now next.now }

@@ -1,4 +1,5 @@
-//! What the evaluator keeps of the steps before: what is latest, and what may still be in the way of a next one.
+//! The evaluator's record of the earlier steps: the latest of each kind of cycle, and everything that may still block a
+//! next step.
 
 ghost use Rattle.std.specs.Prelude.{◌≡◌, ◌<◌, ◌≤◌, ◌^◌, ◌+◌, ◌==◌, if◌then◌else◌, [], replicate, IfOk, IfSome};
 ghost use Rattle.std.specs.Option.{ForSome};
@@ -12,7 +13,7 @@ use tomex_reservations::{BUSES, ReservationTable, Stations};
 use tomex_rvdec::{PoolId, UnitId};
 use tomex_rvexec::{ByteRange, Operand, Step};
 
-/// What the recurrence reads of a step, taken from its instruction once.
+/// The facts that the recurrence reads of a step, taken from its instruction only once.
 #[derive(Clone, Copy, Debug)]
 pub(crate) struct Facts {
     pub pool: Option<PoolId>,
@@ -26,13 +27,13 @@ pub(crate) struct Facts {
     pub is_branch: bool,
 }
 
-/// The latest of each kind of cycle so far, 0 where there is none.
+/// The latest of each kind of cycle so far; 0 if there is none.
 #[derive(Clone, Copy)]
 pub(crate) struct Latest {
     /// The end of each register's youngest writer.
     pub ends: [u64; 32],
     pub issue: u64,
-    /// How many issued in that cycle.
+    /// The number of steps that issued in that cycle.
     pub issued: u64,
     /// The latest finish of a branch.
     pub branch: u64,
@@ -41,7 +42,8 @@ pub(crate) struct Latest {
     pub end: u64,
 }
 
-/// All that is kept. No list of steps is: each question about them is a look at one of these.
+/// All that is kept. There is no list of steps: each question about them is answered from one of
+/// these fields.
 #[derive(Drop)]
 pub(crate) struct Window<A: Allocator> {
     pub latest: Latest,
@@ -94,7 +96,7 @@ pub(crate) fn facts_of<A: Allocator>(alloc: A, steps: &[Step]) -> Result<Vec<Fac
 }
 
 impl Latest {
-    /// Before the first step.
+    /// No cycles: the state before the first step.
     pub fn none() -> Latest
         ensures { result ≡ nothing_yet }
     {
@@ -108,7 +110,7 @@ impl Latest {
         }
     }
 
-    /// How many issue in a cycle with one that issues in it next.
+    /// The number of steps that issue in `cycle`, including one that issues in it next.
     #[inline(always)]
     pub fn issued_in(&self, cycle: u64) -> u64
         requires { self.now.issued < 2 ^ 63 }
@@ -132,7 +134,7 @@ impl Latest {
         self.note_issued(facts, at, issued);
     }
 
-    /// The same, by how many issue in the cycle of its issue.
+    /// Notes a step with its times, given how many steps issue in the cycle of its issue.
     #[inline(always)]
     pub fn note_issued(&mut self, facts: &Facts, at: &Times, issued: u64)
         requires register { IfSome facts.now.dest (λ r. r < 32) }
@@ -154,7 +156,7 @@ impl Latest {
     }
 }
 
-/// Notes what a step takes in the cycles ahead: a unit as it starts, and a bus as its result ends.
+/// Notes what a step takes in later cycles: a unit as it starts, and a bus as its result ends.
 #[inline(always)]
 fn reserve<A: Allocator>(
     table: &mut ReservationTable<A>,
@@ -174,7 +176,7 @@ fn reserve<A: Allocator>(
     Ok(())
 }
 
-/// Keeps an access, and of those before the ones that finish no earlier than it issues.
+/// Keeps an access, and of the earlier ones those that finish no earlier than it issues.
 #[inline(always)]
 pub(crate) fn keep_access<A: Allocator>(
     accesses: &mut Vec<Access, A>,
@@ -196,7 +198,7 @@ pub(crate) fn keep_access<A: Allocator>(
 }
 
 impl<A: Allocator> Window<A> {
-    /// Before the first step. Its memory is of the two allocators.
+    /// The state before the first step, with memory from the two allocators.
     pub fn new(table: A, accesses: A) -> Window<A>
         ensures latest { result.latest ≡ nothing_yet }
         ensures table { result.table ≡ record { base = 0; slots = [] } }

@@ -1,4 +1,4 @@
-//! What `all` prints.
+//! The command `all`.
 ghost use Rattle.std.specs.Prelude.{IfOk, IfErr};
 ghost use Rattle.tomex_command.specs.FrontLines.{IsFrontOf, IsAllFailure};
 ghost use Rattle.tomex_report.specs.declared.front_view.FrontView.TheVariants.{Report};
@@ -12,7 +12,7 @@ use tomex_command_line::AllLine;
 use tomex_report::answer_all_under;
 use tomex_streams::{Files, Meter};
 
-/// The text that `all` prints. It never tells that a thread was refused.
+/// The text that `all` prints. It never reports a refused thread.
 pub fn text_of_all<
     R: Threads + Sync,
     F: Files,

@@ -1,4 +1,4 @@
-//! What `animate` prints.
+//! The command `animate`.
 ghost use Rattle.std.specs.Prelude.{IfOk, IfErr};
 ghost use Rattle.tomex_command.specs.AnimateLines.{IsAnimateOf, IsAnimateFailure};
 
@@ -10,7 +10,7 @@ use tomex_animate::animation;
 use tomex_command_line::AnimateLine;
 use tomex_streams::Files;
 
-/// The page that `animate` prints. The cycle is the last that is looked at.
+/// The page that `animate` prints. The cycle is tested last.
 pub fn text_of_animate<F: Files, A: Allocator + Clone>(
     alloc: A,
     heap: Global,

@@ -1,4 +1,4 @@
-//! What `explain` prints.
+//! The command `explain`.
 ghost use Rattle.std.specs.Prelude.{IfOk, IfErr, option_map, string_bytes};
 ghost use Rattle.tomex_command.specs.ExplainLines.{IsExplanation, IsExplainFailure};
 

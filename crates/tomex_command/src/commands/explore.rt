@@ -1,4 +1,4 @@
-//! What the commands that explore a study print: its front, as a report, as a table or as a picture.
+//! The commands that explore a study: its front, as a report, as a table or as a picture.
 ghost use Rattle.std.specs.Prelude.{◌≤◌, map, IfOk, IfErr};
 ghost use Rattle.tomex_report.specs.Answer.{IsAnswerRefusal, IsShown};
 ghost use Rattle.tomex_command.specs.FrontLines.{IsFrontOf, IsExploreFailure};
@@ -14,7 +14,7 @@ use tomex_report::{AnswerError, Crew, FrontView, answer, answer_shown};
 use tomex_streams::{Files, Meter};
 use tomex_sweep::Gate;
 
-/// The front of a study, which workers explore, shown.
+/// Explores the study with workers and renders its front.
 fn shown<R: Threads + Wait + Sync, A: Allocator + Clone + Send + Sync + Drop, G: Gate + Sync>(
     rt: &R,
     alloc: A,
@@ -38,7 +38,7 @@ fn shown<R: Threads + Wait + Sync, A: Allocator + Clone + Send + Sync + Drop, G:
     }
 }
 
-/// The front of a study, shown: what `explore` prints, `front` and `plot`.
+/// The front of a study in the line's view, as `explore`, `front` and `plot` print it.
 pub fn text_of_front<
     R: Threads + Wait + Sync,
     F: Files,

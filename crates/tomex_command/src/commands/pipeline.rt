@@ -1,4 +1,4 @@
-//! What `pipeline` prints.
+//! The command `pipeline`.
 ghost use Rattle.std.specs.Prelude.{IfOk, IfErr};
 ghost use Rattle.tomex_command.specs.PipelineLines.{IsPipelineOf, IsPipelineFailure};
 
@@ -11,8 +11,8 @@ use tomex_konata::konata_text;
 use tomex_run_views::pipeline_text;
 use tomex_streams::Files;
 
-/// The text that `pipeline` prints, a picture or a log. The step is looked for after the program, and last the size
-/// of a picture.
+/// The text that `pipeline` prints, a picture or a log. The step is looked up after the program, and the size of a
+/// picture is tested last.
 pub fn text_of_pipeline<F: Files, A: Allocator + Clone>(
     alloc: A,
     heap: Global,

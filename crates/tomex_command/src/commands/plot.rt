@@ -1,4 +1,4 @@
-//! What `plot` prints.
+//! The command `plot`.
 ghost use Rattle.std.specs.Prelude.{IfOk, IfErr};
 ghost use Rattle.tomex_command.specs.SurveyLines.{IsPlotFailure, IsPlotOf};
 

@@ -7,7 +7,8 @@ use crate::failure::Failure;
 use std::alloc::{AllocError, Allocator, Global};
 use tomex_streams::{Files, ReadFault};
 
-/// Why a file was not read. Out of memory only if there was none for its bytes, or for its name.
+/// The failure for a file that was not read: out of memory only if there was none for its bytes, or
+/// for its name.
 fn unread(fault: ReadFault, name: Result<String, AllocError>) -> Failure
     ensures named { IfOk name (λ name. result ≡ unread_as fault name) }
     ensures unnamed { OnErr name (result ≡ Failure.Memory) }

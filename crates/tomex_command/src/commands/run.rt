@@ -1,4 +1,4 @@
-//! What `run` prints.
+//! The command `run`.
 ghost use Rattle.std.specs.Prelude.{IfOk, IfErr, IsErrOf};
 ghost use Rattle.tomex_image.specs.Window.{IsWindow};
 ghost use Rattle.tomex_command.specs.RunLines.{IsRunOf, IsRunFailure};

@@ -1,4 +1,4 @@
-//! What the commands on all rows of a study print.
+//! The text of the commands on all rows of a study.
 ghost use Rattle.std.specs.Prelude.{IfOk, IfErr};
 ghost use Rattle.tomex_command.specs.SurveyLines.{IsSurveyFailure, IsSurveyOf};
 
@@ -11,7 +11,7 @@ use tomex_command_line::ExploreLine;
 use tomex_report::{Crew, SurveyView, answer_survey};
 use tomex_streams::{Files, Meter};
 
-/// What is printed of all rows of a study: by `rows`, `worth`, `prices` and `page`, and by `plot` with all rows.
+/// The text for all rows of a study, as `rows`, `worth`, `prices` and `page` print it, and `plot` with all rows.
 pub fn text_of_survey<
     R: Threads + Sync,
     F: Files,

@@ -1,4 +1,4 @@
-//! What `tables` prints.
+//! The command `tables`.
 ghost use Rattle.std.specs.Prelude.{◌≡◌, ◌<◌, IfOk, IfErr};
 ghost use Rattle.tomex_cycle.specs.Run.{total};
 ghost use Rattle.tomex_command.specs.TablesLines.{IsTablesOf, IsTablesFailure, IsTextAfter, IsUnshown};
@@ -12,8 +12,8 @@ use tomex_cycle::Machine;
 use tomex_report::tables_text;
 use tomex_streams::Files;
 
-/// The text of the tables after a cycle of a program's run on a configuration. The machine stops at the end of
-/// the run, so a cycle that it doesn't come to is past the end.
+/// The text of the tables after a cycle of a program's run on a configuration. The machine stops at the end of the run,
+/// so a cycle that it doesn't reach is past the end.
 fn text_after<A: Allocator + Clone>(
     alloc: A,
     chosen: &Chosen<'_, A>,
@@ -34,7 +34,7 @@ fn text_after<A: Allocator + Clone>(
     Ok(tables_text(alloc, &machine.tables())?)
 }
 
-/// The text that `tables` prints. The cycle is the last that is looked at.
+/// The text that `tables` prints. The cycle is tested last.
 pub fn text_of_tables<F: Files, A: Allocator + Clone>(
     alloc: A,
     heap: Global,

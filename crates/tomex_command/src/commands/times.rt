@@ -1,4 +1,4 @@
-//! What `times` prints.
+//! The command `times`.
 ghost use Rattle.std.specs.Prelude.{IfOk, IfErr};
 ghost use Rattle.tomex_command.specs.TimesLines.{IsTimesOf, IsTimesFailure};
 

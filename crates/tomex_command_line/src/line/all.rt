@@ -13,7 +13,7 @@ use clap::{ArgMatches, Command};
 use std::alloc::{AllocError, Global};
 use tomex_arguments::{LineFault, word_of};
 
-/// A front report that was asked for, of rows that are all run to their ends.
+/// A request for a front report of rows that are all run to their ends.
 #[derive(Clone, Copy)]
 pub struct AllLine<'a> {
     /// The name of the study's file, as written.

@@ -20,19 +20,19 @@ const CYCLE: Bounds = Bounds {
     greatest: 17_563_648,
 };
 
-/// How many cycles a page can show.
+/// The number of cycles that a page can show.
 const CYCLES: Bounds = Bounds {
     least: 1,
     greatest: 256,
 };
 
-/// A page that shows a run cycle by cycle.
+/// A request for a page that shows a run cycle by cycle.
 #[derive(Clone, Copy)]
 pub struct AnimateLine<'a> {
     pub run: OneRun<'a>,
     /// The first cycle that is shown.
     pub from: u32,
-    /// How many are shown at most.
+    /// The most cycles that are shown.
     pub cycles: u32,
     pub ghost from_least: { 1 ≤ from },
     pub ghost from_to: { from ≤ 17563648 },

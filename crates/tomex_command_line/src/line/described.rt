@@ -1,4 +1,4 @@
-//! A command as `clap` reads it: its name and its texts of help, and then what it takes.
+//! A command as `clap` reads it: its name and its help texts, and then its arguments.
 ghost use Rattle.std.specs.Prelude.{◌≡◌, IfOk, IsOkAnd, false, true};
 ghost use Rattle.clap.specs.Simple.{app_of, new_app, shape_of, with_subcommand};
 ghost use Rattle.clap.specs.Words.{rule_of, with_rule};
@@ -6,7 +6,7 @@ ghost use Rattle.clap.specs.Words.{rule_of, with_rule};
 use clap::{Arg, Command};
 use std::alloc::{AllocError, Global};
 
-/// What the help of a command says: in a line, at length, and after the options.
+/// The help of a command: in a line, at length, and after the options.
 #[derive(Clone, Copy)]
 pub struct Texts {
     pub about: &'static str,
@@ -14,7 +14,7 @@ pub struct Texts {
     pub after_long_help: &'static str,
 }
 
-/// The command of that name, which takes nothing yet.
+/// The command with this name, without arguments.
 pub fn described<'a>(alloc: Global, name: &'a str, texts: Texts) -> Command<'a>
     ensures { app_of result ≡ new_app name.entry.now }
 {
@@ -24,7 +24,7 @@ pub fn described<'a>(alloc: Global, name: &'a str, texts: Texts) -> Command<'a>
         .after_long_help(texts.after_long_help)
 }
 
-/// The command with one argument more. It takes a result, so that a chain of calls has its one test here.
+/// The command with one more argument. It takes a `Result`, so that in a chain of calls the only test is here.
 pub fn taking<'a>(
     command: Result<Command<'a>, AllocError>,
     arg: Arg<'a>,
@@ -36,7 +36,7 @@ pub fn taking<'a>(
     command?.arg(arg)
 }
 
-/// The program with one command more, where there was memory for both.
+/// The program with one more command, if there was memory for both.
 pub fn offering<'a>(
     program: Result<Command<'a>, AllocError>,
     command: Result<Command<'a>, AllocError>,

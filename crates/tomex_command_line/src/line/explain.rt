@@ -12,7 +12,7 @@ use clap::{ArgMatches, Command};
 use std::alloc::{AllocError, Global};
 use tomex_arguments::words_of;
 
-/// An explanation that was asked for.
+/// A request for an explanation.
 #[derive(Drop)]
 pub struct ExplainLine {
     /// The words of a refusal, with a space between each two; without them all refusals are asked for.

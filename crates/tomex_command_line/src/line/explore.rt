@@ -1,4 +1,4 @@
-//! `explore STUDY [--workers N]`, and what other commands that explore a study take.
+//! `explore STUDY [--workers N]`, and the arguments of other commands that explore a study.
 ghost use Rattle.std.specs.Prelude.{◌≡◌, ◌≤◌, IfOk, IfErr};
 ghost use Rattle.tomex_arguments.specs.Faults.{IsRefusedIf};
 ghost use Rattle.tomex_command_line.specs.Grammar.{explore_shape, exploring_app, exploring_shape};
@@ -19,12 +19,12 @@ const WORKERS: Bounds = Bounds {
     greatest: 32,
 };
 
-/// What was asked for of all rows of a study: the front, or what else is printed of them.
+/// A request for all rows of a study: the front, or something else that is printed of them.
 #[derive(Clone, Copy)]
 pub struct ExploreLine<'a> {
     /// The name of the study's file, as written.
     pub study: &'a str,
-    /// How many workers share the rows.
+    /// The number of workers that share the rows.
     pub workers: u32,
     pub ghost workers_from: { 1 ≤ workers },
     pub ghost workers_to: { workers ≤ 32 },
@@ -81,7 +81,7 @@ pub(super) fn grammar<'a>(alloc: Global) -> Result<Command<'a>, AllocError>
     exploring(alloc, "explore", TEXTS)
 }
 
-/// The command of that name, which takes a study and a number of workers, and may take more.
+/// The command with this name, which takes a study and a number of workers, and may take more.
 pub(super) fn on_rows<'a>(
     alloc: Global,
     name: &'a str,
@@ -96,7 +96,7 @@ pub(super) fn on_rows<'a>(
     )
 }
 
-/// The command of that name, which takes no more than these.
+/// The command with this name, which takes only a study and a number of workers.
 pub(super) fn exploring<'a>(
     alloc: Global,
     name: &'a str,

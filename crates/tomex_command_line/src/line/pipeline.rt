@@ -20,15 +20,15 @@ const STEP: Bounds = Bounds {
     greatest: 262_144,
 };
 
-/// A picture of instructions that was asked for.
+/// A request for a picture of instructions.
 #[derive(Clone, Copy)]
 pub struct PipelineLine<'a> {
     pub run: OneRun<'a>,
     /// The number of the first instruction that is shown, in the order in which they ran, from 1.
     pub from: u32,
-    /// How many are shown at most.
+    /// The most instructions that are shown.
     pub steps: u32,
-    /// Whether a log for the viewer Konata is asked for, and no picture.
+    /// True if a log for the viewer Konata is asked for, and no picture.
     pub konata: bool,
     pub ghost from_least: { 1 ≤ from },
     pub ghost from_to: { from ≤ 262144 },

@@ -14,7 +14,7 @@ use clap::{ArgMatches, Command};
 use std::alloc::{AllocError, Global};
 use tomex_arguments::{LineFault, flag_of};
 
-/// A picture that was asked for.
+/// A request for a picture.
 #[derive(Clone, Copy)]
 pub struct PlotLine<'a> {
     pub explore: ExploreLine<'a>,

@@ -28,7 +28,7 @@ const LIMIT: Bounds = Bounds {
     greatest: 262_144,
 };
 
-/// A run that was asked for.
+/// A request for a run.
 #[derive(Clone, Copy)]
 pub struct RunLine<'a> {
     /// The name of the image's file, as written.

@@ -1,4 +1,4 @@
-//! What the commands on a study take first: the study, and for one of its runs a configuration and a program.
+//! The first arguments of the commands on a study: the study, and for one of its runs a configuration and a program.
 ghost use Rattle.std.specs.Prelude.{◌≡◌, ◌≤◌, IfOk, IfErr};
 ghost use Rattle.clap.specs.Simple.{app_of};
 ghost use Rattle.clap.specs.Words.{found_of};
@@ -37,7 +37,7 @@ pub const CONFIG_HELP: &str = "The number of the configuration, from 0";
 
 const PROGRAM_HELP: &str = "The name of the program in the study";
 
-/// The command of that name, which takes a study.
+/// The command with this name, which takes a study.
 pub fn on_study<'a>(alloc: Global, name: &'a str, texts: Texts) -> Result<Command<'a>, AllocError>
     ensures { IfOk result (λ c. app_of c ≡ study_app name.entry.now) }
 {
@@ -47,7 +47,7 @@ pub fn on_study<'a>(alloc: Global, name: &'a str, texts: Texts) -> Result<Comman
     )
 }
 
-/// The command of that name, which takes a study, the number of a configuration of it and a program's name.
+/// The command with this name, which takes a study, the number of a configuration of it and a program's name.
 pub fn on_one_run<'a>(alloc: Global, name: &'a str, texts: Texts) -> Result<Command<'a>, AllocError>
     ensures { IfOk result (λ c. app_of c ≡ one_run_app name.entry.now) }
 {

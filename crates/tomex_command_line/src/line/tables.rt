@@ -14,13 +14,13 @@ use clap::{ArgMatches, Command};
 use std::alloc::{AllocError, Global};
 use tomex_arguments::{Bounds, LineFault, number_of};
 
-/// No program takes more cycles: 67 for each of 262,144 instructions.
+/// The cycles of a run. No program takes more: 67 for each of 262,144 instructions.
 const CYCLE: Bounds = Bounds {
     least: 0,
     greatest: 17_563_648,
 };
 
-/// The tables that were asked for.
+/// A request for tables.
 #[derive(Clone, Copy)]
 pub struct TablesLine<'a> {
     pub run: OneRun<'a>,

@@ -9,14 +9,14 @@ use clap::{Arg, ArgAction, value_parser};
 use std::alloc::Global;
 use tomex_arguments::Bounds;
 
-/// What reads a decimal number within the bounds.
+/// A parser of decimal numbers within the bounds.
 fn within<'a>(bounds: Bounds) -> ValueParser<'a>
     ensures { result ≡ Signed (pos bounds.least) (pos bounds.greatest) }
 {
     value_parser!(u32).range(i64::from(bounds.least)..=i64::from(bounds.greatest))
 }
 
-/// An option `--NAME N` of a decimal number.
+/// An option `--NAME N` with a decimal number.
 pub fn number<'a>(
     alloc: Global,
     name: &'a str,
@@ -36,7 +36,7 @@ pub fn number<'a>(
         .help(help)
 }
 
-/// A decimal number that a command needs, in its place.
+/// A required decimal number, given by position.
 pub fn numeral<'a>(alloc: Global, name: &'a str, bounds: Bounds, help: &'a str) -> Arg<'a>
     ensures rule { rule_of result ≡ numeral_rule name.entry.now bounds.least bounds.greatest }
     ensures global { result.global ≡ false }
@@ -58,7 +58,7 @@ pub fn flag<'a>(alloc: Global, name: &'a str, help: &'a str) -> Arg<'a>
         .help(help)
 }
 
-/// A word that a command needs.
+/// A required word.
 pub fn word<'a>(alloc: Global, name: &'a str, help: &'a str) -> Arg<'a>
     ensures rule { rule_of result ≡ word_rule name.entry.now }
     ensures global { result.global ≡ false }
@@ -66,7 +66,7 @@ pub fn word<'a>(alloc: Global, name: &'a str, help: &'a str) -> Arg<'a>
     Arg::new(alloc, name).required(true).help(help)
 }
 
-/// Words that a command may be given.
+/// Optional words.
 pub fn words<'a>(alloc: Global, name: &'a str, help: &'a str) -> Arg<'a>
     ensures rule { rule_of result ≡ words_rule name.entry.now }
     ensures global { result.global ≡ false }

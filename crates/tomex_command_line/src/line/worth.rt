@@ -15,7 +15,7 @@ use clap::{ArgMatches, Command};
 use std::alloc::{AllocError, Global};
 use tomex_arguments::{LineFault, number_of};
 
-/// What was asked for of the machines that differ from one in one list.
+/// A request for the machines that differ from one in one list.
 #[derive(Clone, Copy)]
 pub struct WorthLine<'a> {
     pub explore: ExploreLine<'a>,

@@ -1,4 +1,4 @@
--- One link more.
+-- One more link.
 use Rattle.std.proofs.Common.{◌+◌, arith}
 use Rattle.tomex_animate.specs.Machine.{index_link}
 use Rattle.tomex_snapshots.proofs.Lists.{number_more}

@@ -1,4 +1,4 @@
--- What is left out is past, or later.
+-- Each step that is left out is past, or later.
 use Rattle.std.proofs.Common.{◌-◌, drop, length, refl, take}
 use Rattle.std.proofs.lemmas.List.{take_rest}
 use Rattle.tomex_animate.proofs.Pages.{stretch_is}

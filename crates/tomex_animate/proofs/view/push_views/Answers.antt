@@ -1,4 +1,4 @@
--- One view more.
+-- One more view.
 use Rattle.std.proofs.Common.{◌+◌, arith}
 use Rattle.tomex_animate.specs.Page.{frame}
 use Rattle.tomex_snapshots.proofs.Lists.{number_more}

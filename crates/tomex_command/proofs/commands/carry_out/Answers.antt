@@ -1,4 +1,4 @@
--- Short searches, so that a wrong body is soon refused.
+-- Short searches, so that a wrong body is refused soon.
 use Rattle.std.proofs.Common.{rules}
 use Rattle.std.proofs.lemmas.Result.{err_from_is_err_and}
 use Rattle.tomex_command.proofs.Left.{nothing_left}

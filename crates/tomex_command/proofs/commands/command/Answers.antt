@@ -1,4 +1,4 @@
--- A line that was read is done, or its failure is told.
+-- A line that was read is done, or its failure is reported.
 use Rattle.std.proofs.Common.{inl, inr, refl}
 use Rattle.tomex_command.proofs.commands.command.Goals as goal
 

@@ -1,4 +1,4 @@
--- The line is the failure's; if there was no memory for it, that is written.
+-- The line is the failure's; if there was no memory for it, out of memory is reported.
 use Rattle.std.proofs.Common.{◌≡◌, ℕ, codes, string_bytes, IfOk, inl, inr, Result, Ok, Err}
 use Rattle.std.specs.Prelude.{OnErr, String}
 use Rattle.std.specs.Global.{Global}

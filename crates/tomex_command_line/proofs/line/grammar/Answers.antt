@@ -2,8 +2,9 @@
 use Rattle.std.proofs.Common.{◌≡◌, ◌∙◌, ap₂, IfOk, IsOkAnd, Result, Ok, Err}
 use Rattle.clap.specs.Simple.{App, Shape, app_of, shape_of, with_subcommand}
 use Rattle.clap.specs.declared.builder.command.Command.{Command}
-use Rattle.tomex_command_line.specs.Grammar.{bare_app, run_shape, times_shape, stalls_shape, pipeline_shape, tables_shape}
-use Rattle.tomex_command_line.specs.Grammar.{animate_shape, all_shape, explore_shape, front_shape, plot_shape, rows_shape}
+use Rattle.tomex_command_line.specs.Grammar.{bare_app, run_shape, times_shape, stalls_shape, pipeline_shape}
+use Rattle.tomex_command_line.specs.Grammar.{tables_shape, animate_shape, all_shape, explore_shape}
+use Rattle.tomex_command_line.specs.Grammar.{front_shape, plot_shape, rows_shape}
 use Rattle.tomex_command_line.specs.Grammar.{worth_shape, prices_shape, page_shape, explain_shape}
 use Rattle.tomex_command_line.proofs.line.grammar.Goals as goal
 

@@ -5,7 +5,8 @@ use Rattle.clap.specs.Words.{Shape, found_of, subcommand_rows_of}
 use Rattle.clap.specs.Walk.{rows_of}
 use Rattle.tomex_command_line.specs.Grammar.{tomex_app}
 use Rattle.tomex_command_line.specs.Asked.{no_run, no_times, no_stalls, no_pipeline, no_tables, no_all, no_explore}
-use Rattle.tomex_command_line.specs.Asked.{no_animate, no_front, no_plot, no_rows, no_worth, no_prices, no_page, no_command, nothing}
+use Rattle.tomex_command_line.specs.Asked.{no_animate, no_front, no_plot, no_rows, no_worth, no_prices, no_page}
+use Rattle.tomex_command_line.specs.Asked.{no_command, nothing}
 use Rattle.tomex_command_line.proofs.Found.{found_as, found_is, none_found}
 use Rattle.tomex_arguments.proofs.WhyRefused.{refused_if}
 use Rattle.tomex_command_line.proofs.PassedOn.{passed_on}

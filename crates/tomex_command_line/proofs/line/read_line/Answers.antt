@@ -1,4 +1,4 @@
--- What the parser finds is what the words ask for, and an error of it is help only where they ask for that.
+-- The parser's result is what the words ask for, and its error is help only if they ask for help.
 use Rattle.std.proofs.Common.{◌≡◌, ◌∙◌, ap, sym, subst, refl, inl, inr, true, List, [], Option, map, string_bytes}
 use Rattle.std.proofs.lemmas.Result.{IfErr-weaker, IfOk-weaker}
 use Rattle.clap.specs.Words.{App, HasKind, HasMatchesOf, IsAmong, Row}
@@ -23,7 +23,7 @@ is_free : is_simple_and_free tomex_app ≡ true
 unfolding clap_on_literals
 is_free = refl
 
--- the kind that an error has, which isn't want of memory, is one of those that the words may come to
+-- the kind of an error, if not out of memory, is one of those that the words may give
 is_among : (words : List Text) (error : Error) (k : ErrorKind) → (k ≡ OutOfMemory → ⊥)
     → HasKind (fault_of tomex_app words) error → kind_of error ≡ k → IsAmong k (fault_of tomex_app words)
 is_among words error k other (inl memory) is = absurd (other (sym is ∙ memory))

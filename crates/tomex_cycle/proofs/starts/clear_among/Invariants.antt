@@ -1,7 +1,7 @@
 use Rattle.tomex_cycle.proofs.Startable.{AreCleared}
 use Rattle.tomex_cycle.proofs.starts.clear_among.Given as goal
 
--- all but the rest are looked at
+-- all except the rest have been tested
 abbrev pub invariant-members : goal.invariant-members
 invariant-members l = AreCleared l.pools l.cycle l.waiting l.rest l.clear
 

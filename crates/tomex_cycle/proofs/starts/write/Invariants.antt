@@ -2,7 +2,7 @@ use Rattle.tomex_cycle.specs.Starts.{AllInside, AreLow}
 use Rattle.tomex_cycle.proofs.StartsStored.{IsStored}
 use Rattle.tomex_cycle.proofs.starts.write.Given as goal
 
--- the stores of all but the rest are made
+-- the stores of all except the rest are performed
 abbrev pub invariant-members : goal.invariant-members
 invariant-members g l = AreLow l.picked → AllInside l.initial.memory l.picked l.pools.slots
     → IsStored l.pools.slots l.stores l.rest l.initial.memory l.memory

@@ -1,4 +1,4 @@
--- Each turn of the loop adds a step's floors, of which none is past 67 times the steps.
+-- Each turn of the loop adds a step's floors, none of which is above 67 times the steps.
 use Rattle.std.proofs.Common.{ℕ, zero, suc, ◌+◌, ◌-◌, ◌≡◌, ◌≤◌, ◌<◌, ◌^◌, ◌∙◌, arith, refl, ap, inl, sym, List, [], ◌∷◌}
 use Rattle.std.proofs.Common.{◌++◌, reverse, take, length, get_or, take_all}
 use Rattle.std.specs.Prelude.{nat_le, slice_index, slice_index_or}
@@ -83,7 +83,7 @@ loop-step-preserved g c =
           (λ n l. c.pass_all-finishes.ensures.finishes x h n l facts before.latest conflicts) before.accesses n b l);
     }
 
--- what is latest in the end has the floors
+-- the latest cycles at the end include the floors
 whole : (config : Configuration) (steps : List Step) (i n : ℕ) (latest : List Latest) → length steps ≤ i
     → AreLatest (so_far config steps i) latest → n < 4
     → (slice_index_or latest n none).end ≡ floor_of (latency_of config) (n + 1) steps

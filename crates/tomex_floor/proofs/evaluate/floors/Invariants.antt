@@ -1,4 +1,4 @@
--- What is kept is of the floors of the steps so far.
+-- The state kept is that of the floors of the steps so far.
 use Rattle.std.proofs.Common.{◌≡◌, length, reverse, take}
 use Rattle.tomex_floor.specs.Floor.{latency_of}
 use Rattle.tomex_floor.specs.Kept.{AreLatest, AreTouched, histories}

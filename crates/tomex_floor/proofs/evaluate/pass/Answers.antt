@@ -1,4 +1,4 @@
--- What is latest is so after the step's times.
+-- The latest cycles are those after the step's times.
 use Rattle.std.proofs.Common.{◌<◌, subst}
 use Rattle.std.specs.Prelude.{IfSome}
 use Rattle.tomex_floor.specs.declared.facts.Facts.{Facts}

@@ -1,4 +1,4 @@
--- What is above the floor's equations is above the floor.
+-- Times above the floor's equations are above the floor.
 use Rattle.tomex_floor.proofs.Above.{floors_no_later, floor_is_bound}
 use Rattle.tomex_floor.proofs.Falling.{floors_fall}
 use Rattle.tomex_floor.proofs.Reached.{floors_reached}

@@ -1,4 +1,4 @@
--- One register more.
+-- One more register.
 use Rattle.tomex_snapshots.specs.Entries.{history_of}
 use Rattle.tomex_frames.specs.Stations.{register_at}
 use Rattle.tomex_snapshots.proofs.Lists.{number_more}

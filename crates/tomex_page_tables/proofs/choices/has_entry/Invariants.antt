@@ -1,4 +1,4 @@
--- None so far has it.
+-- No row so far has the entry.
 use Rattle.std.proofs.Common.{◌≡◌, drop}
 use Rattle.std.specs.List.{list_any}
 use Rattle.tomex_worth.specs.Changes.{same_entry}

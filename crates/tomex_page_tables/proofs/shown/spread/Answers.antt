@@ -1,4 +1,4 @@
--- One row more.
+-- One more row.
 use Rattle.std.proofs.Common.{◌∙◌, ap, ◌++◌, List, map, ℕ}
 use Rattle.std.specs.List.{range_with_len}
 use Rattle.tomex_pareto.specs.declared.front_row.FrontRow.{FrontRow}

@@ -1,4 +1,4 @@
--- The front is the outcome's. Written out, so that a wrong body is soon refused.
+-- The front is the outcome's. Written out, so that a wrong body is refused soon.
 use Rattle.std.proofs.Common.{◌∙◌}
 use Rattle.tomex_report.proofs.answering.explored.Goals as goal
 

@@ -1,4 +1,4 @@
--- The cycles of one program more.
+-- The cycles of one more program.
 use Rattle.std.proofs.Common.{refl}
 use Rattle.std.proofs.lemmas.List.{take_all}
 use Rattle.std.proofs.lemmas.Option.{slice_get_read}

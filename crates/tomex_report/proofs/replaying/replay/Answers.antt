@@ -1,4 +1,4 @@
--- What the threads give, in the front's order.
+-- The threads' results, in the front's order.
 use Rattle.std.proofs.Common.{◌∙◌, ap, sym, subst}
 use Rattle.std.specs.List.{AllZip}
 use Rattle.rayon.proofs.ToStd.{slice-AllZip}

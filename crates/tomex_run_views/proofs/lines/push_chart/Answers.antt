@@ -1,4 +1,4 @@
--- The sign of one cycle more.
+-- The sign of one more cycle.
 use Rattle.std.proofs.Common.{◌∙◌, ap, ℕ, List, ◌++◌}
 use Rattle.std.specs.Prelude.{string_bytes}
 use Rattle.tomex_run_views.proofs.Pictures.{sign_more}

@@ -1,4 +1,4 @@
--- The line of one step more.
+-- The line of one more step.
 use Rattle.std.proofs.Common.{None, refl}
 use Rattle.tomex_run_views.proofs.Pictures.{line_more, no_line}
 use Rattle.tomex_run_views.proofs.lines.push_lines.Goals as goal

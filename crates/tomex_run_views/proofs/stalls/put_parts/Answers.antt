@@ -1,4 +1,4 @@
--- The record of one part more.
+-- The record of one more part.
 use Rattle.std.proofs.Common.{refl}
 use Rattle.tomex_timing.specs.Needs.{all_parts}
 use Rattle.tomex_run_views.specs.StallsReport.{part_record}

@@ -1,4 +1,4 @@
--- What one step more shows.
+-- What one more step shows.
 use Rattle.std.proofs.Common.{List, subst, sym, take}
 use Rattle.tomex_timing.specs.declared.times.Done.{Done}
 use Rattle.tomex_snapshots.specs.Entries.{history_of}

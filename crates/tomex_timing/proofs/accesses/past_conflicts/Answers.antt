@@ -1,4 +1,4 @@
--- What touches no memory waits for nothing.
+-- A step that accesses no memory waits for nothing.
 use Rattle.tomex_timing.proofs.UnderWay.{past_alone}
 use Rattle.tomex_timing.proofs.accesses.past_conflicts.Goals as goal
 

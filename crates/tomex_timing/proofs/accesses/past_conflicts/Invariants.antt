@@ -1,4 +1,4 @@
--- So far as the loop has come, the cycle is past the conflicts.
+-- The cycle is past the conflicts with the accesses so far.
 use Rattle.std.proofs.Common.{◌+◌, ◌≤◌, take}
 use Rattle.std.specs.Prelude.{max}
 use Rattle.tomex_timing.specs.Ahead.{ArePast}

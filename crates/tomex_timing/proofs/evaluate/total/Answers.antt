@@ -1,4 +1,4 @@
--- One step more.
+-- One more step.
 use Rattle.std.proofs.Common.{sym}
 use Rattle.tomex_timing.proofs.Histories.{total_more}
 use Rattle.tomex_timing.proofs.evaluate.total.Goals as goal

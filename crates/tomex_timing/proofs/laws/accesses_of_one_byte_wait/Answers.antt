@@ -1,4 +1,4 @@
--- The test for a start asks for it.
+-- The test for a start requires it.
 use Rattle.tomex_timing.proofs.Orders.{conflict_at, start_clear}
 use Rattle.tomex_timing.proofs.laws.accesses_of_one_byte_wait.Goals as goal
 

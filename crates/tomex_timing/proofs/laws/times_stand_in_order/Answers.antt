@@ -1,4 +1,4 @@
--- Each time passes a test that asks for a later cycle.
+-- Each time passes a test that requires a later cycle.
 use Rattle.tomex_timing.proofs.Orders.{address_rises, reach, result_later, start_later}
 use Rattle.tomex_timing.proofs.laws.times_stand_in_order.Goals as goal
 

@@ -1,4 +1,4 @@
--- The greatest of a list, either way round.
+-- The greatest number of a list, in either order.
 use Rattle.tomex_timing.proofs.Histories.{total_is}
 use Rattle.tomex_timing.proofs.laws.total_is_the_greatest_end.Goals as goal
 

@@ -1,4 +1,4 @@
--- The file of the name at hand is one more.
+-- The file with the current name is one more.
 use Rattle.std.proofs.Common.{string_bytes}
 use Rattle.tomex_command.proofs.Reading.{one_more_of}
 use Rattle.tomex_command.proofs.commands.reading.read_all.Goals as goal

@@ -1,4 +1,4 @@
--- What the machine shows where it came to the cycle.
+-- What the machine shows if it has reached the cycle.
 use Rattle.std.proofs.Common.{◌<◌, arith, ℕ, subst}
 use Rattle.tomex_cycle.specs.Seen.{seen}
 use Rattle.tomex_command.specs.TablesLines.{IsTextAfter}

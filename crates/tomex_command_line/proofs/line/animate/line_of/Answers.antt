@@ -1,4 +1,4 @@
--- A value that isn't there, or is out of bounds, is one that no line has.
+-- If a value is missing or out of bounds, no line has it.
 use Rattle.std.proofs.Common.{rules}
 use Rattle.tomex_command_line.proofs.PassedOn.{passed_on}
 use Rattle.tomex_command_line.proofs.line.animate.line_of.Goals as goal

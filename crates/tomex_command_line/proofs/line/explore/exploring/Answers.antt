@@ -1,4 +1,4 @@
--- Its shape is the top of what it is as a program.
+-- The command's shape is the top of its shape as a program.
 use Rattle.std.proofs.Common.{ap}
 use Rattle.std.proofs.lemmas.Result.{IfOk-weaker}
 use Rattle.clap.specs.Words.{App}

@@ -1,4 +1,4 @@
--- An access to the step's bytes waits for what the step conflicts with.
+-- An access to the step's bytes waits for the accesses that the step conflicts with.
 use Rattle.std.proofs.Common.{ℕ, ◌≡◌, ◌∙◌, ap, sym, Some, None}
 use Rattle.std.proofs.lemmas.List.{get_or-replicate}
 use Rattle.tomex_steps.specs.Steps.{bytes_of, is_store}

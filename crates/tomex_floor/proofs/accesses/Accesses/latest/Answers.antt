@@ -1,4 +1,4 @@
--- The word of a turn adds what its bytes are waited for.
+-- The word of a turn adds the finishes that its bytes are waited for.
 use Rattle.std.proofs.Common.{ℕ, ◌≡◌, ◌∙◌, ◌+◌, ◌*◌, ◌/◌, arith, sym}
 use Rattle.std.specs.Prelude.{nat_eq, unwrap_or}
 use Rattle.std.specs.HashMap.{get}

@@ -1,4 +1,4 @@
--- The lane of a turn adds what its byte is waited for.
+-- The lane of a turn adds the finish that its byte is waited for.
 use Rattle.std.proofs.Common.{◌+◌, arith}
 use Rattle.tomex_floor.proofs.Touching.{below_turn}
 use Rattle.tomex_floor.proofs.accesses.Word.raise_to.Goals as goal

@@ -1,4 +1,4 @@
--- The bytes of the lanes so far have been looked at.
+-- The bytes of the lanes so far have been read.
 use Rattle.std.proofs.Common.{◌≡◌, ◌<◌, ◌+◌, ℕ, List}
 use Rattle.std.specs.Prelude.{slice_index}
 use Rattle.tomex_timing.specs.declared.times.Done.{Done}

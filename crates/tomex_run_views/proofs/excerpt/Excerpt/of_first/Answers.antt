@@ -1,4 +1,4 @@
--- What an excerpt holds is an excerpt.
+-- The value that is kept is an excerpt.
 use Rattle.tomex_run_views.proofs.Excerpts.{kept_first}
 use Rattle.tomex_run_views.proofs.excerpt.Excerpt.of_first.Goals as goal
 
