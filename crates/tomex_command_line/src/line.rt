@@ -69,7 +69,7 @@ const ABOUT: &str = "Runs RV32IM programs, and explores Tomasulo processors that
 const LONG_ABOUT: &str = "Runs RV32IM programs in order, and explores Tomasulo processors without
 speculation that run them.
 
-A command writes nothing to standard output before its whole result is there.
+A command writes nothing to standard output until its whole result is ready.
 Errors are reported on standard error.";
 
 const AFTER_LONG_HELP: &str = "Exit status:

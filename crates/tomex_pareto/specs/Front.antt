@@ -11,15 +11,16 @@ dominates a b = nat_le a.cost b.cost && nat_le a.cycles b.cycles && (nat_lt a.co
 abbrev pub is_undominated : List FrontRow → FrontRow → Bool
 is_undominated rows r = not (list_any (λ q. dominates q r) rows)
 
--- by cost, then number
+-- a stands before b: by cost, then number
 abbrev pub comes_before : FrontRow → FrontRow → Bool
 comes_before a b = nat_lt a.cost b.cost || (a.cost == b.cost && nat_lt a.row b.row)
 
--- a row at its place among ordered ones
+-- ordered rows with one more at its place
 abbrev pub put : FrontRow → List FrontRow → List FrontRow
 put r [] = r ∷ []
 put r (q ∷ qs) = if comes_before r q then r ∷ q ∷ qs else q ∷ put r qs
 
+-- by cost, then number
 abbrev pub ordered : List FrontRow → List FrontRow
 ordered [] = []
 ordered (r ∷ rs) = put r (ordered rs)

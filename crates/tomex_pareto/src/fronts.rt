@@ -1,16 +1,17 @@
 //! The front of finished rows.
 
 ghost use Rattle.std.specs.Prelude.{◌≡◌, ◌<◌, ◌≤◌, ◌^◌, ◌++◌, length, IfOk, OnOk, IsPermutation};
+ghost use Rattle.std.specs.List.{AllPairs};
 ghost use Rattle.tomex_pareto.specs.Front.{front_of};
 ghost use Rattle.tomex_pareto.specs.Pareto.{AreNumbered};
-ghost use Rattle.tomex_pareto.specs.Passing.{stays_after, InOrder};
+ghost use Rattle.tomex_pareto.specs.Passing.{IsUpTo, stays_after};
 ghost use Rattle.tomex_pareto.specs.Finished.{finished_from, finished_one};
 
 use crate::front_row::FrontRow;
 use std::alloc::{AllocError, Allocator};
 use tomex_board::Mark;
 
-/// Adds a row where it is finished.
+/// Adds a row if it is finished.
 fn note<A: Allocator>(
     rows: &mut Vec<FrontRow, A>,
     row: usize,
@@ -41,16 +42,16 @@ fn finished_rows<A: Allocator>(
     Ok(rows)
 }
 
-/// Puts rows in the order of cost, then cycles, then number.
+/// Sorts rows by cost, then cycles, then number.
 fn sort_rows<A: Allocator>(rows: &mut Vec<FrontRow, A>)
     ensures moved { IsPermutation rows.old.items rows.new.items }
-    ensures order { InOrder rows.new.items }
+    ensures order { AllPairs IsUpTo rows.new.items }
 {
     rows.sort_unstable_by_key(|row| (row.cost, row.cycles, row.row));
 }
 
-/// Whether a row stays, where `last` is the last one that stayed of those before it, in the order
-/// of cost, then cycles, then number. `last` has the least cycles of all before it.
+/// True if a row is on the front, given `last`, the last row of the front before it. Rows come by cost, then
+/// cycles, then number, so no row before it takes fewer cycles than `last`.
 fn stays(last: Option<FrontRow>, row: FrontRow) -> bool
     ensures { result ≡ stays_after last row }
 {
@@ -64,8 +65,8 @@ fn stays(last: Option<FrontRow>, row: FrontRow) -> bool
 
 /// The rows that none of them dominates, by cost, then number.
 ///
-/// A sort and one pass: of rows in the order of cost, then cycles, a row stays exactly where it
-/// takes fewer cycles than all before it, or is the equal of the last that stayed.
+/// A sort and one pass: a row stays if it takes fewer cycles than every row before it, or has the cost and cycles
+/// of the last one that stayed.
 fn undominated<A: Allocator>(
     alloc: A,
     mut rows: Vec<FrontRow, A>,
@@ -86,6 +87,7 @@ fn undominated<A: Allocator>(
 }
 
 /// The front of the finished rows.
+#[tactic(auto, using(crate::proofs::Finished::finished_numbered))]
 pub fn front<A: Allocator + Clone>(
     alloc: A,
     costs: &[u64],

@@ -1,4 +1,4 @@
-//! A law of the definition of the front. It does nothing.
+//! A law of the definition of the front, as a function that does nothing.
 
 ghost use Rattle.std.specs.Prelude.{◌≡◌, List};
 ghost use Rattle.tomex_pareto.specs.Front.{front_of};
@@ -7,7 +7,6 @@ ghost use Rattle.tomex_pareto.specs.declared.front_row.FrontRow.{FrontRow};
 
 /// The front of numbered configurations is the configurations that none of them dominates, by cost, then number, and no
 /// other list of configurations is.
-#[tactic(auto, using(crate::proofs::Relations::front_is_front, crate::proofs::Relations::front_is_one))]
 pub fn front_is_the_undominated_rows()
     ensures is { (rows : List FrontRow) → AreNumbered rows → IsFront rows (front_of rows) }
     ensures only { (rows front : List FrontRow) → AreNumbered rows → IsFront rows front

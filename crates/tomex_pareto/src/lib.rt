@@ -1,5 +1,5 @@
-//! The Pareto front of configurations by cost and cycles: those that no other one dominates. It is found from the
-//! marks of all; nothing of programs or machines is in it.
+//! The Pareto front of configurations by cost and cycles: those that no other configuration dominates. It is found
+//! from the marks of all configurations, without their programs.
 #![tactic(auto)]
 
 mod front_row;

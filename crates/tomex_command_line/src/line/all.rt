@@ -32,8 +32,8 @@ STUDY is a TOML document that names programs, prices, axes and unit options;
 its files are read from the current folder. docs/STUDIES.md lists the keys of a
 study.
 
-The report is CSV, to the byte that of `explore`, which gives up configurations
-early if they can't be on the front, and so is mostly faster.";
+The report is CSV, byte for byte that of `explore`, which gives up
+configurations early if they can't be on the front, and so is usually faster.";
 
 const AFTER_LONG_HELP: &str = "Exit status:
   0  the report was written

@@ -60,7 +60,7 @@ the study's TOML they may be hexadecimal too, as in 0x10000.
 
 The page is one HTML file, without scripts, that loads nothing. It has a view
 for each cycle, with links to the next and the previous one: after a click on
-one of them, Enter follows it again. It prints a view a sheet.";
+one of them, Enter follows it again. On paper, each view is a sheet of its own.";
 
 const AFTER_LONG_HELP: &str = "Exit status:
   0  the page was written
@@ -81,7 +81,7 @@ const TEXTS: Texts = Texts {
 
 const FROM_HELP: &str = "The first cycle shown";
 
-const CYCLES_HELP: &str = "How many cycles are shown at most";
+const CYCLES_HELP: &str = "The most cycles shown";
 
 pub(super) fn grammar<'a>(alloc: Global) -> Result<Command<'a>, AllocError>
     ensures { IfOk result (λ c. shape_of c ≡ animate_shape) }

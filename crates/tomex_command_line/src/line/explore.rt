@@ -40,7 +40,7 @@ if it costs no more, takes no more cycles, and is better in one of the two.
 A program isn't evaluated again if its cycles follow from those on an earlier
 configuration. Every 1,024 cycles of a run tomex looks whether a finished
 configuration that costs no more has taken fewer cycles; if so, it gives this
-one up. The report is, to the byte, that of `all`, which runs every
+one up. The report is, byte for byte, that of `all`, which runs every
 configuration to its end. The number of workers doesn't change it.
 
 STUDY is a TOML document that names programs, prices, axes and unit options;

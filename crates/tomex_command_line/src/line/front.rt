@@ -13,13 +13,13 @@ const ABOUT: &str = "Explores a study and prints the front as a table";
 const LONG_ABOUT: &str =
     "Explores a study as `explore` does, and prints the front as a table for people:
 a line of names, and then a line for each configuration on the front, by cost
-and then number, with its number, cost and cycles. `rate` is how many cycles it
-takes fewer than the line above, for 1 of what it costs more. Of the parts, only
-those have a column in which two configurations of the study differ. A study of
-several programs has a column for each program's own cycles, which aren't
-multiplied by its weight.
+and then number, with its number, cost and cycles. `rate` is the number of
+cycles saved over the line above for each 1 of added cost. Only parts in which
+two configurations of the study differ have a column. A study of several
+programs has a column for each program's own cycles, which aren't multiplied by
+its weight.
 
-All columns are aligned at their right, with two spaces between them. `explore`
+All columns are aligned on the right, with two spaces between them. `explore`
 prints the same front as CSV, with all parts and how each program ends.
 
 STUDY is a TOML document that names programs, prices, axes and unit options;

@@ -12,10 +12,11 @@ const ABOUT: &str = "Prints a study's report as a web page";
 
 const LONG_ABOUT: &str =
     "Prints a report of a study as a web page, to look at and to send: the picture of
-all configurations, what was asked, the front with what each row has more than
-the one above, and a view for each row of the front: what its parts cost, what
-one part changed brings, for which prices it stays on the front, its stalls, and
-what its first instructions do. A row is a configuration, by its number.
+all configurations, the study's lists and programs, the front with each row's
+difference from the one above, and a view for each row of the front: what its
+parts cost, what a change of one part brings, for which prices it stays on the
+front, its stalls, and what its first instructions do. A row is a
+configuration, by its number.
 
 The page is one HTML file, without scripts, that loads nothing. It shows at most
 64 rows of the front, evenly chosen, and says so.

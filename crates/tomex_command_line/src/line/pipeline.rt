@@ -52,8 +52,8 @@ an instruction does what.
 CONFIG and the options are decimal, like all numbers on the command line; in
 the study's TOML they may be hexadecimal too, as in 0x10000.
 
-The first line has the cycles of the columns. Each other line has the number
-of an instruction, its address, itself, and its signs up to its end. The signs:
+The first line has the cycles of the columns. Each other line has an
+instruction's number, its address, its text, and its signs up to its end:
   I  it issues
   A  it computes its address, a load or store
   E  it is in its unit
@@ -63,8 +63,8 @@ of an instruction, its address, itself, and its signs up to its end. The signs:
 
 A picture of more than 16777216 signs is refused.
 
-With --konata it prints, of the same instructions, a log for the viewer Konata,
-of any size. docs/KONATA.md says how to read it.";
+With --konata it prints a log of the same instructions for the viewer Konata, of
+any size. docs/KONATA.md says how to read it.";
 
 const AFTER_LONG_HELP: &str = "Exit status:
   0  the picture or the log was written
@@ -104,7 +104,7 @@ const TEXTS: Texts = Texts {
 
 const FROM_HELP: &str = "The number of the first instruction shown";
 
-const STEPS_HELP: &str = "How many are shown at most";
+const STEPS_HELP: &str = "The most instructions shown";
 
 const KONATA_HELP: &str = "Write a log for the viewer Konata";
 

@@ -31,9 +31,9 @@ for each configuration on the front, and a staircase through them. All other
 configurations lie on or above the staircase, in the part that is shaded. Both
 axes have round numbers, and need not begin at 0.
 
-Numbers beside the circles are those of the configurations; where circles stand
-close together only some have theirs. In a browser each circle says its
-configuration, cost and cycles when it is pointed at. The picture has no script,
+The number beside a circle is that of its configuration; if circles are close
+together, only some have one. In a browser a circle shows its configuration,
+cost and cycles when it is pointed at. The picture has no script,
 style sheet or font from elsewhere.
 
 With --rows each configuration of the study is a faint dot behind the front, and

@@ -8,7 +8,7 @@ use super::explore::exploring;
 use clap::Command;
 use std::alloc::{AllocError, Global};
 
-const ABOUT: &str = "Prints for which prices each row of the front stays on it";
+const ABOUT: &str = "Prints the prices for which each row of the front stays on it";
 
 const LONG_ABOUT: &str =
     "Prints, for each configuration on the front, between which values of each price
@@ -21,11 +21,11 @@ bus and of the width. A price that all configurations pay equally often changes
 no front, and has no column. The second line has the prices as stated. Then
 comes a line for each configuration on the front. Under a price:
   2..11  it stays if the price is at least 2 and at most 11
-  ..11   if it is at most 11, 0 too
+  ..11   if it is at most 11, even 0
   2..    if it is at least 2, up to the limit of prices, 1000000
   any    whatever the price is
-Under `all` is the greatest percentage by which every price may be wrong, each
-in its own direction, such that the configuration stays.
+Under `all` is the greatest percentage by which all prices may be wrong, each in
+its own direction, without taking the configuration off the front.
 
 STUDY is a TOML document that names programs, prices, axes and unit options;
 its files are read from the current folder. docs/STUDIES.md lists the keys of a

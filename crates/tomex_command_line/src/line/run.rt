@@ -54,8 +54,8 @@ where the program ended and after how many instructions.
 
 IMAGE is a flat file of RV32IM code and data, as `objcopy -O binary` writes it,
 or a 32-bit ELF executable that is linked statically for RISC-V. A flat file is
-loaded at the base address and starts there; an ELF file says itself where its
-segments lie, which must be inside memory, and where it starts. The rest of
+loaded at the base address and starts there; an ELF file says itself where it
+starts and where its segments are, which must be inside memory. The rest of
 memory is zero, and so are all registers but x2: it holds the end of memory,
 rounded down to a multiple of 16. docs/PROGRAMS.md shows how to make programs
 from C.

@@ -24,7 +24,7 @@ pub struct WorthLine<'a> {
     pub ghost config_to: { config ≤ 16383 },
 }
 
-const ABOUT: &str = "Prints what one part more or less brings on a configuration";
+const ABOUT: &str = "Prints what one more or one less of a part brings on a configuration";
 
 const LONG_ABOUT: &str =
     "Prints what each change of one list brings on a configuration, in cost and in
@@ -35,11 +35,12 @@ and in nothing else.
 After a line of names comes the configuration itself. In the other lines `cost`
 and `cycles` are differences from it, `%` is that of the cycles in percent of
 its own, and `rate` is cycles for 1 of cost: what 1 of cost buys if the other
-one costs more, and what 1 of cost saved gives away if it costs less. If there
-is no such number, the reason stands in its place: `better` if the other one
-costs no more and takes no more cycles, and is better in one of the two, `worse`
-if this one is so, `same` if neither differs. `front` is `yes` on the front. A
-study of several programs has a column for each program's own cycles.
+one costs more, and what saving 1 of cost gives away if it costs less. If there
+is no such number, the reason is in its place: `better` if the other one costs
+no more and takes no more cycles, and is better in one of the two, `worse` if
+the same holds the other way round, `same` if neither differs. `front` is `yes`
+on the front. A study of several programs has a column for each program's own
+cycles.
 
 STUDY is a TOML document that names programs, prices, axes and unit options;
 its files are read from the current folder. CONFIG is the number of a

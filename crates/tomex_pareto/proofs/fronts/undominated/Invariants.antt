@@ -1,7 +1,7 @@
--- What stayed is the front of the rows that are passed.
-use Rattle.std.proofs.Common.{take}
-use Rattle.tomex_pareto.proofs.Passes.{IsPassed}
+-- What stayed so far, and those to come that will.
+use Rattle.std.proofs.Common.{◌≡◌, ◌++◌, drop, None}
+use Rattle.tomex_pareto.proofs.Passes.{passing}
 use Rattle.tomex_pareto.proofs.fronts.undominated.Given as goal
 
 abbrev pub invariant-loop-row : goal.invariant-loop-row
-invariant-loop-row g l = IsPassed (take l.row-index l.row-items) l.front.items l.last
+invariant-loop-row g l = l.front.items ++ passing l.last (drop l.row-index l.row-items) ≡ passing None l.row-items
