@@ -1,7 +1,7 @@
 -- On a configuration with as many of each part as a run has steps the recurrence gives the floor.
 use Rattle.std.proofs.Common.{ℕ, zero, suc, ◌+◌, ◌-◌, ◌<◌, ◌≤◌, ◌≡◌, ◌∙◌, Bool, true, arith, refl, ap, sym}
 use Rattle.std.proofs.Common.{inl, inr, List, [], ◌∷◌, Option, Some, None, max, length}
-use Rattle.std.specs.Prelude.{nat_lt, ◌==◌, ◌&&◌, ◌||◌, not, count_by, is_some, if◌then◌else◌, MatchOption}
+use Rattle.std.specs.Prelude.{nat_lt, ◌==◌, ◌&&◌, ◌||◌, not, count_by, is_some, if◌then◌else◌}
 use Rattle.std.specs.Bool.{MatchBool}
 use Rattle.std.specs.List.{list_all}
 use Rattle.std.proofs.lemmas.Bool.{cases_Bool, cases_order, and_from, eq-eqb, ne_eqb, lt-ltb, le-leb}
@@ -13,7 +13,7 @@ use Rattle.tomex_rvdec.specs.declared.pool.UnitId.TheVariants as units
 use Rattle.tomex_steps.specs.Steps.{step_pool, step_unit, step_dest, j_of, k_of, is_branch, is_number}
 use Rattle.tomex_steps.specs.declared.step.Operand.{Operand}
 use Rattle.tomex_steps.specs.declared.step.Step.{Step}
-use Rattle.tomex_config.specs.Configuration.{Configuration, stations_of, option_of}
+use Rattle.tomex_config.specs.Configuration.{stations_of, option_of}
 use Rattle.tomex_timing.specs.declared.times.Done.{Done}
 use Rattle.tomex_timing.specs.declared.times.Times.{Times}
 use Rattle.tomex_floor.specs.Floor.{all_without_station, floor_address, floor_end, floor_from, floor_issue, floor_start}
@@ -24,19 +24,11 @@ use Rattle.tomex_floor.specs.Laws.{FloorsAreReached}
 use Rattle.tomex_timing.specs.Recurrence.{IsLeast, IsTimed, AreTimed, EndsAfter, can_issue, can_issue_another}
 use Rattle.tomex_timing.specs.Recurrence.{are_branches_finished, can_address, can_start, can_end, conflicts}
 use Rattle.tomex_timing.specs.Search.{station_at}
-use Rattle.tomex_timing.specs.Station.{has_station, is_free, is_held}
+use Rattle.tomex_timing.specs.Station.{has_station, is_held}
 use Rattle.tomex_timing.proofs.Bound.{end_low}
 use Rattle.tomex_floor.proofs.Above.{AreInOrder, address_low, in_order, issue_above, start_above}
 use Rattle.tomex_floor.proofs.Falling.{from_issue, issue_next}
-use Rattle.tomex_timing.proofs.Stations.{number_is}
-
--- a pool with a free station gives the least one
-station_is : (config : Configuration) (older : List Done) (pool : Option PoolId) (t : ℕ)
-    → has_station config older pool t ≡ true
-    → MatchOption pool (station_at config older pool t ≡ None) (λ p. (n : ℕ) × (station_at config older pool t ≡ Some n)
-    × IsLeast (is_free p older t) n)
-station_is config older None t h = refl
-station_is config older (Some p) t h = (_, refl, (number_is config older p t h).0)
+use Rattle.tomex_timing.proofs.Search.{station_is}
 
 -- the floor's times with the least free stations
 

@@ -19,32 +19,16 @@ use Rattle.tomex_timing.specs.Laws.{IssueCyclesAddUp, StationCyclesAddUp, Statio
 use Rattle.tomex_timing.specs.Laws.{work_by}
 use Rattle.tomex_timing.specs.Needs.{lacks_branch, lacks_width, lacks_station, lacks_operand, lacks_address}
 use Rattle.tomex_timing.specs.Needs.{lacks_memory, lacks_unit, waits_of, pool_stalls, stalls, stalls_by}
-use Rattle.tomex_timing.specs.Recurrence.{IsLeast, IsTimed, AreTimed, can_end, can_issue, can_start, can_issue_another}
+use Rattle.tomex_timing.specs.Recurrence.{IsLeast, IsTimed, AreTimed, can_end, can_start, can_issue_another}
 use Rattle.tomex_timing.specs.Recurrence.{are_branches_finished, has_operands, are_conflicts_finished}
-use Rattle.tomex_timing.proofs.Bands.{none_of}
+use Rattle.tomex_timing.proofs.Bands.{none_of, none_pass}
 use Rattle.tomex_timing.proofs.Bound.{end_low, issue_low, start_low, timed_by}
 use Rattle.tomex_timing.proofs.Limits.{latency_low}
 use Rattle.tomex_timing.proofs.Settled.{last_issue_by}
 use Rattle.tomex_timing.proofs.Width.{issue_from}
-
-abbrev one : Bool → ℕ
-one b = cond b 1 0
+use Rattle.tomex_timing.proofs.Stations.{one}
 
 -- tests of which each cycle passes one count all of them
-three_ways : (p q r : ℕ → Bool) (n a : ℕ) → ((t : ℕ) → one (p t) + one (q t) + one (r t) ≡ 1)
-    → count_by p (range_with_len a n) + count_by q (range_with_len a n) + count_by r (range_with_len a n) ≡ n
-three_ways p q r zero a each = refl
-three_ways p q r (suc n) a each =
-    let k = three_ways p q r n (a + 1) each in
-    let h : one (p a) + one (q a) + one (r a) ≡ 1 = each a in
-    let x : count_by p (range_with_len a (suc n)) ≡ one (p a) + count_by p (range_with_len (a + 1) n) =
-    sum_by-cons (λ x. one (p x)) a (range_with_len (a + 1) n) in
-    let y : count_by q (range_with_len a (suc n)) ≡ one (q a) + count_by q (range_with_len (a + 1) n) =
-    sum_by-cons (λ x. one (q x)) a (range_with_len (a + 1) n) in
-    let z : count_by r (range_with_len a (suc n)) ≡ one (r a) + count_by r (range_with_len (a + 1) n) =
-    sum_by-cons (λ x. one (r x)) a (range_with_len (a + 1) n) in
-    omega arith
-
 four_ways : (p q r s : ℕ → Bool) (n a : ℕ) → ((t : ℕ) → one (p t) + one (q t) + one (r t) + one (s t) ≡ 1)
     → count_by p (range_with_len a n) + count_by q (range_with_len a n) + count_by r (range_with_len a n)
     + count_by s (range_with_len a n) ≡ n
@@ -52,26 +36,22 @@ four_ways p q r s zero a each = refl
 four_ways p q r s (suc n) a each =
     let k = four_ways p q r s n (a + 1) each in
     let h : one (p a) + one (q a) + one (r a) + one (s a) ≡ 1 = each a in
-    let x : count_by p (range_with_len a (suc n)) ≡ one (p a) + count_by p (range_with_len (a + 1) n) =
-    sum_by-cons (λ x. one (p x)) a (range_with_len (a + 1) n) in
-    let y : count_by q (range_with_len a (suc n)) ≡ one (q a) + count_by q (range_with_len (a + 1) n) =
-    sum_by-cons (λ x. one (q x)) a (range_with_len (a + 1) n) in
-    let z : count_by r (range_with_len a (suc n)) ≡ one (r a) + count_by r (range_with_len (a + 1) n) =
-    sum_by-cons (λ x. one (r x)) a (range_with_len (a + 1) n) in
-    let w : count_by s (range_with_len a (suc n)) ≡ one (s a) + count_by s (range_with_len (a + 1) n) =
-    sum_by-cons (λ x. one (s x)) a (range_with_len (a + 1) n) in
+    let x = sum_by-cons (λ x. one (p x)) a (range_with_len (a + 1) n) in
+    let y = sum_by-cons (λ x. one (q x)) a (range_with_len (a + 1) n) in
+    let z = sum_by-cons (λ x. one (r x)) a (range_with_len (a + 1) n) in
+    let w = sum_by-cons (λ x. one (s x)) a (range_with_len (a + 1) n) in
     omega arith
 
-none_in_range : (p : ℕ → Bool) (n a : ℕ) → ((t : ℕ) → a ≤ t → t < a + n → p t ≡ false)
-    → count_by p (range_with_len a n) ≡ 0
-none_in_range p zero a none = refl
-none_in_range p (suc n) a none =
-    rw (
-      sum_by-cons,
-      none a (omega arith) (omega arith),
-      none_in_range p n (a + 1)
-          (λ t l m. none t (omega arith) (omega arith)),
-    ) refl
+three_ways : (p q r : ℕ → Bool) (n a : ℕ) → ((t : ℕ) → one (p t) + one (q t) + one (r t) ≡ 1)
+    → count_by p (range_with_len a n) + count_by q (range_with_len a n) + count_by r (range_with_len a n) ≡ n
+three_ways p q r n a each =
+    let k = four_ways p q r (λ t. false) n a (λ t. omega (arith, each t)) in
+    let z = none_of_all n a in
+    omega arith
+  where
+    none_of_all : (n a : ℕ) → count_by (λ t. false) (range_with_len a n) ≡ 0
+    none_of_all zero a = refl
+    none_of_all (suc n) a = rw (sum_by-cons, none_of_all n (a + 1)) refl
 
 issue_ways : (b w : Bool) → one (not b) + one (b && not w) + one (b && w) ≡ 1
 issue_ways true true = refl
@@ -89,19 +69,14 @@ issue_account config older d = three_ways (lacks_branch older) (lacks_width conf
 no_station_wait : (config : Configuration) (older : List Done) (d : Done) → step_pool d.step ≡ None
     → IsTimed config older d.step d.at → (waits_of config older d).station ≡ 0
 no_station_wait config older d none is =
-    none_in_range (lacks_station config older) (d.at.issue - max 1 (last_issue older)) (max 1 (last_issue older))
-    (λ t l m. fails t l (omega arith))
+    none_pass (lacks_station config older) (max 1 (last_issue older)) d.at.issue (λ t l m.
+    last_alone (are_branches_finished older t) (can_issue_another config older t)
+    (rw (none, lt-ltb 0 t (omega arith)) at (is.issue.1 t m)))
   where
-    swap : (b w : Bool) → (((true && w) && b) && true) ≡ false → (b && w) ≡ false
-    swap true true h = h
-    swap true false h = refl
-    swap false w h = refl
-
-    fails : (t : ℕ) → max 1 (last_issue older) ≤ t → t < d.at.issue → lacks_station config older t ≡ false
-    fails t l m =
-        let can : can_issue config older d.step t ≡ false = is.issue.1 t m in
-        let can2 = rw (none, lt-ltb 0 t (omega arith)) at can in
-        swap (are_branches_finished older t) (can_issue_another config older t) can2
+    last_alone : (b w : Bool) → (((true && w) && b) && true) ≡ false → (b && w) ≡ false
+    last_alone true true h = h
+    last_alone true false h = refl
+    last_alone false w h = refl
 
 abbrev in_pools : Option PoolId → ℕ → ℕ
 in_pools x n = cond (is_in pools.Alu x) n 0 + cond (is_in pools.Mul x) n 0 + cond (is_in pools.Div x) n 0

@@ -1,16 +1,14 @@
 -- How many cycles of a wait lie from one cycle on and before another.
-use Rattle.std.proofs.Common.{ℕ, zero, suc, ◌+◌, ◌-◌, ◌<◌, ◌≤◌, ◌≡◌, ◌∙◌, Bool, cond, arith, refl, inl, inr, max, min}
+use Rattle.std.proofs.Common.{ℕ, zero, suc, ◌+◌, ◌-◌, ◌<◌, ◌≤◌, ◌≡◌, ◌∙◌, Bool, false, arith, refl, inl, inr, max, min}
 use Rattle.std.specs.Prelude.{nat_le, not, ◌&&◌, count_by}
 use Rattle.std.specs.List.{range_with_len}
-use Rattle.std.proofs.lemmas.Bool.{cases_Bool, leb-true, leb-false}
+use Rattle.std.proofs.lemmas.Bool.{cases_Bool, cases_lt, le-leb, leb-true, leb-false}
 use Rattle.std.proofs.lemmas.List.Sums.{sum_by-cons}
 use Rattle.tomex_timing.specs.Needs.{cycles_that}
+use Rattle.tomex_timing.proofs.Stations.{one}
 
 abbrev pub is_in_band : ℕ → ℕ → ℕ → Bool
 is_in_band a b t = nat_le a t && not (nat_le b t)
-
-abbrev one : Bool → ℕ
-one b = cond b 1 0
 
 one_step : (a b t n : ℕ) → one (is_in_band a b t) + (min b (t + 1 + n) - max a (t + 1)) ≡ min b (t + suc n) - max a t
 one_step a b t n = elim (cases_Bool (nat_le a t)) [
@@ -43,3 +41,12 @@ band p a b from to l m u h =
 -- of no cycles none passes
 pub none_of : (p : ℕ → Bool) (from to : ℕ) → to ≤ from → cycles_that p from to ≡ 0
 none_of p from to l = let e : to - from ≡ 0 = omega arith in rw e refl
+
+-- and of cycles none of which passes
+pub none_pass : (p : ℕ → Bool) (from to : ℕ) → ((t : ℕ) → from ≤ t → t < to → p t ≡ false) → cycles_that p from to ≡ 0
+none_pass p from to none = elim (cases_lt to from) [
+  | inl l ↦ none_of p from to (omega arith)
+  | inr l ↦
+      let k = band p from from from to (omega arith) (omega arith) l (λ t a b. rw (none t a b, le-leb from t a) refl) in
+      omega arith
+]

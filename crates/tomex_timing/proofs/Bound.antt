@@ -1,9 +1,9 @@
 -- A step's times are at most 67 past the greatest end before it, so n steps take at most 67 * n cycles.
 use Rattle.std.proofs.Common.{ℕ, ◌+◌, ◌*◌, ◌-◌, ◌<◌, ◌≤◌, ◌≡◌, true, false, arith, refl, List, [], ◌∷◌, Option, Some}
 use Rattle.std.proofs.Common.{None, inl, inr, length}
-use Rattle.std.specs.Prelude.{nat_lt, ◌||◌, is_some, MatchOption}
+use Rattle.std.specs.Prelude.{◌||◌, is_some, MatchOption}
 use Rattle.std.specs.Bool.{MatchBool}
-use Rattle.std.proofs.lemmas.Bool.{cases_Bool, ltb-true, and_parts, MatchBool-at_true, MatchBool-at_false}
+use Rattle.std.proofs.lemmas.Bool.{cases_Bool, MatchBool-at_true, MatchBool-at_false}
 use Rattle.tomex_rvdec.specs.Operands.{unit_at}
 use Rattle.tomex_rvdec.specs.declared.pool.PoolId.{PoolId}
 use Rattle.tomex_rvdec.specs.declared.pool.PoolId.TheVariants.{Load, Store}
@@ -18,21 +18,22 @@ pub use Rattle.tomex_timing.specs.Laws.{InReach}
 use Rattle.tomex_timing.specs.Recurrence.{IsLeast, IsTimed, AreTimed, can_issue, can_address, can_start, can_end}
 use Rattle.tomex_timing.proofs.Least.{least_le}
 use Rattle.tomex_timing.proofs.Limits.{latency_low, latency_high}
+use Rattle.tomex_timing.proofs.Tests.{can_end_is, can_issue_is, can_start_is}
 use Rattle.tomex_timing.proofs.Settled.{AllBy, can_issue_after, can_address_after, can_start_after, can_end_after}
 
 pub issue_low : (config : Configuration) (older : List Done) (s : Step) (t : ℕ) → can_issue config older s t ≡ true
     → 0 < t
-issue_low config older s t h = ltb-true 0 t (and_parts _ _ (and_parts _ _ (and_parts _ _ h).0).0).0
+issue_low config older s t h = (can_issue_is config older s t h).first
 
 pub start_low : (config : Configuration) (older : List Done) (s : Step) (unit : UnitId) (issue address t : ℕ)
     → can_start config older s unit issue address t ≡ true → (issue < t) × (address < t)
 start_low config older s unit issue address t h =
-    let two = and_parts (nat_lt issue t) (nat_lt address t) (and_parts _ _ (and_parts _ _ (and_parts _ _ h).0).0).0 in
-    (ltb-true issue t two.0, ltb-true address t two.1)
+    let can = can_start_is config older s unit issue address t h in
+    (can.after_issue, can.after_address)
 
 pub end_low : (config : Configuration) (older : List Done) (finish t : ℕ) → can_end config older finish t ≡ true
     → finish < t
-end_low config older finish t h = ltb-true finish t (and_parts _ _ h).0
+end_low config older finish t h = (can_end_is config older finish t h).after_finish
 
 -- a load or store uses a unit
 pub memory_unit : (pool : Option PoolId) → (is_in Load pool || is_in Store pool) ≡ true → is_some (unit_at pool) ≡ true
@@ -64,12 +65,24 @@ end_reach config older s finish end g good h f is = elim (cases_Bool (is_some (s
       (omega arith, omega arith)
 ]
 
+reach_made : (g : ℕ) (at : Times) → 0 < at.issue → at.issue ≤ g + 1 → cycle_of at.address ≤ at.start
+    → at.issue ≤ at.start → at.start ≤ at.finish → at.finish ≤ at.end → at.end ≤ g + 67 → InReach g at
+reach_made g at low reach address start order finish end = record {
+  issue_low = low;
+  issue = omega arith;
+  issue_reach = reach;
+  address = omega arith;
+  start = omega arith;
+  finish = finish;
+  end = end;
+  order = order;
+}
+
 in_reach_from : (config : Configuration) (older : List Done) (s : Step) (at : Times) (g : ℕ) (unit : Option UnitId)
     → IsWithinLimits config → AllBy g older → (is_memory s ≡ true → is_some unit ≡ true)
     → IsLeast (can_issue config older s) at.issue
     → MatchBool (is_memory s) (IsLeast (can_address older s at.issue) (cycle_of at.address)) (at.address ≡ None)
-    → at.issue ≤ g + 1 → cycle_of at.address ≤ g + 2
-    → MatchOption unit (at.start ≡ at.issue)
+    → at.issue ≤ g + 1 → cycle_of at.address ≤ g + 2 → MatchOption unit (at.start ≡ at.issue)
     (λ u. IsLeast (can_start config older s u at.issue (cycle_of at.address)) at.start)
     → MatchOption unit (at.finish ≡ at.issue) (λ u. at.finish ≡ at.start + (option_of config u).latency - 1)
     → MatchOption unit (at.end ≡ at.issue)
@@ -84,16 +97,7 @@ in_reach_from config older s at g None good h memory issue address i a start fin
           MatchBool-at_false (IsLeast (can_address older s at.issue) (cycle_of at.address)) _ e address in rw z refl
     ] in
     let low : 0 < at.issue = issue_low config older s at.issue issue.0 in
-    record {
-      issue_low = low;
-      issue = omega arith;
-      issue_reach = i;
-      address = omega arith;
-      start = omega arith;
-      finish = omega arith;
-      end = omega arith;
-      order = omega arith;
-    }
+    reach_made g at low i (omega arith) (omega arith) (omega arith) (omega arith) (omega arith)
 in_reach_from config older s at g (Some u) good h memory issue address i a start finish end =
     let low : 0 < at.issue = issue_low config older s at.issue issue.0 in
     let after = start_low config older s u at.issue (cycle_of at.address) at.start start.0 in
@@ -103,16 +107,7 @@ in_reach_from config older s at g (Some u) good h memory issue address i a start
     let k : (option_of config u).latency ≤ 64 = latency_high config u good in
     let fin : at.finish ≡ at.start + (option_of config u).latency - 1 = finish in
     let ends = end_reach config older s at.finish at.end g good h (omega arith) end in
-    record {
-      issue_low = low;
-      issue = omega arith;
-      issue_reach = i;
-      address = omega arith;
-      start = omega arith;
-      finish = omega arith;
-      end = omega arith;
-      order = omega arith;
-    }
+    reach_made g at low i (omega arith) (omega arith) (omega arith) (omega arith) (omega arith)
 
 pub in_reach : (config : Configuration) (older : List Done) (s : Step) (at : Times) (g : ℕ) → IsWithinLimits config
     → AllBy g older → IsTimed config older s at → InReach g at

@@ -1,5 +1,6 @@
 -- One step more: what is counted of its demands is what its needs say of them.
-use Rattle.std.proofs.Common.{ℕ, ◌+◌, ◌*◌, ◌^◌, ◌<◌, ◌≤◌, ◌∙◌, ◌≡◌, [], length, ap, arith, refl, sym, Bool, true, false, List, Option, Some, None}
+use Rattle.std.proofs.Common.{ℕ, ◌+◌, ◌∙◌, ◌≡◌, [], ap, arith, refl, sym, Bool, true, false}
+use Rattle.std.proofs.Common.{List, Option, Some, None}
 use Rattle.std.proofs.Common.{map, take, zero, suc}
 use Rattle.std.specs.Prelude.{◌==◌, is_some, max, nat_lt, not, ◌||◌, slice_index_or}
 use Rattle.std.proofs.Math.ListN.{get_or-map}
@@ -11,7 +12,7 @@ use Rattle.tomex_rvdec.specs.declared.pool.PoolId.{PoolId}
 use Rattle.tomex_rvdec.specs.declared.pool.UnitId.{UnitId}
 use Rattle.tomex_steps.specs.declared.step.Step.{Step}
 use Rattle.tomex_steps.proofs.Fields.{bytes_of_memory}
-use Rattle.tomex_config.specs.Configuration.{Configuration, IsWithinLimits}
+use Rattle.tomex_config.specs.Configuration.{Configuration}
 use Rattle.tomex_reservations.specs.Reservations.{Reserved}
 use Rattle.tomex_timing.specs.declared.accesses.Access.{Access}
 use Rattle.tomex_timing.specs.declared.demands.Demands.{Demands}
@@ -26,7 +27,7 @@ use Rattle.tomex_timing.specs.declared.times.Times.{Times}
 use Rattle.tomex_timing.specs.declared.waiting.Taken.{Taken}
 use Rattle.tomex_timing.specs.declared.window.Facts.{Facts}
 use Rattle.tomex_timing.specs.declared.window.Latest.{Latest}
-use Rattle.tomex_timing.specs.Ahead.{IsNextBy, IsTableAfter, accesses_after, ends_after}
+use Rattle.tomex_timing.specs.Ahead.{IsTableAfter, accesses_after, ends_after}
 use Rattle.tomex_timing.specs.Demands.{AreDemands, demand_after, demand_from, demand_of, demands_after, demands_of}
 use Rattle.tomex_timing.specs.Demands.{no_demand}
 use Rattle.tomex_timing.specs.Demands.{nothing_asked, stations_asked, units_asked}
@@ -35,12 +36,10 @@ use Rattle.tomex_timing.specs.History.{greatest_end}
 use Rattle.tomex_timing.specs.Search.{history}
 use Rattle.tomex_timing.specs.Waiting.{need_after, needs_after, nothing_needed, stations_after, units_after}
 use Rattle.tomex_timing.specs.Waiting.{taken_from, waits_by}
-use Rattle.tomex_timing.proofs.HeldNeeds.{held_needs, length_facts}
 use Rattle.tomex_timing.proofs.Needed.{needs_none}
 use Rattle.tomex_timing.proofs.Shown.{IsShown}
-use Rattle.tomex_timing.proofs.ShownTurns.{IsStep, held_turn}
-use Rattle.tomex_timing.proofs.Turns.{end_bound, issued_bound}
-use Rattle.tomex_timing.specs.Window.{AreFacts, facts_of, is_memory_pool, latest_after}
+use Rattle.tomex_timing.proofs.Turns.{IsTurn, held_turn, needs_turn}
+use Rattle.tomex_timing.specs.Window.{facts_of, is_memory_pool, latest_after}
 
 or_none : (b : Bool) → b ≡ (b || false)
 or_none true = refl
@@ -68,8 +67,7 @@ part_asked : (needs : List Need) (place taken waited : ℕ)
     (demand_after (slice_index_or (map demand_from needs) place no_demand) taken waited)
 part_asked needs place taken waited =
     map-set demand_from needs place (need_after (slice_index_or needs place no_need) taken waited)
-    ∙ ap (set (map demand_from needs) place)
-    (demand_more (slice_index_or needs place no_need) taken waited
+    ∙ ap (set (map demand_from needs) place) (demand_more (slice_index_or needs place no_need) taken waited
     ∙ ap (λ d. demand_after d taken waited) (sym (get_or-map demand_from needs place no_need)))
 
 stations_more : (pool : Option PoolId) (taken waited : ℕ) (needs : List Need)
@@ -101,65 +99,42 @@ demands_none config = record { needs = nothing_needed; are = needs_none config; 
 abbrev pub with_total : ℕ → Demands → Demands
 with_total total demands = record demands { total = total }
 
--- and after one more
-pub held_demands : (config : Configuration) (steps : List Step) (i : ℕ) (x : Step) (f : Facts) (latest : Latest)
-    (table : Reserved) (taken : List ℕ) (accesses : List Access) (next : Next) (demands : Demands) (waits : Waits)
-    (takes : Taken) → IsStep config steps i x f → IsShown (history config (take i steps)) latest table taken accesses
-    → IsNextBy config latest table taken accesses f next
-    → waits ≡ waits_by latest next.marks next.at → takes ≡ taken_from latest next
-    → AreDemands config (history config (take i steps)) (with_total latest.end demands)
-    → AreDemands config (history config (take (i + 1) steps))
-    (with_total (max next.at.end latest.end) (demands_after f waits takes demands.total demands))
-held_demands config steps i x f latest table taken accesses next demands waits takes step shown by told took before =
-    let total : latest.end ≡ before.needs.total = ap (λ (d : Demands). d.total) before.same in
-    record {
-      needs = needs_after f waits takes next.at before.needs;
-      are = held_needs config steps i x f latest table taken accesses next before.needs waits takes step shown by told
-          took before.are;
-      same = ap (λ (d : Demands). demands_after f waits takes (max next.at.end latest.end) d) before.same
-          ∙ (ap (λ (n : ℕ). demands_after f waits takes (max next.at.end n) (demands_of before.needs)) total
-          ∙ sym (demands_more f waits takes next.at before.needs));
-    }
-
 -- what touches bytes is of the pools of loads and stores
 pub touches : (x : Step) (f : Facts) → f ≡ facts_of x → is_some f.bytes ≡ is_memory_pool f.pool
 touches x f is = rw is (bytes_of_memory x)
 
--- so what a step leaves shows the steps up to it
-pub asked_turn : (config : Configuration) (steps : List Step) (i : ℕ) (x : Step) (f : Facts) (latest : Latest)
-    (table : Reserved) (taken : List ℕ) (accesses : List Access) (demands : Demands) (next : Next) (latest' : Latest)
-    (table' : Reserved) (taken' : List ℕ) (accesses' : List Access) (demands' : Demands) → IsStep config steps i x f
-    → IsShown (history config (take i steps)) latest table taken accesses
-    → AreDemands config (history config (take i steps)) (with_total latest.end demands)
-    → IsNextBy config latest table taken accesses f next → latest' ≡ latest_after f next.at latest
-    → IsTableAfter f next.at table table' → taken' ≡ ends_after f next.at taken
-    → accesses' ≡ accesses_after f next.at accesses
-    → demands'
-    ≡ demands_after f (waits_by latest next.marks next.at) (taken_from latest next) demands.total demands
-    → IsShown (history config (take (i + 1) steps)) latest' table' taken' accesses'
-    × AreDemands config (history config (take (i + 1) steps)) (with_total latest'.end demands')
-asked_turn config steps i x f latest table taken accesses demands next latest' table' taken' accesses' demands' step
-    shown are by last after ends under noted = (
-      rw (last, ends, under)
-          (held_turn config steps i x f latest table table' taken accesses next step shown by after).0,
-      rw (noted, last) (held_demands config steps i x f latest table taken accesses next demands _ _ step shown by refl
-          refl are),
-    )
+module _ {config : Configuration} {steps : List Step} {i : ℕ} {x : Step} {f : Facts} {latest : Latest}
+    {table : Reserved} {taken : List ℕ} {accesses : List Access} {next : Next}
+    (turn : IsTurn config steps i x f latest table taken accesses next) where
+  held_demands : (demands : Demands) → AreDemands config (history config (take i steps)) (with_total latest.end demands)
+      → AreDemands config (history config (take (i + 1) steps))
+      (with_total (max next.at.end latest.end) (demands_after f (waits_by latest next.marks next.at)
+      (taken_from latest next) demands.total demands))
+  held_demands demands before =
+      let waits = waits_by latest next.marks next.at in
+      let takes = taken_from latest next in
+      let total : latest.end ≡ before.needs.total = ap (λ (d : Demands). d.total) before.same in
+      record {
+        needs = needs_after f waits takes next.at before.needs;
+        are = needs_turn turn refl refl before.are;
+        same = ap (λ (d : Demands). demands_after f waits takes (max next.at.end latest.end) d) before.same
+            ∙ (ap (λ (n : ℕ). demands_after f waits takes (max next.at.end n) (demands_of before.needs)) total
+            ∙ sym (demands_more f waits takes next.at before.needs));
+      }
 
--- cycles and issues are few
-pub few_more : (config : Configuration) (steps : List Step) (facts : List Facts) (i : ℕ) (latest : Latest)
-    (table : Reserved) (taken : List ℕ) (accesses : List Access) → IsWithinLimits config → AreFacts steps facts
-    → length facts < 2 ^ 28 → i < length facts → IsShown (history config (take i steps)) latest table taken accesses
-    → (latest.end ≤ 67 * i) × (latest.issued ≤ i)
-few_more config steps facts i latest table taken accesses good are few l shown =
-    let n : length facts ≡ length steps = length_facts steps facts are in
-    let e : latest.end ≤ 67 * i = end_bound config steps i _ latest good (omega arith) shown.kept in
-    let k : latest.issued ≤ i = issued_bound config steps i _ latest (omega arith) shown.kept in
-    (e, k)
+  -- so what a step leaves shows the steps up to it
+  pub asked_turn : {demands : Demands} {last : Latest} {after : Reserved} {ends : List ℕ} {under : List Access}
+      {noted : Demands} → AreDemands config (history config (take i steps)) (with_total latest.end demands)
+      → last ≡ latest_after f next.at latest → IsTableAfter f next.at table after → ends ≡ ends_after f next.at taken
+      → under ≡ accesses_after f next.at accesses
+      → noted ≡ demands_after f (waits_by latest next.marks next.at) (taken_from latest next) demands.total demands
+      → IsShown (history config (take (i + 1) steps)) last after ends under
+      × AreDemands config (history config (take (i + 1) steps)) (with_total last.end noted)
+  asked_turn {demands} are last tabled ends under noted =
+      (rw (last, ends, under) (held_turn turn tabled), rw (noted, last) (held_demands demands are))
 
 -- the demand for a part is its peak, and whether it has stalls
-pub demand_is : {config : Configuration} {h : List Done} {demands : Demands} (part : Part)
-    → AreDemands config h demands
+pub demand_is : {config : Configuration} {h : List Done} {demands : Demands} (part : Part) → AreDemands config h demands
     → demand_of demands part ≡ record { peak = peak part h; waits = not (stalls config part h == 0) }
 demand_is (Stations pool) is =
     rw is.same (get_or-map demand_from is.needs.stations (place_of_pool pool) no_need

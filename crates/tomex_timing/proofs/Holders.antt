@@ -1,24 +1,34 @@
--- Which step has a station: a pool's station of a number is one step's at a time.
+-- Which step has a station: a pool's station of a number is one step's at a time. So the stations that are held have
+-- different numbers, and are no more than the numbers up to the greatest.
 use Rattle.std.proofs.Common.{ℕ, ◌<◌, ◌≤◌, ◌≡◌, Bool, true, false, arith, refl, inl, inr, List, [], ◌∷◌, Option, Some}
-use Rattle.std.proofs.Common.{None}
-use Rattle.std.specs.Prelude.{nat_le, ◌&&◌, is_some, not, MatchOption}
+use Rattle.std.proofs.Common.{None, zero, suc, ◌+◌, cond, ap}
+use Rattle.std.specs.Prelude.{nat_le, ◌&&◌, is_some, not, MatchOption, ◌==◌, count_by}
 use Rattle.std.specs.Bool.{MatchBool}
-use Rattle.std.proofs.lemmas.Bool.{cases_Bool, and_parts, le-leb, leb-true}
+use Rattle.std.proofs.lemmas.Bool.{cases_Bool, and_parts, le-leb, leb-true, cases_order, eqb-true, le-ltb, lt-ltb}
 use Rattle.tomex_rvdec.specs.Operands.{unit_at}
 use Rattle.tomex_rvdec.specs.declared.pool.PoolId.{PoolId}
 use Rattle.tomex_rvdec.specs.declared.pool.UnitId.{UnitId}
 use Rattle.tomex_steps.specs.Steps.{is_in, is_number, step_dest, step_pool}
-use Rattle.tomex_config.specs.Configuration.{stations_of}
+use Rattle.tomex_config.specs.Configuration.{stations_of, Configuration}
 use Rattle.tomex_timing.specs.declared.tables.Tag.{Tag}
 use Rattle.tomex_timing.specs.declared.times.Done.{Done}
 use Rattle.tomex_timing.specs.Laws.{NumbersAreLow, StationsAreApart, StationsAreThere}
-use Rattle.tomex_timing.specs.Recurrence.{IsLeast, can_end}
+use Rattle.tomex_timing.specs.Recurrence.{IsLeast, can_end, AreTimed}
 use Rattle.tomex_timing.specs.Search.{least}
 use Rattle.tomex_timing.specs.Station.{has_station, is_free, is_held}
 use Rattle.tomex_timing.specs.Tables.{tag_at}
 use Rattle.tomex_timing.proofs.Least.{least_same}
 use Rattle.tomex_timing.proofs.Search.{issue_station}
-use Rattle.tomex_timing.proofs.Stations.{number_is}
+use Rattle.tomex_timing.proofs.Stations.{number_is, one, lower, split_count}
+use Rattle.std.specs.List.{list_all}
+use Rattle.std.proofs.lemmas.List.Sums.{sum_by-cons}
+use Rattle.tomex_rvdec.specs.Parts.{place_of_pool}
+use Rattle.tomex_timing.specs.declared.part.Part.TheVariants.{Stations}
+use Rattle.tomex_timing.specs.History.{last_issue}
+use Rattle.tomex_timing.specs.Needs.{peak, stations_up_to}
+use Rattle.tomex_timing.proofs.Limits.{same_pool}
+use Rattle.tomex_timing.proofs.Width.{issue_from}
+use Rattle.tomex_timing.proofs.Bools.{and_true}
 
 -- the number is the least free one
 number_least : (older : List Done) (station : Option ℕ) (issue n : ℕ) (p q : PoolId) → q ≡ p → station ≡ Some n
@@ -85,3 +95,135 @@ station_there config d older timed l =
     tag_there (step_pool d.step) d.at.station d.at.issue d.at.end
     (λ unit. MatchBool (is_some (step_dest d.step)) (IsLeast (can_end config older d.at.finish) d.at.end)
     (d.at.end ≡ d.at.finish)) (λ p n. IsLeast (is_free p older d.at.issue) n) timed.end timed.station l
+
+-- what none passes counts none
+none_pass : {X : Type 0} (q : X → Bool) (xs : List X) → list_all (λ x. not (q x)) xs ≡ true → count_by q xs ≡ 0
+none_pass q [] h = refl
+none_pass q (x ∷ xs) h =
+    let two = and_parts (not (q x)) (list_all (λ x. not (q x)) xs) h in
+    elim (cases_Bool (q x)) [
+      | inl e ↦ let f : false ≡ true = rw e at two.0 in absurd (cc)
+      | inr e ↦ rw (sum_by-cons, e, none_pass q xs two.1) refl
+    ]
+
+abbrev is_holder : PoolId → ℕ → ℕ → Done → Bool
+is_holder pool t n d = is_held pool t d && is_number d.at.station n
+
+-- a number that a step holds was free of what is older
+holder_free : (pool : PoolId) (older : List Done) (x : Option PoolId) (station : Option ℕ) (issue t n : ℕ) (b : Bool)
+    → issue ≤ t → MatchOption x (station ≡ None) (λ p. (m : ℕ) × (station ≡ Some m) × IsLeast (is_free p older issue) m)
+    → ((is_in pool x && b) && is_number station n) ≡ true → is_free pool older t n ≡ true
+holder_free pool older None station issue t n b l is h = absurd (cc)
+holder_free pool older (Some p) station issue t n b l is h =
+    let two = and_parts ((place_of_pool p == place_of_pool pool) && b) (is_number station n) h in
+    let same : p ≡ pool = same_pool p pool (and_parts (place_of_pool p == place_of_pool pool) b two.0).0 in
+    let number : (is.0 == n) ≡ true = rw is.1 at two.1 in
+    let is_n : is.0 ≡ n = eqb-true is.0 n number in
+    let free : is_free pool older issue n ≡ true = rw (← same, ← is_n) is.2.0 in
+    free_later pool older n issue t l free
+
+-- no two steps hold one number
+one_holder : (config : Configuration) (h : List Done) (pool : PoolId) (t n : ℕ) → AreTimed config h → last_issue h ≤ t
+    → count_by (is_holder pool t n) h ≤ 1
+one_holder config [] pool t n timed l = omega arith
+one_holder config (d ∷ h) pool t n timed l = elim (cases_Bool (is_holder pool t n d)) [
+  | inl e ↦
+      let free : is_free pool h t n ≡ true =
+      holder_free pool h (step_pool d.step) d.at.station d.at.issue t n (nat_le t d.at.end) l timed.0.station e in
+      let none : count_by (is_holder pool t n) h ≡ 0 = none_pass (is_holder pool t n) h free in
+      rw (sum_by-cons, e, none) (omega arith)
+  | inr e ↦
+      let k : last_issue h ≤ d.at.issue = issue_from config h d.step d.at.issue timed.0.issue.0 in
+      let rest : count_by (is_holder pool t n) h ≤ 1 = one_holder config h pool t n timed.1 (omega arith) in
+      rw (sum_by-cons, e) (omega arith)
+]
+
+none_lower : {X : Type 0} (held : X → Bool) (station : X → Option ℕ) (xs : List X)
+    → count_by (λ d. held d && lower (station d) 0) xs ≡ 0
+none_lower held station [] = refl
+none_lower held station (x ∷ xs) = rw (sum_by-cons, none (held x) (station x), none_lower held station xs) refl
+  where
+    none : (b : Bool) (s : Option ℕ) → (b && lower s 0) ≡ false
+    none false s = refl
+    none true None = refl
+    none true (Some m) = le-ltb m 0 (omega arith)
+
+-- where each number is held once at most, the first numbers are held as often as they are at most
+few : {X : Type 0} (held : X → Bool) (station : X → Option ℕ) (xs : List X) (m : ℕ)
+    → ((k : ℕ) → count_by (λ d. held d && is_number (station d) k) xs ≤ 1)
+    → count_by (λ d. held d && lower (station d) m) xs ≤ m
+few held station xs zero one_each = rw (none_lower held station xs) (omega arith)
+few held station xs (suc m) one_each =
+    let a : count_by (λ d. held d && lower (station d) m) xs ≤ m = few held station xs m one_each in
+    let b : count_by (λ d. held d && is_number (station d) m) xs ≤ 1 = one_each m in
+    let e = split_count held station m xs in
+    omega arith
+
+-- and where one of them isn't held, less often
+fewer : {X : Type 0} (held : X → Bool) (station : X → Option ℕ) (xs : List X) (m n : ℕ)
+    → ((k : ℕ) → count_by (λ d. held d && is_number (station d) k) xs ≤ 1)
+    → n < m → count_by (λ d. held d && is_number (station d) n) xs ≡ 0
+    → count_by (λ d. held d && lower (station d) m) xs < m
+fewer held station xs zero n one_each l none = absurd (omega arith)
+fewer held station xs (suc m) n one_each l none = elim (cases_order n m) [
+  | inl e ↦
+      let a : count_by (λ d. held d && lower (station d) m) xs ≤ m = few held station xs m one_each in
+      let z : count_by (λ d. held d && is_number (station d) m) xs ≡ 0 = rw e at none in
+      let s = split_count held station m xs in
+      omega arith
+  | inr (inl k) ↦
+      let a : count_by (λ d. held d && lower (station d) m) xs < m = fewer held station xs m n one_each k none in
+      let b : count_by (λ d. held d && is_number (station d) m) xs ≤ 1 = one_each m in
+      let s = split_count held station m xs in
+      omega arith
+  | inr (inr k) ↦ absurd (omega arith)
+]
+
+-- a number of the pool lies below what is taken
+held_low : (pool : PoolId) (x : Option PoolId) (station : Option ℕ) (m : ℕ) (b : Bool) (R : PoolId → ℕ → Type 0)
+    → MatchOption x (station ≡ None) (λ p. (n : ℕ) × (station ≡ Some n) × R p n)
+    → cond (is_in pool x) (stations_up_to station) 0 ≤ m
+    → (is_in pool x && b) ≡ ((is_in pool x && b) && lower station m)
+held_low pool None station m b R is l = refl
+held_low pool (Some p) station m b R is l = elim (cases_Bool (place_of_pool p == place_of_pool pool)) [
+  | inl e ↦
+      let up : stations_up_to station ≤ m = rw e at l in
+      let up_n : is.0 + 1 ≤ m = rw is.1 at up in
+      rw (e, is.1, lt-ltb is.0 m (omega arith)) (and_true b)
+  | inr e ↦ rw e refl
+]
+
+all_low : (config : Configuration) (h : List Done) (pool : PoolId) (t m : ℕ) → AreTimed config h
+    → peak (Stations pool) h ≤ m → count_by (is_held pool t) h
+    ≡ count_by (λ d. is_held pool t d && lower d.at.station m) h
+all_low config [] pool t m timed l = refl
+all_low config (d ∷ h) pool t m timed l =
+    let taken : cond (is_in pool (step_pool d.step)) (stations_up_to d.at.station) 0 ≤ m = omega arith in
+    let rest : peak (Stations pool) h ≤ m = omega arith in
+    let e : is_held pool t d ≡ (is_held pool t d && lower d.at.station m) =
+    held_low pool (step_pool d.step) d.at.station m (nat_le t d.at.end) (λ p n. IsLeast (is_free p h d.at.issue) n)
+    timed.0.station taken in
+    let k = all_low config h pool t m timed.1 rest in
+    let a : count_by (is_held pool t) (d ∷ h) ≡ one (is_held pool t d) + count_by (is_held pool t) h =
+    sum_by-cons (λ x. one (is_held pool t x)) d h in
+    let b : count_by (λ d. is_held pool t d && lower d.at.station m) (d ∷ h)
+    ≡ one (is_held pool t d && lower d.at.station m) + count_by (λ d. is_held pool t d && lower d.at.station m) h =
+    sum_by-cons (λ x. one (is_held pool t x && lower x.at.station m)) d h in
+    let f : one (is_held pool t d) ≡ one (is_held pool t d && lower d.at.station m) = ap one e in
+    omega arith
+
+-- where a number below m is free, fewer than m stations are held
+pub stations_fit : (config : Configuration) (h : List Done) (pool : PoolId) (t n m : ℕ) → AreTimed config h
+    → last_issue h ≤ t → is_free pool h t n ≡ true → n < m → peak (Stations pool) h ≤ m
+    → count_by (is_held pool t) h < m
+stations_fit config h pool t n m timed l free below top =
+    rw (all_low config h pool t m timed top)
+    (fewer (is_held pool t) (λ d. d.at.station) h m n (λ k. one_holder config h pool t k timed l) below
+    (none_pass (is_holder pool t n) h free))
+
+-- no cycle from the last issue on has more stations held than the greatest number up to one's own
+pub stations_held : (config : Configuration) (h : List Done) (pool : PoolId) (t : ℕ) → AreTimed config h
+    → last_issue h ≤ t → count_by (is_held pool t) h ≤ peak (Stations pool) h
+stations_held config h pool t timed l =
+    rw (all_low config h pool t (peak (Stations pool) h) timed (omega arith))
+    (few (is_held pool t) (λ d. d.at.station) h (peak (Stations pool) h) (λ k. one_holder config h pool t k timed l))

@@ -1,8 +1,9 @@
 -- The least number that passes a test: it is one, and a bounded search finds it.
 use Rattle.std.proofs.Common.{ℕ, zero, suc, ◌+◌, ◌<◌, ◌≤◌, ◌≡◌, Bool, true, false, refl, IsTrue, arith, inl, inr, subst}
 use Rattle.std.proofs.Common.{add-zero, zero-add, sym, ◌∙◌}
-use Rattle.std.specs.Prelude.{◌==◌}
-use Rattle.std.proofs.lemmas.Bool.{cases_Bool, cases_order, both_ways, eq-eqb, ne_eqb}
+use Rattle.std.specs.Prelude.{nat_le, ◌==◌, ◌&&◌}
+use Rattle.std.proofs.lemmas.Bool.{and_parts, cases_Bool, cases_order, both_ways, eq-eqb, leb-true, ne_eqb}
+use Rattle.tomex_reservations.specs.Reservations.{IsFirst}
 use Rattle.tomex_timing.specs.Recurrence.{IsLeast}
 use Rattle.tomex_timing.specs.Search.{first_from, least}
 
@@ -48,6 +49,17 @@ least_test p a u l le = elim (cases_order a u) [
   | inr (inr k) ↦ rw (l.1 u k, ne_eqb a u (λ (e : a ≡ u). absurd (omega arith))) refl
 ]
 
--- a search from one cycle on, of a test that is as another from there on
+-- a test that is as another has the same least number
 pub least_agree : (p q : ℕ → Bool) (a : ℕ) → ((t : ℕ) → p t ≡ q t) → IsLeast p a → IsLeast q a
 least_agree p q a agree x = (let h : q a ≡ p a = sym (agree a) in h ∙ x.0, λ s l. sym (agree s) ∙ x.1 s l)
+
+-- a search from one cycle on, of a test that is as another from there on
+pub first_agree : (p q : ℕ → Bool) (from t : ℕ) → ((s : ℕ) → from ≤ s → p s ≡ q s) → IsFirst from p t → IsFirst from q t
+first_agree p q from t agree first =
+    least_agree (λ s. nat_le from s && p s) (λ s. nat_le from s && q s) t (λ s. elim (cases_Bool (nat_le from s)) [
+      | inl e ↦ rw (e, agree s (leb-true from s e)) refl
+      | inr e ↦ rw e refl
+    ]) first
+
+pub first_from_le : (p : ℕ → Bool) (from t : ℕ) → IsFirst from p t → from ≤ t
+first_from_le p from t first = leb-true from t (and_parts (nat_le from t) (p t) first.0).0

@@ -1,15 +1,19 @@
 -- One step more: the needs that are counted stay those of the history.
-use Rattle.std.proofs.Common.{ℕ, suc, ◌+◌, ◌<◌, ◌≤◌, ◌≡◌, ◌∙◌, true, cond, arith, refl, ap, sym, inl, inr, List, []}
-use Rattle.std.proofs.Common.{◌∷◌, Option, Some, None}
+use Rattle.std.proofs.Common.{ℕ, suc, ◌+◌, ◌<◌, ◌≤◌, ◌≡◌, ◌∙◌, true, false, cond, arith, refl, ap, sym, inl, inr, List}
+use Rattle.std.proofs.Common.{[], ◌∷◌, Option, Some, None}
 use Rattle.std.specs.Prelude.{◌==◌, ◌&&◌, count_by, is_some, length, slice_index_or, slice_set}
-use Rattle.std.proofs.lemmas.Bool.{cases_Bool, and_right, eqb-true, ne_eqb, both_ways, eq-eqb}
+use Rattle.std.proofs.lemmas.Bool.{cases_Bool, eqb-true, both_ways, eq-eqb}
 use Rattle.std.proofs.lemmas.List.{get_or-set_same, get_or-set_other, get_or-replicate, length-set}
 use Rattle.tomex_rvdec.specs.Parts.{place_of_pool, place_of_unit}
 use Rattle.tomex_rvdec.specs.declared.pool.PoolId.{PoolId}
 use Rattle.tomex_rvdec.specs.declared.pool.UnitId.{UnitId}
 use Rattle.tomex_steps.specs.Steps.{step_pool, step_unit, step_dest, is_in}
-use Rattle.tomex_config.specs.Configuration.{Configuration, IsWithinLimits}
+use Rattle.tomex_steps.specs.declared.step.Step.{Step}
+use Rattle.tomex_config.specs.Configuration.{Configuration}
+use Rattle.tomex_reservations.specs.Reservations.{Reserved}
+use Rattle.tomex_timing.specs.declared.accesses.Access.{Access}
 use Rattle.tomex_timing.specs.declared.needs.Needs.{Needs}
+use Rattle.tomex_timing.specs.declared.next.Next.{Next}
 use Rattle.tomex_timing.specs.declared.part.Need.{Need}
 use Rattle.tomex_timing.specs.declared.part.Part.{Part}
 use Rattle.tomex_timing.specs.declared.part.Part.TheVariants.{Stations, Units, Buses, Width}
@@ -17,19 +21,18 @@ use Rattle.tomex_timing.specs.declared.waiting.Taken.{Taken}
 use Rattle.tomex_timing.specs.declared.part.Waits.{Waits}
 use Rattle.tomex_timing.specs.declared.times.Done.{Done}
 use Rattle.tomex_timing.specs.declared.window.Latest.{Latest}
+use Rattle.tomex_timing.specs.Ahead.{TakesBus}
 use Rattle.tomex_timing.specs.History.{is_of, last_issue, greatest_end}
 use Rattle.tomex_timing.specs.Needs.{AreNeeds, need_of, no_need, peak, stalls, taken_by, waits_for, waits_of}
 use Rattle.tomex_timing.specs.Laws.{InReach}
-use Rattle.tomex_timing.specs.Recurrence.{IsTimed, AreTimed}
-use Rattle.tomex_timing.specs.Waiting.{need_after, needs_after, stations_after, units_after, taken_among, units_taken}
-use Rattle.tomex_timing.specs.Waiting.{nothing_needed}
-use Rattle.tomex_timing.specs.Window.{Live, facts_of, recent, starts_in, sends_in, IsKept}
-use Rattle.tomex_timing.proofs.Limits.{pool_in, unit_in}
-use Rattle.tomex_timing.proofs.Orders.{dest_unit, reach, start_later, result_later}
-use Rattle.tomex_timing.proofs.Places.{same_unit}
+use Rattle.tomex_timing.specs.Recurrence.{IsTimed}
+use Rattle.tomex_timing.specs.Waiting.{need_after, needs_after, nothing_needed, stations_after, taken_from, units_after}
+use Rattle.tomex_timing.specs.Window.{facts_of}
+use Rattle.tomex_timing.proofs.Shown.{issued_kept}
+use Rattle.tomex_timing.proofs.Limits.{pool_in, unit_in, same_unit}
+use Rattle.tomex_timing.proofs.NextTimed.{ComesNext, Runs}
+use Rattle.tomex_timing.proofs.Orders.{dest_unit, reach, start_later}
 use Rattle.tomex_timing.proofs.Width.{issue_from}
-use Rattle.tomex_timing.proofs.WindowTests.{AreClosed, count_recent}
-use Rattle.tomex_timing.proofs.Windows.{issued_kept}
 
 -- of what a step takes, what it takes of a part
 abbrev pub taken_for : Part → Done → Taken → ℕ
@@ -56,10 +59,8 @@ part_after i p taken waited xs there = elim (cases_Bool (p == i)) [
       let same : p ≡ i = eqb-true p i e in
       rw (e, same) (get_or-set_same xs i (need_after (slice_index_or xs i no_need) taken waited) no_need there)
   | inr e ↦
-      rw e
-      (get_or-set_other xs p i (need_after (slice_index_or xs p no_need) taken waited) no_need
-      (λ (s : i ≡ p). absurd (both_ways _ e (eq-eqb p i (sym s))))
-      ∙ no_more (slice_index_or xs i no_need))
+      rw e (get_or-set_other xs p i (need_after (slice_index_or xs p no_need) taken waited) no_need
+      (λ (s : i ≡ p). absurd (both_ways _ e (eq-eqb p i (sym s)))) ∙ no_more (slice_index_or xs i no_need))
 ]
 
 pool_part : (pool : PoolId) (x : Option PoolId) (taken waited : ℕ) (xs : List Need) → length xs ≡ 6
@@ -88,62 +89,56 @@ length-units_after : (x : Option UnitId) (taken waited : ℕ) (xs : List Need) �
 length-units_after None taken waited xs = refl
 length-units_after (Some p) taken waited xs = length-set xs (place_of_unit p) _
 
--- what starts or ends with a step is still kept
-units_kept : (config : Configuration) (h : List Done) (d : Done) (unit : UnitId) → AreClosed h
-    → last_issue h < d.at.start → count_by (starts_in unit d.at.start) (recent (last_issue h) h)
-    ≡ count_by (λ x. is_of unit (step_unit x.step) && x.at.start == d.at.start) h
-units_kept config h d unit close l =
-    count_recent (starts_in unit d.at.start) (last_issue h)
-    (λ x k m. and_right (is_of unit x.facts.unit) (x.start == d.at.start)
-    (ne_eqb x.start d.at.start (λ (e : x.start ≡ d.at.start). absurd (omega (arith, k.start))))) h close
+module _ {config : Configuration} {h : List Done} {latest : Latest} {table : Reserved} {taken : List ℕ}
+    {accesses : List Access} {s : Step} {next : Next} (c : ComesNext config h latest table taken accesses s next) where
+  units_are : (unit : UnitId) (x : Option UnitId) → step_unit s ≡ x → Runs c x → IsTimed config h s next.at
+      → cond (is_of unit x) next.units 0 ≡ cond (is_of unit x)
+      (count_by (λ y. is_of unit (step_unit y.step) && y.at.start == next.at.start) h + 1) 0
+  units_are unit None of run is = refl
+  units_are unit (Some u) of run is = elim (cases_Bool (place_of_unit u == place_of_unit unit)) [
+    | inl e ↦
+        let same : u ≡ unit = same_unit u unit e in
+        let l : last_issue h ≤ next.at.issue = issue_from config h s next.at.issue is.issue.0 in
+        let later : next.at.issue < next.at.start =
+        (start_later config (record { step = s; at = next.at }) h is (rw of refl)).0 in
+        rw (e, run.units, c.shown.starts u next.at.start (omega arith), same) refl
+    | inr e ↦ rw e refl
+  ]
 
-results_kept : (config : Configuration) (h : List Done) (d : Done) → AreClosed h → last_issue h < d.at.end
-    → count_by (sends_in d.at.end) (recent (last_issue h) h)
-    ≡ count_by (λ x. is_some (step_dest x.step) && x.at.end == d.at.end) h
-results_kept config h d close l =
-    count_recent (sends_in d.at.end) (last_issue h)
-    (λ x k m. and_right (is_some x.facts.dest) (x.end == d.at.end)
-    (ne_eqb x.end d.at.end (λ (e : x.end ≡ d.at.end). absurd (omega arith)))) h close
+  buses_are : (x : Option UnitId) (dest : Option ℕ) → step_unit s ≡ x → step_dest s ≡ dest → Runs c x
+      → IsTimed config h s next.at → next.buses ≡ cond (is_some dest)
+      (count_by (λ y. is_some (step_dest y.step) && y.at.end == next.at.end) h + 1) 0
+  buses_are None None of to run is = run.buses
+  buses_are None (Some r) of to run is =
+      let u : is_some (step_unit s) ≡ true = dest_unit s (rw to refl) in
+      let f : false ≡ true = rw of at u in
+      absurd (cc)
+  buses_are (Some u) None of to run is = let end = rw to at run.end in end.1
+  buses_are (Some u) (Some r) of to run is =
+      let end : TakesBus config table (Some r) next.at.finish next.at.end next.buses = rw to at run.end in
+      let l : last_issue h ≤ next.at.issue = issue_from config h s next.at.issue is.issue.0 in
+      let reaches : InReach (greatest_end h) next.at =
+      reach config (record { step = s; at = next.at }) h c.good (is, c.timed) in
+      let later : next.at.issue < next.at.start =
+      (start_later config (record { step = s; at = next.at }) h is (rw of refl)).0 in
+      rw (end.1, c.shown.results next.at.end (omega arith)) refl
 
-same_kind : (unit : UnitId) (x : Option UnitId) (live : List Live) (h : List Done) (t : ℕ)
-    → (is_some x ≡ true → count_by (starts_in unit t) live
-    ≡ count_by (λ x. is_of unit (step_unit x.step) && x.at.start == t) h)
-    → cond (is_of unit x) (units_taken live x t) 0 ≡ cond (is_of unit x)
-    (count_by (λ x. is_of unit (step_unit x.step) && x.at.start == t) h + 1) 0
-same_kind unit None live h t f = refl
-same_kind unit (Some u) live h t f = elim (cases_Bool (place_of_unit u == place_of_unit unit)) [
-  | inl e ↦ let s : u ≡ unit = same_unit u unit e in rw (e, s, f refl) refl
-  | inr e ↦ rw e refl
-]
-
--- what is counted as taken is what is taken
-pub taken_is : (config : Configuration) (h : List Done) (d : Done) (live : List Live) (latest : Latest) (part : Part)
-    → IsWithinLimits config → AreTimed config h → AreClosed h → IsKept h live latest → IsTimed config h d.step d.at
-    → taken_for part d (taken_among live latest (facts_of d.step) d.at) ≡ taken_by part h d
-taken_is config h d live latest (Stations pool) good timed close kept is = refl
-taken_is config h d live latest (Units unit) good timed close kept is =
-    let l : last_issue h ≤ d.at.issue = issue_from config h d.step d.at.issue is.issue.0 in
-    rw kept.window
-    (same_kind unit (step_unit d.step) (recent (last_issue h) h) h d.at.start (λ some. let s : d.at.issue < d.at.start =
-    (start_later config d h is some).0 in units_kept config h d unit close (omega arith)))
-taken_is config h d live latest Buses good timed close kept is = elim (cases_Bool (is_some (step_dest d.step))) [
-  | inl e ↦
-      let l : last_issue h ≤ d.at.issue = issue_from config h d.step d.at.issue is.issue.0 in
-      let r : InReach (greatest_end h) d.at = reach config d h good (is, timed) in
-      let s : d.at.issue < d.at.start = (start_later config d h is (dest_unit d.step e)).0 in
-      let f : d.at.finish < d.at.end = result_later config d h is e in
-      let o : d.at.start ≤ d.at.finish = r.order in
-      rw (e, kept.window, results_kept config h d close (omega arith)) refl
-  | inr e ↦ rw e refl
-]
-taken_is config h d live latest Width good timed close kept is =
-    let l : last_issue h ≤ d.at.issue = issue_from config h d.step d.at.issue is.issue.0 in
-    let e : latest.issued ≡ count_by (λ d. d.at.issue == last_issue h) h = kept.issued in
-    let k : cond (d.at.issue == last_issue h) (latest.issued + 1) 1 ≡ suc (count_by (λ x. x.at.issue == d.at.issue) h) =
-    issued_kept config h d.at.issue latest.issued timed l e in
-    let s : suc (count_by (λ x. x.at.issue == d.at.issue) h) ≡ count_by (λ x. x.at.issue == d.at.issue) h + 1 =
-    omega arith in
-    rw kept.issue (k ∙ s)
+  -- what is counted as taken is what is taken
+  pub taken_is : IsTimed config h s next.at → (part : Part)
+      → taken_for part (record { step = s; at = next.at }) (taken_from latest next)
+      ≡ taken_by part h (record { step = s; at = next.at })
+  taken_is is (Stations pool) = refl
+  taken_is is (Units unit) = units_are unit (step_unit s) refl c.by.run is
+  taken_is is Buses = buses_are (step_unit s) (step_dest s) refl refl c.by.run is
+  taken_is is Width =
+      let l : last_issue h ≤ next.at.issue = issue_from config h s next.at.issue is.issue.0 in
+      let e : latest.issued ≡ count_by (λ d. d.at.issue == last_issue h) h = c.shown.kept.issued in
+      let k : cond (next.at.issue == last_issue h) (latest.issued + 1) 1
+      ≡ suc (count_by (λ x. x.at.issue == next.at.issue) h) =
+      issued_kept config h next.at.issue latest.issued c.timed l e in
+      let s : suc (count_by (λ x. x.at.issue == next.at.issue) h) ≡ count_by (λ x. x.at.issue == next.at.issue) h + 1 =
+      omega arith in
+      rw c.shown.kept.issue (k ∙ s)
 
 part_more : (part : Part) (d : Done) (needs : Needs) (waits : Waits) (taken : Taken) → length needs.stations ≡ 6
     → length needs.units ≡ 5

@@ -12,6 +12,7 @@ use Rattle.tomex_steps.specs.Steps.{bytes_of, step_dest, step_pool, step_unit}
 use Rattle.tomex_steps.proofs.Fields.{dest_needs_pool, unit_with_pool}
 use Rattle.tomex_config.specs.Configuration.{Configuration}
 use Rattle.tomex_timing.specs.declared.times.Done.{Done}
+use Rattle.tomex_timing.specs.declared.times.Times.{Times}
 use Rattle.tomex_timing.specs.History.{cycle_of, greatest_end, last_address}
 use Rattle.tomex_timing.specs.Laws.{AccessesConflict, AddressesRise, ConflictsAreFinished, ResultsComeLater}
 use Rattle.tomex_timing.specs.Laws.{StartsComeLater, TimesAreInReach}
@@ -42,6 +43,14 @@ start_later config d older timed some =
     let can = start_test config older d.step d.at.issue (cycle_of d.at.address) d.at.start (step_unit d.step) some
     timed.start in
     start_low config older d.step can.0 d.at.issue (cycle_of d.at.address) d.at.start can.1
+
+-- no step starts before its issue
+pub start_after : (config : Configuration) (older : List Done) (s : Step) (at : Times) (unit : Option UnitId)
+    → MatchOption unit (at.start ≡ at.issue)
+    (λ u. IsLeast (can_start config older s u at.issue (cycle_of at.address)) at.start) → at.issue ≤ at.start
+start_after config older s at None start = omega (arith, start)
+start_after config older s at (Some u) start =
+    omega (arith, (start_low config older s u at.issue (cycle_of at.address) at.start start.0).0)
 
 pub start_clear : ConflictsAreFinished
 start_clear config d older timed some =
@@ -79,8 +88,7 @@ address_rises config d older timed memory =
     MatchBool-at_true _ _ memory timed.address in
     let two = and_parts _ (nat_lt (last_address older) (cycle_of d.at.address)) least.0 in (
       ltb-true d.at.issue (cycle_of d.at.address) (and_parts _ _ two.0).0,
-      ltb-true (last_address older)
-          (cycle_of d.at.address) two.1,
+      ltb-true (last_address older) (cycle_of d.at.address) two.1,
     )
 
 share_from : (x y : Option ByteRange) (a : ℕ) → is_among x a ≡ true → is_among y a ≡ true → shares_byte x y ≡ true

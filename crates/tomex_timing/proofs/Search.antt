@@ -3,7 +3,7 @@ use Rattle.std.proofs.Common.{ℕ, ◌+◌, ◌-◌, ◌<◌, ◌≤◌, ◌≡�
 use Rattle.std.proofs.Common.{inl, inr, sym}
 use Rattle.std.specs.Prelude.{is_some, MatchOption, map}
 use Rattle.std.specs.Bool.{MatchBool}
-use Rattle.std.proofs.lemmas.Bool.{cases_Bool, ltb-true, and_parts, MatchBool-at_true, MatchBool-at_false}
+use Rattle.std.proofs.lemmas.Bool.{cases_Bool, and_parts, MatchBool-at_true, MatchBool-at_false}
 use Rattle.tomex_rvdec.specs.declared.pool.PoolId.{PoolId}
 use Rattle.tomex_rvdec.specs.declared.pool.UnitId.{UnitId}
 use Rattle.tomex_steps.specs.Steps.{step_pool, step_unit, step_dest}
@@ -21,6 +21,7 @@ use Rattle.tomex_timing.proofs.Least.{least_is, least_le, least_same}
 use Rattle.tomex_timing.proofs.Limits.{latency_high}
 use Rattle.tomex_timing.proofs.Settled.{AllBy, can_issue_after, can_address_after, can_start_after, can_end_after}
 use Rattle.tomex_timing.proofs.Stations.{number_is}
+use Rattle.tomex_timing.proofs.Tests.{can_address_is}
 
 issue_is : (config : Configuration) (older : List Done) (s : Step) (g : ℕ) → IsWithinLimits config → AllBy g older
     → IsLeast (can_issue config older s) (issue_of config older s g)
@@ -52,7 +53,7 @@ address_low older s issue g h i = elim (cases_Bool (is_memory s)) [
   | inr e ↦ rw e (omega arith)
 ]
 
-station_is : (config : Configuration) (older : List Done) (pool : Option PoolId) (t : ℕ)
+pub station_is : (config : Configuration) (older : List Done) (pool : Option PoolId) (t : ℕ)
     → has_station config older pool t ≡ true
     → MatchOption pool (station_at config older pool t ≡ None) (λ p. (n : ℕ) × (station_at config older pool t ≡ Some n)
     × IsLeast (is_free p older t) n)
@@ -152,7 +153,7 @@ same_cycle (Some m) None x y e = absurd (omega arith)
 same_cycle (Some m) (Some n) x y e = ap Some e
 
 pub address_pos : (older : List Done) (s : Step) (i t : ℕ) → can_address older s i t ≡ true → 0 < t
-address_pos older s i t h = let l : i < t = ltb-true i t (and_parts _ _ (and_parts _ _ h).0).0 in omega arith
+address_pos older s i t h = omega (arith, (can_address_is older s i t h).after_issue)
 
 same_address : (older : List Done) (s : Step) (i : ℕ) (a b : Option ℕ)
     → MatchBool (is_memory s) (IsLeast (can_address older s i) (cycle_of a)) (a ≡ None)
@@ -173,21 +174,15 @@ same_station : (older : List Done) (pool : Option PoolId) (t : ℕ) (a b : Optio
 same_station older None t a b x y = x ∙ sym y
 same_station older (Some p) t a b x y = x.1 ∙ (ap Some (least_same (is_free p older t) x.0 y.0 x.2 y.2) ∙ sym y.1)
 
-same_from : (config : Configuration) (older : List Done) (s : Step) (unit : Option UnitId) (a b : Times)
-    → step_unit s ≡ unit → IsTimed config older s a → IsTimed config older s b → a ≡ b
-same_from config older s None a b e x y =
-    let i : a.issue ≡ b.issue = least_same (can_issue config older s) a.issue b.issue x.issue y.issue in
-    let d : a.address ≡ b.address =
-    same_address older s a.issue a.address b.address x.address (rw (← i) at y.address) in
+same_run : (config : Configuration) (older : List Done) (s : Step) (unit : Option UnitId) (a b : Times)
+    → step_unit s ≡ unit → IsTimed config older s a → IsTimed config older s b → a.issue ≡ b.issue
+    → a.address ≡ b.address → (a.start ≡ b.start) × (a.finish ≡ b.finish) × (a.end ≡ b.end)
+same_run config older s None a b e x y i d =
     let p : a.start ≡ a.issue = rw e at x.start in let q : b.start ≡ b.issue = rw e at y.start in
     let p2 : a.finish ≡ a.issue = rw e at x.finish in let q2 : b.finish ≡ b.issue = rw e at y.finish in
     let p3 : a.end ≡ a.issue = rw e at x.end in let q3 : b.end ≡ b.issue = rw e at y.end in
-    same_record a b i d (omega arith) (omega arith) (omega arith)
-    (same_station older (step_pool s) a.issue a.station b.station x.station (rw (← i) at y.station))
-same_from config older s (Some u) a b e x y =
-    let i : a.issue ≡ b.issue = least_same (can_issue config older s) a.issue b.issue x.issue y.issue in
-    let d : a.address ≡ b.address =
-    same_address older s a.issue a.address b.address x.address (rw (← i) at y.address) in
+    (omega arith, omega arith, omega arith)
+same_run config older s (Some u) a b e x y i d =
     let p : IsLeast (can_start config older s u a.issue (cycle_of a.address)) a.start = rw e at x.start in
     let q : IsLeast (can_start config older s u b.issue (cycle_of b.address)) b.start = rw e at y.start in
     let st : a.start ≡ b.start = least_same (can_start config older s u a.issue (cycle_of a.address)) a.start b.start p
@@ -199,12 +194,17 @@ same_from config older s (Some u) a b e x y =
     rw e at x.end in
     let q3 : MatchBool (is_some (step_dest s)) (IsLeast (can_end config older b.finish) b.end) (b.end ≡ b.finish) =
     rw e at y.end in
-    same_record a b i d st fi (same_end config older s a.finish a.end b.end p3 (rw (← fi) at q3))
-    (same_station older (step_pool s) a.issue a.station b.station x.station (rw (← i) at y.station))
+    (st, fi, same_end config older s a.finish a.end b.end p3 (rw (← fi) at q3))
 
 pub times_same : (config : Configuration) (older : List Done) (s : Step) (a b : Times) → IsTimed config older s a
     → IsTimed config older s b → a ≡ b
-times_same config older s a b x y = same_from config older s (step_unit s) a b refl x y
+times_same config older s a b x y =
+    let i : a.issue ≡ b.issue = least_same (can_issue config older s) a.issue b.issue x.issue y.issue in
+    let d : a.address ≡ b.address =
+    same_address older s a.issue a.address b.address x.address (rw (← i) at y.address) in
+    let run = same_run config older s (step_unit s) a b refl x y i d in
+    same_record a b i d run.0 run.1 run.2
+    (same_station older (step_pool s) a.issue a.station b.station x.station (rw (← i) at y.station))
 
 same_done : (d : Done) (older : List Done) (at : Times) (others : List Done) → d.at ≡ at → older ≡ others
     → (d ∷ older) ≡ (record { step = d.step; at = at } ∷ others)

@@ -1,11 +1,11 @@
 -- A configuration that serves a history as another does gives it the same times.
 use Rattle.std.proofs.Common.{ℕ, zero, suc, ◌+◌, ◌-◌, ◌<◌, ◌≤◌, ◌≡◌, ◌∙◌, ◌⊎◌, Bool, true, false, arith, refl, ap, sym}
 use Rattle.std.proofs.Common.{inl, inr, List, [], ◌∷◌, Option, Some, None, max, map, reverse}
-use Rattle.std.specs.Prelude.{nat_lt, nat_le, ◌==◌, ◌&&◌, count_by, is_some, MatchOption}
+use Rattle.std.specs.Prelude.{nat_lt, ◌==◌, ◌&&◌, count_by, is_some, MatchOption}
 use Rattle.std.specs.Bool.{MatchBool}
 use Rattle.std.specs.List.{range_with_len}
-use Rattle.std.proofs.lemmas.Bool.{cases_Bool, cases_order, and_parts, and_from, and_left, and_right, eq-eqb, le-ltb}
-use Rattle.std.proofs.lemmas.Bool.{leb-true, ltb-true, lt-ltb}
+use Rattle.std.proofs.lemmas.Bool.{cases_Bool, cases_order, and_parts, and_from, and_left, both_ways, eq-eqb, le-ltb}
+use Rattle.std.proofs.lemmas.Bool.{false_from_ne_true, ltb-true, lt-ltb, not-false}
 use Rattle.std.proofs.lemmas.List.Sums.{sum_by-cons}
 use Rattle.tomex_rvdec.specs.declared.pool.PoolId.{PoolId}
 use Rattle.tomex_rvdec.specs.declared.pool.UnitId.{UnitId}
@@ -18,14 +18,17 @@ use Rattle.tomex_timing.specs.declared.times.Done.{Done}
 use Rattle.tomex_timing.specs.History.{is_of, cycle_of, last_issue}
 use Rattle.tomex_timing.specs.Needs.{count_of, cycles_that, lacks_width, lacks_station, lacks_unit, waits_of, stalls}
 use Rattle.tomex_timing.specs.Needs.{peak, Serves}
-use Rattle.tomex_timing.specs.Recurrence.{IsLeast, IsTimed, AreTimed, EndsAfter, can_issue_another}
-use Rattle.tomex_timing.specs.Recurrence.{are_branches_finished, can_issue, has_operands, are_conflicts_finished}
-use Rattle.tomex_timing.specs.Recurrence.{has_unit, can_start, has_bus, can_end}
+use Rattle.tomex_timing.specs.Recurrence.{IsLeast, IsTimed, AreTimed, can_issue_another, are_branches_finished}
+use Rattle.tomex_timing.specs.Recurrence.{can_issue, has_operands, are_conflicts_finished, has_unit, can_start, has_bus}
+use Rattle.tomex_timing.specs.Recurrence.{can_end}
 use Rattle.tomex_timing.specs.Search.{history, timed_of, times_in, total_of}
 use Rattle.tomex_timing.specs.Station.{has_station, is_held, is_free}
 use Rattle.tomex_timing.proofs.Histories.{are_timed}
-use Rattle.tomex_timing.proofs.Pigeons.{stations_fit}
+use Rattle.tomex_timing.proofs.Holders.{stations_fit}
+use Rattle.tomex_timing.proofs.Bound.{end_low}
+use Rattle.tomex_timing.proofs.Least.{least_agree}
 use Rattle.tomex_timing.proofs.Search.{timed_of-same}
+use Rattle.tomex_timing.proofs.Tests.{can_end_from, can_issue_is}
 use Rattle.tomex_timing.proofs.Width.{issue_from}
 
 -- of no cycles that pass none passes
@@ -51,208 +54,151 @@ abbrev Stands : Configuration → Configuration → Part → List Done → Done 
 Stands config other part older d = (count_of other part ≡ count_of config part)
     ⊎ ((stalls config part (d ∷ older) ≡ 0) × (peak part (d ∷ older) ≤ count_of other part))
 
--- width
-
-slot_same : (config other : Configuration) (older : List Done) (t : ℕ) → other.width ≡ config.width
-    → can_issue_another other older t ≡ can_issue_another config older t
-slot_same config other older t e = rw e refl
-
-slot_still : (config other : Configuration) (older : List Done) (d : Done) (t : ℕ) → Stands config other Width older d
-    → max 1 (last_issue older) ≤ t → t < d.at.issue
-    → are_branches_finished older t ≡ true → can_issue_another config older t ≡ false
-    → can_issue_another other older t ≡ false
-slot_still config other older d t (inl same) low high branches fails = slot_same config other older t same ∙ fails
-slot_still config other older d t (inr none) low high branches fails =
-    let no : (waits_of config older d).width ≡ 0 = let z = none.0 in omega arith in
-    let f : lacks_width config older t ≡ false =
-    none_that (lacks_width config older) (max 1 (last_issue older)) d.at.issue t no low high in
-    let g : true ≡ false = rw (branches, fails) at f in absurd (cc)
-
-slot_there : (config other : Configuration) (older : List Done) (d : Done) → Stands config other Width older d
-    → can_issue_another config older d.at.issue ≡ true → can_issue_another other older d.at.issue ≡ true
-slot_there config other older d (inl same) there = slot_same config other older d.at.issue same ∙ there
-slot_there config other older d (inr none) there =
-    let order : nat_le (last_issue older) d.at.issue ≡ true = (and_parts _ _ there).0 in
-    let taken : count_by (λ x. x.at.issue == d.at.issue) older + 1 ≤ other.width = let m = none.1 in omega arith in
-    and_from _ _ order (lt-ltb (count_by (λ x. x.at.issue == d.at.issue) older) other.width (omega arith))
-
--- stations
-
-station_same : (config other : Configuration) (older : List Done) (p : PoolId) (t : ℕ)
-    → stations_of other p ≡ stations_of config p → has_station other older (Some p) t ≡ has_station config older
-    (Some p) t
-station_same config other older p t e = rw e refl
-
 own_pool : (p : PoolId) → is_in p (Some p) ≡ true
 own_pool p = eq-eqb _ _ refl
-
-station_still : (config other : Configuration) (older : List Done) (d : Done) (x : Option PoolId) (t : ℕ)
-    → step_pool d.step ≡ x → ((part : Part) → Stands config other part older d)
-    → max 1 (last_issue older) ≤ t → t < d.at.issue
-    → are_branches_finished older t ≡ true → can_issue_another config older t ≡ true
-    → has_station config older x t ≡ false → has_station other older x t ≡ false
-station_still config other older d None t e stands low high branches slot fails = fails
-station_still config other older d (Some p) t e stands low high branches slot fails = elim (stands (Stations p)) [
-  | inl same ↦ station_same config other older p t same ∙ fails
-  | inr none ↦
-      let z : stalls config (Stations p) (d ∷ older) ≡ 0 = none.0 in
-      let zz = rw (e, own_pool p) at z in
-      let no : (waits_of config older d).station ≡ 0 = omega arith in
-      let f : lacks_station config older t ≡ false =
-      none_that (lacks_station config older) (max 1 (last_issue older)) d.at.issue t no low high in
-      let g : true ≡ false = rw (branches, slot) at f in absurd (cc)
-]
-
-station_there : (config other : Configuration) (older : List Done) (d : Done) (x : Option PoolId) → step_pool d.step ≡ x
-    → ((part : Part) → Stands config other part older d)
-    → AreTimed config older → last_issue older ≤ d.at.issue
-    → MatchOption x (d.at.station ≡ None) (λ p. (n : ℕ) × (d.at.station ≡ Some n)
-    × IsLeast (is_free p older d.at.issue) n)
-    → has_station config older x d.at.issue ≡ true → has_station other older x d.at.issue ≡ true
-station_there config other older d None e stands timed l is there = refl
-station_there config other older d (Some p) e stands timed l is there = elim (stands (Stations p)) [
-  | inl same ↦ station_same config other older p d.at.issue same ∙ there
-  | inr none ↦
-      let m : peak (Stations p) (d ∷ older) ≤ stations_of other p = none.1 in
-      let mm = rw (e, own_pool p, is.1) at m in
-      lt-ltb (count_by (is_held p d.at.issue) older) (stations_of other p)
-      (stations_fit config older p d.at.issue is.0 (stations_of other p) timed l is.2.0 (omega arith) (omega arith))
-]
-
--- issue
-
-cannot_issue : (config other : Configuration) (older : List Done) (d : Done) (t : ℕ)
-    → ((part : Part) → Stands config other part older d) → t < d.at.issue → can_issue config older d.step t ≡ false
-    → can_issue other older d.step t ≡ false
-cannot_issue config other older d t stands high fails = elim (cases_Bool (nat_lt 0 t)) [
-  | inr e ↦ rw e refl
-  | inl e ↦ elim (cases_Bool (nat_le (last_issue older) t)) [
-    | inr f ↦ rw (e, f) refl
-    | inl f ↦
-        let pos : 0 < t = ltb-true 0 t e in
-        let after : last_issue older ≤ t = leb-true (last_issue older) t f in
-        let low : max 1 (last_issue older) ≤ t = omega arith in
-        elim (cases_Bool (are_branches_finished older t)) [
-          | inr b ↦ and_left _ (has_station other older (step_pool d.step) t)
-              (and_right (nat_lt 0 t && can_issue_another other older t) (are_branches_finished older t) b)
-          | inl b ↦ elim (cases_Bool (can_issue_another config older t)) [
-            | inr w ↦
-                let z : can_issue_another other older t ≡ false =
-                slot_still config other older d t (stands Width) low high b w in
-                and_left _ (has_station other older (step_pool d.step) t)
-                (and_left _ (are_branches_finished older t)
-                (and_right (nat_lt 0 t) (can_issue_another other older t) z))
-            | inl w ↦
-                let s : has_station config older (step_pool d.step) t ≡ false =
-                last (nat_lt 0 t) (can_issue_another config older t) (are_branches_finished older t)
-                (has_station config older (step_pool d.step) t) e w b fails in
-                and_right _ (has_station other older (step_pool d.step) t)
-                (station_still config other older d (step_pool d.step) t refl stands low high b w s)
-          ]
-        ]
-  ]
-]
-  where
-    last : (a b c d : Bool) → a ≡ true → b ≡ true → c ≡ true → (((a && b) && c) && d) ≡ false → d ≡ false
-    last a b c d e f g h = rw (e, f, g) at h
-
-issues : (config other : Configuration) (older : List Done) (d : Done)
-    → ((part : Part) → Stands config other part older d) → AreTimed config older → IsTimed config older d.step d.at
-    → IsLeast (can_issue other older d.step) d.at.issue
-issues config other older d stands timed is =
-    let three = and_parts _ (has_station config older (step_pool d.step) d.at.issue) is.issue.0 in
-    let two = and_parts _ (are_branches_finished older d.at.issue) three.0 in
-    let one = and_parts (nat_lt 0 d.at.issue) (can_issue_another config older d.at.issue) two.0 in
-    let l : last_issue older ≤ d.at.issue = issue_from config older d.step d.at.issue is.issue.0 in (
-      and_from _ _ (and_from _ _ (and_from _ _ one.0 (slot_there config other older d (stands Width) one.1)) two.1)
-          (station_there config other older d (step_pool d.step) refl stands timed l is.station three.1),
-      λ t high. cannot_issue config other older d t stands high (is.issue.1 t high),
-    )
-
--- start
 
 own_unit : (u : UnitId) → is_of u (Some u) ≡ true
 own_unit u = eq-eqb _ _ refl
 
-unit_same : (config other : Configuration) (older : List Done) (u : UnitId) (t : ℕ)
-    → (option_of other u).units ≡ (option_of config u).units → has_unit other older u t ≡ has_unit config older u t
-unit_same config other older u t e = rw e refl
+-- the parts of the test for issue
+issue_parts : (config : Configuration) (older : List Done) (s : Step) (t : ℕ) → can_issue config older s t ≡ true
+    → (nat_lt 0 t ≡ true) × (can_issue_another config older t ≡ true) × (are_branches_finished older t ≡ true)
+    × (has_station config older (step_pool s) t ≡ true)
+issue_parts config older s t can =
+    let three = and_parts _ (has_station config older (step_pool s) t) can in
+    let two = and_parts _ (are_branches_finished older t) three.0 in
+    let one = and_parts (nat_lt 0 t) (can_issue_another config older t) two.0 in
+    (one.0, one.1, two.1, three.1)
 
-unit_still : (config other : Configuration) (older : List Done) (d : Done) (u : UnitId) (t : ℕ)
-    → step_unit d.step ≡ Some u → Stands config other (Units u) older d
-    → d.at.issue < t → t < d.at.start → has_operands older d.step t ≡ true → nat_lt (cycle_of d.at.address) t ≡ true
-    → are_conflicts_finished older d.step t ≡ true
-    → has_unit config older u t ≡ false → has_unit other older u t ≡ false
-unit_still config other older d u t e (inl same) low high operands address conflicts fails =
-    unit_same config other older u t same ∙ fails
-unit_still config other older d u t e (inr none) low high operands address conflicts fails =
-    let z : stalls config (Units u) (d ∷ older) ≡ 0 = none.0 in
-    let zz = rw (e, own_unit u) at z in
-    let no : (waits_of config older d).unit ≡ 0 = omega arith in
-    let f : lacks_unit older d t ≡ false =
-    none_that (lacks_unit older d) (d.at.issue + 1) d.at.start t no (omega arith) high in
-    let g : true ≡ false = rw (operands, address, conflicts) at f in absurd (cc)
+by_unit : (x : Option UnitId) (A : Type 0) (P Q : UnitId → Type 0) → ((u : UnitId) → x ≡ Some u → P u → Q u)
+    → MatchOption x A P → MatchOption x A Q
+by_unit None A P Q f h = h
+by_unit (Some u) A P Q f h = f u refl h
 
-unit_there : (config other : Configuration) (older : List Done) (d : Done) (u : UnitId) → step_unit d.step ≡ Some u
-    → Stands config other (Units u) older d → has_unit config older u d.at.start ≡ true
-    → has_unit other older u d.at.start ≡ true
-unit_there config other older d u e (inl same) there = unit_same config other older u d.at.start same ∙ there
-unit_there config other older d u e (inr none) there =
-    let m : peak (Units u) (d ∷ older) ≤ (option_of other u).units = none.1 in
-    let mm = rw (e, own_unit u) at m in
-    lt-ltb (count_by (λ x. is_of u (step_unit x.step) && x.at.start == d.at.start) older) (option_of other u).units
-    (omega arith)
+by_dest : (b : Bool) (P Q R : Type 0) → (b ≡ true → P → Q) → MatchBool b P R → MatchBool b Q R
+by_dest true P Q R f h = f refl h
+by_dest false P Q R f h = h
 
-starts_with : (config other : Configuration) (older : List Done) (d : Done) (u : UnitId) → step_unit d.step ≡ Some u
-    → ((part : Part) → Stands config other part older d)
-    → IsLeast (can_start config older d.step u d.at.issue (cycle_of d.at.address)) d.at.start
-    → IsLeast (can_start other older d.step u d.at.issue (cycle_of d.at.address)) d.at.start
-starts_with config other older d u e stands is =
-    let two = and_parts _ (has_unit config older u d.at.start) is.0 in (
-      and_from _ _ two.0 (unit_there config other older d u e (stands (Units u)) two.1),
-      λ t high. elim (cases_Bool (((nat_lt d.at.issue t && nat_lt (cycle_of d.at.address) t) && has_operands older
-          d.step t) && are_conflicts_finished older d.step t)) [
-            | inr f ↦ rw f refl
-            | inl f ↦
-                let c = and_parts _ (are_conflicts_finished older d.step t) f in
-                let o = and_parts _ (has_operands older d.step t) c.0 in
-                let i = and_parts (nat_lt d.at.issue t) (nat_lt (cycle_of d.at.address) t) o.0 in
-                let z : has_unit config older u t ≡ false = last _ _ f (is.1 t high) in
-                and_right _ (has_unit other older u t)
-                (unit_still config other older d u t e (stands (Units u)) (ltb-true d.at.issue t i.0) high o.1 i.1 c.1
-                z)
-          ],
-    )
-  where
-    last : (a b : Bool) → a ≡ true → (a && b) ≡ false → b ≡ false
-    last a b e h = rw e at h
+-- A step that has the first configuration's times has the second one's: each earlier cycle that the second's tests let
+-- through the first's let through too.
+module _ (config other : Configuration) (older : List Done) (d : Done)
+    (stands : (part : Part) → Stands config other part older d) where
+  slot_back : (t : ℕ) → max 1 (last_issue older) ≤ t → t < d.at.issue → are_branches_finished older t ≡ true
+      → can_issue_another other older t ≡ true → can_issue_another config older t ≡ true
+  slot_back t low high branches there = elim (stands Width) [
+    | inl same ↦ rw same at there
+    | inr none ↦
+        let no : (waits_of config older d).width ≡ 0 = let z = none.0 in omega arith in
+        let f : lacks_width config older t ≡ false =
+        none_that (lacks_width config older) (max 1 (last_issue older)) d.at.issue t no low high in
+        not-false (can_issue_another config older t) (rw branches at f)
+  ]
 
--- end
+  slot_there : can_issue_another config older d.at.issue ≡ true → can_issue_another other older d.at.issue ≡ true
+  slot_there there = elim (stands Width) [
+    | inl same ↦ rw same there
+    | inr none ↦
+        let taken : count_by (λ x. x.at.issue == d.at.issue) older + 1 ≤ other.width = let m = none.1 in omega arith in
+        and_from _ _ (and_parts _ _ there).0
+        (lt-ltb (count_by (λ x. x.at.issue == d.at.issue) older) other.width (omega arith))
+  ]
 
-bus_same : (config other : Configuration) (older : List Done) (t : ℕ) → other.buses ≡ config.buses
-    → has_bus other older t ≡ has_bus config older t
-bus_same config other older t e = rw e refl
+  station_back : (x : Option PoolId) (t : ℕ) → step_pool d.step ≡ x → max 1 (last_issue older) ≤ t → t < d.at.issue
+      → are_branches_finished older t ≡ true → can_issue_another config older t ≡ true
+      → has_station other older x t ≡ true → has_station config older x t ≡ true
+  station_back None t e low high branches slot there = refl
+  station_back (Some p) t e low high branches slot there = elim (stands (Stations p)) [
+    | inl same ↦ rw same at there
+    | inr none ↦
+        let z = rw (e, own_pool p) at none.0 in
+        let no : (waits_of config older d).station ≡ 0 = omega arith in
+        let f : lacks_station config older t ≡ false =
+        none_that (lacks_station config older) (max 1 (last_issue older)) d.at.issue t no low high in
+        let g : true ≡ false = rw (branches, slot) at f in absurd (cc)
+  ]
 
-ends_with : (config other : Configuration) (older : List Done) (d : Done) → is_some (step_dest d.step) ≡ true
-    → Stands config other Buses older d → IsLeast (can_end config older d.at.finish) d.at.end
-    → IsLeast (can_end other older d.at.finish) d.at.end
-ends_with config other older d dest (inl same) is = (
-  let two = and_parts (nat_lt d.at.finish d.at.end) _ is.0 in
-      and_from _ _ two.0 (bus_same config other older d.at.end same ∙ two.1),
-  λ t high. ap (λ b. nat_lt d.at.finish t && b) (bus_same config other older t same) ∙ is.1 t high,
-)
-ends_with config other older d dest (inr none) is =
-    let two = and_parts (nat_lt d.at.finish d.at.end) _ is.0 in
-    let after : d.at.finish < d.at.end = ltb-true d.at.finish d.at.end two.0 in
-    let no : d.at.end - (d.at.finish + 1) ≡ 0 = let z = none.0 in omega arith in
-    let m : peak Buses (d ∷ older) ≤ other.buses = none.1 in
-    let mm = rw dest at m in (
-      and_from _ _ two.0 (lt-ltb (count_by (λ x. is_some (step_dest x.step) && x.at.end == d.at.end) older) other.buses
-          (omega arith)),
-      λ t high. and_left (nat_lt d.at.finish t) (has_bus other older t) (le-ltb d.at.finish t (omega arith)),
-    )
+  station_there : (x : Option PoolId) → step_pool d.step ≡ x → AreTimed config older → last_issue older ≤ d.at.issue
+      → MatchOption x (d.at.station ≡ None) (λ p. (n : ℕ) × (d.at.station ≡ Some n)
+      × IsLeast (is_free p older d.at.issue) n)
+      → has_station config older x d.at.issue ≡ true → has_station other older x d.at.issue ≡ true
+  station_there None e timed l is there = refl
+  station_there (Some p) e timed l is there = elim (stands (Stations p)) [
+    | inl same ↦ rw same there
+    | inr none ↦
+        let m = rw (e, own_pool p, is.1) at none.1 in
+        lt-ltb (count_by (is_held p d.at.issue) older) (stations_of other p)
+        (stations_fit config older p d.at.issue is.0 (stations_of other p) timed l is.2.0 (omega arith) (omega arith))
+  ]
 
--- one step
+  issues : AreTimed config older → IsTimed config older d.step d.at → IsLeast (can_issue other older d.step) d.at.issue
+  issues timed is =
+      let p = issue_parts config older d.step d.at.issue is.issue.0 in
+      let l : last_issue older ≤ d.at.issue = issue_from config older d.step d.at.issue is.issue.0 in (
+        and_from _ _ (and_from _ _ (and_from _ _ p.0 (slot_there p.1)) p.2)
+            (station_there (step_pool d.step) refl timed l is.station p.3),
+        λ t high. false_from_ne_true (can_issue other older d.step t) (λ can.
+            let q = issue_parts other older d.step t can in
+            let says = can_issue_is other older d.step t can in
+            let pos : 0 < t = says.first in
+            let order : last_issue older ≤ t = says.in_order in
+            let low : max 1 (last_issue older) ≤ t = omega arith in
+            let slot = slot_back t low high q.2 q.1 in
+            both_ways _ (is.issue.1 t high) (and_from _ _ (and_from _ _ (and_from _ _ q.0 slot) q.2)
+            (station_back (step_pool d.step) t refl low high q.2 slot q.3))),
+      )
+
+  unit_back : (u : UnitId) (t : ℕ) → step_unit d.step ≡ Some u → d.at.issue < t → t < d.at.start
+      → has_operands older d.step t ≡ true → nat_lt (cycle_of d.at.address) t ≡ true
+      → are_conflicts_finished older d.step t ≡ true
+      → has_unit other older u t ≡ true → has_unit config older u t ≡ true
+  unit_back u t e low high operands address conflicts there = elim (stands (Units u)) [
+    | inl same ↦ rw same at there
+    | inr none ↦
+        let z = rw (e, own_unit u) at none.0 in
+        let no : (waits_of config older d).unit ≡ 0 = omega arith in
+        let f : lacks_unit older d t ≡ false =
+        none_that (lacks_unit older d) (d.at.issue + 1) d.at.start t no (omega arith) high in
+        let g : true ≡ false = rw (operands, address, conflicts) at f in absurd (cc)
+  ]
+
+  unit_there : (u : UnitId) → step_unit d.step ≡ Some u → has_unit config older u d.at.start ≡ true
+      → has_unit other older u d.at.start ≡ true
+  unit_there u e there = elim (stands (Units u)) [
+    | inl same ↦ rw same there
+    | inr none ↦
+        let m = rw (e, own_unit u) at none.1 in
+        lt-ltb (count_by (λ x. is_of u (step_unit x.step) && x.at.start == d.at.start) older) (option_of other u).units
+        (omega arith)
+  ]
+
+  starts_with : (u : UnitId) → step_unit d.step ≡ Some u
+      → IsLeast (can_start config older d.step u d.at.issue (cycle_of d.at.address)) d.at.start
+      → IsLeast (can_start other older d.step u d.at.issue (cycle_of d.at.address)) d.at.start
+  starts_with u e is =
+      let two = and_parts _ (has_unit config older u d.at.start) is.0 in (
+        and_from _ _ two.0 (unit_there u e two.1),
+        λ t high. false_from_ne_true (can_start other older d.step u d.at.issue (cycle_of d.at.address) t) (λ can.
+            let left = and_parts _ (has_unit other older u t) can in
+            let finished = and_parts _ (are_conflicts_finished older d.step t) left.0 in
+            let operands = and_parts _ (has_operands older d.step t) finished.0 in
+            let after = and_parts (nat_lt d.at.issue t) (nat_lt (cycle_of d.at.address) t) operands.0 in
+            both_ways _ (is.1 t high) (and_from _ _ left.0 (unit_back u t e (ltb-true d.at.issue t after.0) high
+            operands.1 after.1 finished.1 left.1))),
+      )
+
+  ends_with : is_some (step_dest d.step) ≡ true → IsLeast (can_end config older d.at.finish) d.at.end
+      → IsLeast (can_end other older d.at.finish) d.at.end
+  ends_with dest is = elim (stands Buses) [
+    | inl same ↦ least_agree (can_end config older d.at.finish) (can_end other older d.at.finish) d.at.end
+        (λ t. rw same refl) is
+    | inr none ↦
+        let after : d.at.finish < d.at.end = end_low config older d.at.finish d.at.end is.0 in
+        let no : d.at.end - (d.at.finish + 1) ≡ 0 = let z = none.0 in omega arith in
+        let m = rw dest at none.1 in (
+          can_end_from other older d.at.finish d.at.end (record { after_finish = after; bus_left = omega arith }),
+          λ t high. and_left (nat_lt d.at.finish t) (has_bus other older t) (le-ltb d.at.finish t (omega arith)),
+        )
+  ]
 
 latency_same : (config other : Configuration) (older : List Done) (d : Done) (u : UnitId) → step_unit d.step ≡ Some u
     → ((option_of other u).latency ≡ (option_of config u).latency) ⊎ (peak (Units u) (d ∷ older) ≡ 0)
@@ -260,31 +206,16 @@ latency_same : (config other : Configuration) (older : List Done) (d : Done) (u 
 latency_same config other older d u e (inl same) = same
 latency_same config other older d u e (inr none) = let n = rw (e, own_unit u) at none in absurd (omega arith)
 
-by_unit : (x : Option UnitId) (A : Type 0) (P Q : UnitId → Type 0) → ((u : UnitId) → x ≡ Some u → P u → Q u)
-    → MatchOption x A P → MatchOption x A Q
-by_unit None A P Q f h = h
-by_unit (Some u) A P Q f h = f u refl h
-
-ends_after : (config other : Configuration) (older : List Done) (d : Done) → Stands config other Buses older d
-    → EndsAfter config older d.step d.at.finish d.at.end → EndsAfter other older d.step d.at.finish d.at.end
-ends_after config other older d stands is =
-    by_dest (is_some (step_dest d.step)) (IsLeast (can_end config older d.at.finish) d.at.end)
-    (IsLeast (can_end other older d.at.finish) d.at.end) (d.at.end ≡ d.at.finish)
-    (λ dest least. ends_with config other older d dest stands least) is
-  where
-    by_dest : (b : Bool) (P Q R : Type 0) → (b ≡ true → P → Q) → MatchBool b P R → MatchBool b Q R
-    by_dest true P Q R f h = f refl h
-    by_dest false P Q R f h = h
-
 timed_still : (config other : Configuration) (older : List Done) (d : Done) → AreTimed config older
     → IsTimed config older d.step d.at → Serves config other (d ∷ older) → IsTimed other older d.step d.at
 timed_still config other older d timed is serves = record {
   issue = issues config other older d serves.parts timed is;
   address = is.address;
-  start = by_unit (step_unit d.step) _ _ _ (λ u e x. starts_with config other older d u e serves.parts x) is.start;
+  start = by_unit (step_unit d.step) _ _ _ (λ u e x. starts_with config other older d serves.parts u e x) is.start;
   finish = by_unit (step_unit d.step) _ _ _ (λ u e x. rw (latency_same config other older d u e (serves.latencies u)) x)
       is.finish;
-  end = by_unit (step_unit d.step) _ _ _ (λ u e x. ends_after config other older d (serves.parts Buses) x) is.end;
+  end = by_unit (step_unit d.step) _ _ _ (λ u e x. by_dest (is_some (step_dest d.step)) _ _ _
+      (λ dest least. ends_with config other older d serves.parts dest least) x) is.end;
   station = is.station;
 }
 
@@ -307,8 +238,7 @@ pub serves_timed : (config other : Configuration) (h : List Done) → AreTimed c
 serves_timed config other [] timed serves = tt
 serves_timed config other (d ∷ older) timed serves = (
   timed_still config other older d timed.1 timed.0 serves,
-  serves_timed config other older timed.1
-      (serves_before config other older d serves),
+  serves_timed config other older timed.1 (serves_before config other older d serves),
 )
 
 steps_of-timed : (config : Configuration) (ys : List Step) → map (λ d. d.step) (timed_of config ys) ≡ ys
@@ -325,8 +255,7 @@ serves_history config other steps good good' serves =
     sym (e ∙ ap (timed_of other) (steps_of-timed config (reverse steps)))
 
 pub serves_runs : (config other : Configuration) (steps : List Step) → IsWithinLimits config → IsWithinLimits other
-    → Serves config other (history config steps)
-    → (history other steps ≡ history config steps)
+    → Serves config other (history config steps) → (history other steps ≡ history config steps)
     × (total_of (times_in other steps) ≡ total_of (times_in config steps))
 serves_runs config other steps good good' serves =
     let e = serves_history config other steps good good' serves in

@@ -87,6 +87,21 @@ pub all_pass : {X : Type 0} (p : X → Bool) (P : X → Type 0) → ((x : X) →
 all_pass p P always [] h = refl
 all_pass p P always (x ∷ xs) h = rw (always x h.0) (all_pass p P always xs h.1)
 
+-- so nothing starts or ends later
+pub starts_none : (h : List Done) (unit : UnitId) (g t : ℕ) → AllBy g h → g < t
+    → count_by (λ d. is_of unit (step_unit d.step) && d.at.start == t) h ≡ 0
+starts_none h unit g t by l =
+    count_none (λ (d : Done). is_of unit (step_unit d.step) && d.at.start == t) (IsDoneBy g)
+    (λ d k. and_right (is_of unit (step_unit d.step)) (d.at.start == t)
+    (ne_eqb d.at.start t (λ (e : d.at.start ≡ t). absurd (omega (arith, k.start))))) h by
+
+pub results_none : (h : List Done) (g t : ℕ) → AllBy g h → g < t
+    → count_by (λ d. is_some (step_dest d.step) && d.at.end == t) h ≡ 0
+results_none h g t by l =
+    count_none (λ (d : Done). is_some (step_dest d.step) && d.at.end == t) (IsDoneBy g)
+    (λ d k. and_right (is_some (step_dest d.step)) (d.at.end == t)
+    (ne_eqb d.at.end t (λ (e : d.at.end ≡ t). absurd (omega (arith, k.end))))) h by
+
 has_slot_after : (config : Configuration) (older : List Done) (g t : ℕ) → IsWithinLimits config → AllBy g older → g < t
     → can_issue_another config older t ≡ true
 has_slot_after config older g t good h l =
@@ -106,8 +121,7 @@ has_station_after : (config : Configuration) (older : List Done) (pool : Option 
     → IsWithinLimits config → AllBy g older → g < t → has_station config older pool t ≡ true
 has_station_after config older None g t good h l = refl
 has_station_after config older (Some pool) g t good h l =
-    rw (count_none (is_held pool t) (IsDoneBy g)
-    (λ d by. and_right (is_in pool (step_pool d.step)) (nat_le t d.at.end)
+    rw (count_none (is_held pool t) (IsDoneBy g) (λ d by. and_right (is_in pool (step_pool d.step)) (nat_le t d.at.end)
     (lt-leb t d.at.end (omega (arith, by.end)))) older h)
     (lt-ltb 0 (stations_of config pool) (stations_low config pool good))
 
@@ -140,9 +154,7 @@ can_start_after config older s unit issue address g good h i a =
     (λ d by. or_right (not (conflicts d.step s)) (nat_lt d.at.finish (g + 3))
     (lt-ltb d.at.finish (g + 3) (omega (arith, by.finish)))) older h in
     let left : has_unit config older unit (g + 3) ≡ true =
-    rw (count_none (λ (d : Done). is_of unit (step_unit d.step) && d.at.start == (g + 3)) (IsDoneBy g)
-    (λ d by. and_right (is_of unit (step_unit d.step)) (d.at.start == (g + 3))
-    (ne_eqb d.at.start (g + 3) (λ (e : d.at.start ≡ (g + 3)). absurd (omega (arith, by.start))))) older h)
+    rw (starts_none older unit g (g + 3) h (omega arith))
     (lt-ltb 0 (option_of config unit).units (units_low config unit good)) in
     and_from _ _ (and_from _ _ (and_from _ _
     (and_from _ _ (lt-ltb issue (g + 3) (omega arith)) (lt-ltb address (g + 3) (omega arith))) operands) finished)
@@ -151,8 +163,4 @@ can_start_after config older s unit issue address g good h i a =
 pub can_end_after : (config : Configuration) (older : List Done) (finish g t : ℕ) → IsWithinLimits config
     → AllBy g older → g < t → finish < t → can_end config older finish t ≡ true
 can_end_after config older finish g t good h l f =
-    and_from _ _ (lt-ltb finish t f)
-    (rw (count_none (λ (d : Done). is_some (step_dest d.step) && d.at.end == t) (IsDoneBy g)
-    (λ d by. and_right (is_some (step_dest d.step)) (d.at.end == t)
-    (ne_eqb d.at.end t (λ (e : d.at.end ≡ t). absurd (omega (arith, by.end))))) older h)
-    (lt-ltb 0 config.buses (buses_low config good)))
+    and_from _ _ (lt-ltb finish t f) (rw (results_none older g t h l) (lt-ltb 0 config.buses (buses_low config good)))

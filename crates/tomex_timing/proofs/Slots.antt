@@ -9,8 +9,8 @@ use Rattle.tomex_config.specs.Configuration.{Configuration}
 use Rattle.tomex_reservations.specs.Reservations.{Reserved, bus_line, is_left, taken_at, taken_with}
 use Rattle.tomex_timing.specs.Ahead.{TakesBus, one}
 use Rattle.tomex_timing.specs.History.{is_of}
+use Rattle.tomex_timing.proofs.Least.{first_agree, first_from_le}
 use Rattle.tomex_timing.proofs.Limits.{unit_in}
-use Rattle.tomex_timing.proofs.NextShown.{first_agree, first_from}
 
 -- equal either way round
 eqb_turned : (a b : ℕ) → (a == b) ≡ (b == a)
@@ -39,8 +39,7 @@ buses_stay before after unit cycle t with =
 -- and is one more of its kind
 pub unit_taken : (before after : Reserved) (unit u : UnitId) (cycle t : ℕ)
     → taken_at after (place_of_unit u) t ≡ taken_with before (place_of_unit unit) cycle (place_of_unit u) t
-    → taken_at after (place_of_unit u) t
-    ≡ taken_at before (place_of_unit u) t + one (is_of u (Some unit) && cycle == t)
+    → taken_at after (place_of_unit u) t ≡ taken_at before (place_of_unit u) t + one (is_of u (Some unit) && cycle == t)
 unit_taken before after unit u cycle t with =
     with ∙ rw (eqb_turned (place_of_unit u) (place_of_unit unit), eqb_turned t cycle)
     (one_more (place_of_unit unit == place_of_unit u && cycle == t) (taken_at before (place_of_unit u) t))
@@ -53,7 +52,6 @@ takes_bus config before after None finish end buses same takes = takes
 takes_bus config before after (Some r) finish end buses same takes = (
   first_agree (is_left after bus_line config.buses) (is_left before bus_line config.buses) (finish + 1) end
       (λ t l. rw (same t (omega arith)) refl) takes.0,
-  takes.1
-      ∙ ap (λ n. n + 1)
-      (same end (omega (arith, first_from (is_left after bus_line config.buses) (finish + 1) end takes.0))),
+  takes.1 ∙ ap (λ n. n + 1)
+      (same end (omega (arith, first_from_le (is_left after bus_line config.buses) (finish + 1) end takes.0))),
 )

@@ -46,8 +46,7 @@ split_number m n = elim (cases_order m n) [
   | inr (inr l) ↦ rw (
     le-ltb m (suc n) (omega arith),
     le-ltb m n (omega arith),
-    ne_eqb m n
-        (λ (e : m ≡ n). absurd (omega arith)),
+    ne_eqb m n (λ (e : m ≡ n). absurd (omega arith)),
   ) refl
 ]
 

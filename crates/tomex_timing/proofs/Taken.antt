@@ -1,9 +1,11 @@
--- No history takes more of a part than its configuration has.
+-- No history takes more of a part than its configuration has; and what steps wait for is all in use in the cycles in
+-- which they wait for it, so then the history takes all that there is.
 use Rattle.std.proofs.Common.{ℕ, ◌+◌, ◌<◌, ◌≤◌, ◌≡◌, true, cond, arith, refl, inl, inr, List, [], ◌∷◌, Option, Some}
-use Rattle.std.proofs.Common.{None}
-use Rattle.std.specs.Prelude.{nat_lt, nat_le, ◌==◌, ◌&&◌, count_by, is_some, MatchOption}
+use Rattle.std.proofs.Common.{None, zero, suc, ◌-◌, Bool, false, max}
+use Rattle.std.specs.Prelude.{◌==◌, ◌&&◌, count_by, is_some, MatchOption, nat_lt, nat_le, not}
 use Rattle.std.specs.Bool.{MatchBool}
-use Rattle.std.proofs.lemmas.Bool.{cases_Bool, and_parts, ltb-true, MatchBool-at_true}
+use Rattle.std.proofs.lemmas.Bool.{cases_Bool, MatchBool-at_true, cases_order, and_from, and_parts, eqb-true, le-leb}
+use Rattle.std.proofs.lemmas.Bool.{lt-ltb, ltb-false, MatchBool-at_false, not-true}
 use Rattle.tomex_rvdec.specs.Parts.{place_of_pool, place_of_unit}
 use Rattle.tomex_rvdec.specs.declared.pool.PoolId.{PoolId}
 use Rattle.tomex_rvdec.specs.declared.pool.UnitId.{UnitId}
@@ -13,99 +15,264 @@ use Rattle.tomex_timing.specs.declared.part.Part.{Part}
 use Rattle.tomex_timing.specs.declared.part.Part.TheVariants.{Stations, Units, Buses, Width}
 use Rattle.tomex_timing.specs.declared.times.Done.{Done}
 use Rattle.tomex_timing.specs.History.{is_of, cycle_of, last_issue}
-use Rattle.tomex_timing.specs.Laws.{PeakIsWithin}
-use Rattle.tomex_timing.specs.Needs.{count_of, peak, stations_up_to, taken_by}
-use Rattle.tomex_timing.specs.Recurrence.{IsLeast, IsTimed, are_branches_finished, can_end, can_start, has_bus}
-use Rattle.tomex_timing.specs.Recurrence.{can_issue_another, has_unit}
-use Rattle.tomex_timing.specs.Station.{has_station, is_free}
-use Rattle.tomex_timing.proofs.Holders.{number_low}
+use Rattle.tomex_timing.specs.Laws.{PeakIsWithin, StalledPartsAreFull}
+use Rattle.tomex_timing.specs.Needs.{count_of, peak, stations_up_to, taken_by, cycles_that, lacks_width, lacks_station}
+use Rattle.tomex_timing.specs.Needs.{lacks_unit, stalls, waits_for, waits_of}
+use Rattle.tomex_timing.specs.Recurrence.{IsLeast, IsTimed, can_end, can_start, AreTimed, EndsAfter, can_issue_another}
+use Rattle.tomex_timing.specs.Recurrence.{are_branches_finished, can_issue, has_operands, are_conflicts_finished}
+use Rattle.tomex_timing.specs.Recurrence.{has_unit, has_bus}
+use Rattle.tomex_timing.specs.Station.{is_free, has_station, is_held}
+use Rattle.tomex_timing.proofs.Holders.{number_low, stations_held}
 use Rattle.tomex_timing.proofs.Orders.{dest_unit}
-use Rattle.tomex_timing.proofs.Places.{same_pool, same_unit}
+use Rattle.tomex_timing.proofs.Limits.{same_pool, same_unit}
+use Rattle.tomex_timing.proofs.Tests.{can_end_is, can_issue_is, can_start_is}
+use Rattle.std.specs.List.{range_with_len}
+use Rattle.std.proofs.lemmas.List.Sums.{sum_by-cons}
+use Rattle.tomex_timing.proofs.Bools.{last_fails}
 
-station_within : (config : Configuration) (older : List Done) (d : Done) (pool : PoolId) (x : Option PoolId)
-    (station : Option ℕ) (R : PoolId → ℕ → Type 0) → step_pool d.step ≡ x → d.at.station ≡ station
-    → IsTimed config older d.step d.at
-    → MatchOption x (station ≡ None) (λ p. (n : ℕ) × (station ≡ Some n) × R p n)
-    → cond (is_in pool x) (stations_up_to station) 0 ≤ stations_of config pool
-station_within config older d pool None station R e s is at = omega arith
-station_within config older d pool (Some p) station R e s is at = elim
-    (cases_Bool (place_of_pool p == place_of_pool pool)) [
-      | inl y ↦
-          let same : p ≡ pool = same_pool p pool y in
-          let t : d.at.station ≡ Some at.0 = rw s at.1 in
-          let low : at.0 < stations_of config pool = number_low config d older pool at.0 is (rw same at e) t in
-          rw (y, at.1) (omega arith)
-      | inr y ↦ rw y (omega arith)
-    ]
+module _ (config : Configuration) (older : List Done) (d : Done) where
+  station_within : (pool : PoolId) (x : Option PoolId)
+      (station : Option ℕ) (R : PoolId → ℕ → Type 0) → step_pool d.step ≡ x → d.at.station ≡ station
+      → IsTimed config older d.step d.at → MatchOption x (station ≡ None) (λ p. (n : ℕ) × (station ≡ Some n) × R p n)
+      → cond (is_in pool x) (stations_up_to station) 0 ≤ stations_of config pool
+  station_within pool None station R e s is at = omega arith
+  station_within pool (Some p) station R e s is at = elim (cases_Bool (place_of_pool p == place_of_pool pool)) [
+    | inl y ↦
+        let same : p ≡ pool = same_pool p pool y in
+        let t : d.at.station ≡ Some at.0 = rw s at.1 in
+        let low : at.0 < stations_of config pool = number_low config d older pool at.0 is (rw same at e) t in
+        rw (y, at.1) (omega arith)
+    | inr y ↦ rw y (omega arith)
+  ]
 
-unit_within : (config : Configuration) (older : List Done) (d : Done) (unit : UnitId) (x : Option UnitId)
-    → MatchOption x (d.at.start ≡ d.at.issue)
-    (λ u. IsLeast (can_start config older d.step u d.at.issue (cycle_of d.at.address)) d.at.start)
-    → cond (is_of unit x) (count_by (λ y. is_of unit (step_unit y.step) && y.at.start == d.at.start) older + 1) 0 ≤
-    (option_of config unit).units
-unit_within config older d unit None is = omega arith
-unit_within config older d unit (Some u) is = elim (cases_Bool (place_of_unit u == place_of_unit unit)) [
-  | inl y ↦
-      let same : u ≡ unit = same_unit u unit y in
-      let can : can_start config older d.step unit d.at.issue (cycle_of d.at.address) d.at.start ≡ true =
-      rw same at is.0 in
-      let left : has_unit config older unit d.at.start ≡ true =
-      (and_parts _ (has_unit config older unit d.at.start) can).1 in
-      let l : count_by (λ y. is_of unit (step_unit y.step) && y.at.start == d.at.start) older <
-      (option_of config unit).units =
-      ltb-true (count_by (λ y. is_of unit (step_unit y.step) && y.at.start == d.at.start) older)
-      (option_of config unit).units left in
-      rw y (omega arith)
-  | inr y ↦ rw y (omega arith)
-]
+  unit_within : (unit : UnitId) (x : Option UnitId) → MatchOption x (d.at.start ≡ d.at.issue)
+      (λ u. IsLeast (can_start config older d.step u d.at.issue (cycle_of d.at.address)) d.at.start)
+      → cond (is_of unit x) (count_by (λ y. is_of unit (step_unit y.step) && y.at.start == d.at.start) older + 1) 0 ≤
+      (option_of config unit).units
+  unit_within unit None is = omega arith
+  unit_within unit (Some u) is = elim (cases_Bool (place_of_unit u == place_of_unit unit)) [
+    | inl y ↦
+        let same : u ≡ unit = same_unit u unit y in
+        let can = can_start_is config older d.step unit d.at.issue (cycle_of d.at.address) d.at.start
+        (rw same at is.0) in
+        let l : count_by (λ y. is_of unit (step_unit y.step) && y.at.start == d.at.start) older <
+        (option_of config unit).units = can.unit_left in
+        rw y (omega arith)
+    | inr y ↦ rw y (omega arith)
+  ]
 
-bus_within : (config : Configuration) (older : List Done) (d : Done) (x : Option UnitId) → step_unit d.step ≡ x
-    → MatchOption x (d.at.end ≡ d.at.issue)
-    (λ u. MatchBool (is_some (step_dest d.step)) (IsLeast (can_end config older d.at.finish) d.at.end)
-    (d.at.end ≡ d.at.finish))
-    → cond (is_some (step_dest d.step)) (count_by (λ y. is_some (step_dest y.step) && y.at.end == d.at.end) older + 1) 0
-    ≤ config.buses
-bus_within config older d x e is = elim (cases_Bool (is_some (step_dest d.step))) [
-  | inl y ↦
-      let least : IsLeast (can_end config older d.at.finish) d.at.end =
-      unit_end x (rw e at (dest_unit d.step y)) y is in
-      let left : has_bus config older d.at.end ≡ true = (and_parts (nat_lt d.at.finish d.at.end) _ least.0).1 in
-      let l : count_by (λ y. is_some (step_dest y.step) && y.at.end == d.at.end) older < config.buses =
-      ltb-true (count_by (λ y. is_some (step_dest y.step) && y.at.end == d.at.end) older) config.buses left in
-      rw y (omega arith)
-  | inr y ↦ rw y (omega arith)
-]
-  where
-    unit_end : (x : Option UnitId) → is_some x ≡ true → is_some (step_dest d.step) ≡ true
-        → MatchOption x (d.at.end ≡ d.at.issue)
-        (λ u. MatchBool (is_some (step_dest d.step)) (IsLeast (can_end config older d.at.finish) d.at.end)
-        (d.at.end ≡ d.at.finish)) → IsLeast (can_end config older d.at.finish) d.at.end
-    unit_end None some dest is = absurd (cc)
-    unit_end (Some u) some dest is = MatchBool-at_true _ _ dest is
+  bus_within : (x : Option UnitId) → step_unit d.step ≡ x → MatchOption x (d.at.end ≡ d.at.issue)
+      (λ u. MatchBool (is_some (step_dest d.step)) (IsLeast (can_end config older d.at.finish) d.at.end)
+      (d.at.end ≡ d.at.finish))
+      → cond (is_some (step_dest d.step))
+      (count_by (λ y. is_some (step_dest y.step) && y.at.end == d.at.end) older + 1) 0 ≤ config.buses
+  bus_within x e is = elim (cases_Bool (is_some (step_dest d.step))) [
+    | inl y ↦
+        let least : IsLeast (can_end config older d.at.finish) d.at.end =
+        unit_end x (rw e at (dest_unit d.step y)) y is in
+        let l : count_by (λ y. is_some (step_dest y.step) && y.at.end == d.at.end) older < config.buses =
+        (can_end_is config older d.at.finish d.at.end least.0).bus_left in
+        rw y (omega arith)
+    | inr y ↦ rw y (omega arith)
+  ]
+    where
+      unit_end : (x : Option UnitId) → is_some x ≡ true → is_some (step_dest d.step) ≡ true
+          → MatchOption x (d.at.end ≡ d.at.issue)
+          (λ u. MatchBool (is_some (step_dest d.step)) (IsLeast (can_end config older d.at.finish) d.at.end)
+          (d.at.end ≡ d.at.finish)) → IsLeast (can_end config older d.at.finish) d.at.end
+      unit_end None some dest is = absurd (cc)
+      unit_end (Some u) some dest is = MatchBool-at_true _ _ dest is
 
-taken_within : (config : Configuration) (older : List Done) (d : Done) (part : Part) → IsTimed config older d.step d.at
-    → taken_by part older d ≤ count_of config part
-taken_within config older d (Stations pool) is =
-    station_within config older d pool (step_pool d.step) d.at.station (λ p n. IsLeast (is_free p older d.at.issue) n)
-    refl refl is is.station
-taken_within config older d (Units unit) is = unit_within config older d unit (step_unit d.step) is.start
-taken_within config older d Buses is = bus_within config older d (step_unit d.step) refl is.end
-taken_within config older d Width is =
-    let most = and_parts (nat_lt 0 d.at.issue && can_issue_another config older d.at.issue && are_branches_finished
-    older d.at.issue) (has_station config older (step_pool d.step) d.at.issue) is.issue.0 in
-    let first = and_parts (nat_lt 0 d.at.issue && can_issue_another config older d.at.issue)
-    (are_branches_finished older d.at.issue) most.0 in
-    let slot : can_issue_another config older d.at.issue ≡ true =
-    (and_parts (nat_lt 0 d.at.issue) (can_issue_another config older d.at.issue) first.0).1 in
-    let l : count_by (λ x. x.at.issue == d.at.issue) older < config.width =
-    ltb-true (count_by (λ x. x.at.issue == d.at.issue) older) config.width
-    (and_parts (nat_le (last_issue older) d.at.issue)
-    (nat_lt (count_by (λ x. x.at.issue == d.at.issue) older) config.width) slot).1 in
-    omega arith
+  taken_within : (part : Part) → IsTimed config older d.step d.at → taken_by part older d ≤ count_of config part
+  taken_within (Stations pool) is =
+      station_within pool (step_pool d.step) d.at.station (λ p n. IsLeast (is_free p older d.at.issue) n)
+      refl refl is is.station
+  taken_within (Units unit) is = unit_within unit (step_unit d.step) is.start
+  taken_within Buses is = bus_within (step_unit d.step) refl is.end
+  taken_within Width is =
+      let can = can_issue_is config older d.step d.at.issue is.issue.0 in
+      omega (arith, can.slot_left)
 
 pub peak_within : PeakIsWithin
 peak_within config [] part timed = omega arith
 peak_within config (d ∷ older) part timed =
     let a : taken_by part older d ≤ count_of config part = taken_within config older d part timed.0 in
     let b : peak part older ≤ count_of config part = peak_within config older part timed.1 in
+    omega arith
+
+-- of cycles that a test counts there is one that passes
+range_some : (p : ℕ → Bool) (n a : ℕ) → 0 < count_by p (range_with_len a n) → (t : ℕ) × (a ≤ t) × (t < a + n)
+    × (p t ≡ true)
+range_some p zero a l = let z : count_by p (range_with_len a 0) ≡ 0 = refl in absurd (omega arith)
+range_some p (suc n) a l = elim (cases_Bool (p a)) [
+  | inl e ↦ (a, omega arith, omega arith, e)
+  | inr e ↦
+      let f : count_by p (range_with_len a (suc n)) ≡ 0 + count_by p (range_with_len (a + 1) n) =
+      rw (sum_by-cons, e) refl in
+      let r = range_some p n (a + 1) (omega arith) in
+      let low : a + 1 ≤ r.0 = r.1 in
+      let high : r.0 < a + 1 + n = r.2 in
+      (r.0, omega arith, omega arith, r.3)
+]
+
+some_that : (p : ℕ → Bool) (from to : ℕ) → 0 < cycles_that p from to → (t : ℕ) × (from ≤ t) × (t < to) × (p t ≡ true)
+some_that p from to l =
+    let r = range_some p (to - from) from l in
+    let low : from ≤ r.0 = r.1 in
+    let high : r.0 < from + (to - from) = r.2 in
+    (r.0, low, omega arith, r.3)
+
+-- no cycle has more of a part in use than the greatest number
+
+issues_most : (h : List Done) (t : ℕ) → count_by (λ x. x.at.issue == t) h ≤ peak Width h
+issues_most [] t = omega arith
+issues_most (d ∷ h) t = let k = issues_most h t in elim (cases_Bool (d.at.issue == t)) [
+  | inl e ↦ let s : d.at.issue ≡ t = eqb-true d.at.issue t e in rw (sum_by-cons, e, s) (omega arith)
+  | inr e ↦ rw (sum_by-cons, e) (omega arith)
+]
+
+starts_most : (h : List Done) (u : UnitId) (t : ℕ) → count_by (λ x. is_of u (step_unit x.step) && x.at.start == t) h ≤
+    peak (Units u) h
+starts_most [] u t = omega arith
+starts_most (d ∷ h) u t = let k = starts_most h u t in
+    elim (cases_Bool (is_of u (step_unit d.step) && d.at.start == t)) [
+      | inl e ↦
+          let two = and_parts (is_of u (step_unit d.step)) (d.at.start == t) e in
+          let s : d.at.start ≡ t = eqb-true d.at.start t two.1 in
+          rw (sum_by-cons, e, two.0, s) (omega arith)
+      | inr e ↦ rw (sum_by-cons, e) (omega arith)
+    ]
+
+ends_most : (h : List Done) (t : ℕ) → count_by (λ x. is_some (step_dest x.step) && x.at.end == t) h ≤ peak Buses h
+ends_most [] t = omega arith
+ends_most (d ∷ h) t = let k = ends_most h t in elim (cases_Bool (is_some (step_dest d.step) && d.at.end == t)) [
+  | inl e ↦
+      let two = and_parts (is_some (step_dest d.step)) (d.at.end == t) e in
+      let s : d.at.end ≡ t = eqb-true d.at.end t two.1 in
+      rw (sum_by-cons, e, two.0, s) (omega arith)
+  | inr e ↦ rw (sum_by-cons, e) (omega arith)
+]
+
+-- in a cycle in which a step waits for a part as many are in use as the configuration has
+
+module _ (config : Configuration) (older : List Done) (d : Done) where
+  width_full : 0 < (waits_of config older d).width → config.width ≤ peak Width older
+  width_full waits =
+      let c = some_that (lacks_width config older) (max 1 (last_issue older)) d.at.issue waits in
+      let t : ℕ = c.0 in
+      let low : max 1 (last_issue older) ≤ c.0 = c.1 in
+      let fails : not (can_issue_another config older c.0) ≡ true =
+      (and_parts (are_branches_finished older c.0) (not (can_issue_another config older c.0)) c.3).1 in
+      let order : nat_le (last_issue older) c.0 ≡ true = le-leb (last_issue older) c.0 (omega arith) in
+      let none : nat_lt (count_by (λ x. x.at.issue == c.0) older) config.width ≡ false =
+      last_fails _ _ order (not-true (can_issue_another config older c.0) fails) in
+      let most : count_by (λ x. x.at.issue == c.0) older ≤ peak Width older = issues_most older c.0 in
+      let full : config.width ≤ count_by (λ x. x.at.issue == c.0) older =
+      ltb-false (count_by (λ x. x.at.issue == c.0) older) config.width none in
+      omega arith
+
+  station_full : (pool : PoolId) (x : Option PoolId)
+      → step_pool d.step ≡ x → AreTimed config older → IsTimed config older d.step d.at
+      → 0 < cond (is_in pool x) (waits_of config older d).station 0
+      → stations_of config pool ≤ peak (Stations pool) older
+  station_full pool None e timed is waits = absurd (omega arith)
+  station_full pool (Some p) e timed is waits = elim (cases_Bool (place_of_pool p == place_of_pool pool)) [
+    | inr f ↦ let z : 0 < 0 = rw f at waits in absurd (omega arith)
+    | inl f ↦
+        let same : p ≡ pool = same_pool p pool f in
+        let w : 0 < (waits_of config older d).station = rw f at waits in
+        let c = some_that (lacks_station config older) (max 1 (last_issue older)) d.at.issue w in
+        let low : max 1 (last_issue older) ≤ c.0 = c.1 in
+        let both = and_parts (are_branches_finished older c.0) (can_issue_another config older c.0) c.3 in
+        let cannot : can_issue config older d.step c.0 ≡ false = is.issue.1 c.0 c.2 in
+        let none : has_station config older (step_pool d.step) c.0 ≡ false =
+        last_fails _ _ (and_from _ _ (and_from _ _ (lt-ltb 0 c.0 (omega arith)) both.1) both.0) cannot in
+        let left : nat_lt (count_by (is_held pool c.0) older) (stations_of config pool) ≡ false =
+        rw (e, same) at none in
+        let full : stations_of config pool ≤ count_by (is_held pool c.0) older =
+        ltb-false (count_by (is_held pool c.0) older) (stations_of config pool) left in
+        let most : count_by (is_held pool c.0) older ≤ peak (Stations pool) older =
+        stations_held config older pool c.0 timed (omega arith) in
+        omega arith
+  ]
+
+  unit_full : (unit : UnitId) (x : Option UnitId) → step_unit d.step ≡ x → IsTimed config older d.step d.at
+      → 0 < cond (is_of unit x) (waits_of config older d).unit 0
+      → (option_of config unit).units ≤ peak (Units unit) older
+  unit_full unit None e is waits = absurd (omega arith)
+  unit_full unit (Some u) e is waits = elim (cases_Bool (place_of_unit u == place_of_unit unit)) [
+    | inr f ↦ let z : 0 < 0 = rw f at waits in absurd (omega arith)
+    | inl f ↦
+        let same : u ≡ unit = same_unit u unit f in
+        let w : 0 < (waits_of config older d).unit = rw f at waits in
+        let c = some_that (lacks_unit older d) (d.at.issue + 1) d.at.start w in
+        let low : d.at.issue + 1 ≤ c.0 = c.1 in
+        let least : IsLeast (can_start config older d.step u d.at.issue (cycle_of d.at.address)) d.at.start =
+        rw e at is.start in
+        let cannot : can_start config older d.step u d.at.issue (cycle_of d.at.address) c.0 ≡ false = least.1 c.0 c.2 in
+        let conflicts = and_parts (has_operands older d.step c.0 && nat_lt (cycle_of d.at.address) c.0)
+        (are_conflicts_finished older d.step c.0) c.3 in
+        let operands = and_parts (has_operands older d.step c.0) (nat_lt (cycle_of d.at.address) c.0) conflicts.0 in
+        let none : has_unit config older u c.0 ≡ false =
+        last_fails _ _ (and_from _ _ (and_from _ _ (and_from _ _ (lt-ltb d.at.issue c.0 (omega arith)) operands.1)
+        operands.0) conflicts.1) cannot in
+        let left : has_unit config older unit c.0 ≡ false = rw same at none in
+        let full : (option_of config unit).units ≤ count_by (λ x. is_of unit (step_unit x.step) && x.at.start == c.0)
+        older = ltb-false (count_by (λ x. is_of unit (step_unit x.step) && x.at.start == c.0) older)
+        (option_of config unit).units left in
+        let most : count_by (λ x. is_of unit (step_unit x.step) && x.at.start == c.0) older ≤ peak (Units unit) older =
+        starts_most older unit c.0 in
+        omega arith
+  ]
+
+  bus_full : (x : Option UnitId)
+      → MatchOption x (d.at.finish ≡ d.at.issue) (λ u. d.at.finish ≡ d.at.start + (option_of config u).latency - 1)
+      → MatchOption x (d.at.end ≡ d.at.issue) (λ u. EndsAfter config older d.step d.at.finish d.at.end)
+      → 0 < d.at.end - (d.at.finish + 1) → config.buses ≤ peak Buses older
+  bus_full None finish end waits =
+      let f : d.at.finish ≡ d.at.issue = finish in
+      let e : d.at.end ≡ d.at.issue = end in
+      absurd (omega arith)
+  bus_full (Some u) finish end waits = elim (cases_Bool (is_some (step_dest d.step))) [
+    | inr y ↦ let same : d.at.end ≡ d.at.finish =
+        MatchBool-at_false (IsLeast (can_end config older d.at.finish) d.at.end) (d.at.end ≡ d.at.finish) y end in
+        absurd (omega arith)
+    | inl y ↦
+        let least : IsLeast (can_end config older d.at.finish) d.at.end =
+        MatchBool-at_true (IsLeast (can_end config older d.at.finish) d.at.end) (d.at.end ≡ d.at.finish) y end in
+        let cannot : can_end config older d.at.finish (d.at.finish + 1) ≡ false =
+        least.1 (d.at.finish + 1) (omega arith) in
+        let none : has_bus config older (d.at.finish + 1) ≡ false =
+        rw (lt-ltb d.at.finish (d.at.finish + 1) (omega arith)) at cannot in
+        let full : config.buses ≤ count_by (λ x. is_some (step_dest x.step) && x.at.end == d.at.finish + 1) older =
+        ltb-false (count_by (λ x. is_some (step_dest x.step) && x.at.end == d.at.finish + 1) older) config.buses none
+        in
+        let most : count_by (λ x. is_some (step_dest x.step) && x.at.end == d.at.finish + 1) older ≤ peak Buses older =
+        ends_most older (d.at.finish + 1) in
+        omega arith
+  ]
+
+  step_full : (part : Part) → AreTimed config older
+      → IsTimed config older d.step d.at → 0 < waits_for part d (waits_of config older d)
+      → count_of config part ≤ peak part older
+  step_full (Stations pool) timed is waits =
+      station_full pool (step_pool d.step) refl timed is waits
+  step_full (Units unit) timed is waits = unit_full unit (step_unit d.step) refl is waits
+  step_full Buses timed is waits = bus_full (step_unit d.step) is.finish is.end waits
+  step_full Width timed is waits = width_full waits
+
+all_in_use : (config : Configuration) (h : List Done) (part : Part) → AreTimed config h → 0 < stalls config part h
+    → count_of config part ≤ peak part h
+all_in_use config [] part timed l = absurd (omega arith)
+all_in_use config (d ∷ older) part timed l = elim (cases_order 0 (stalls config part older)) [
+  | inl e ↦ let k : count_of config part ≤ peak part older =
+      step_full config older d part timed.1 timed.0 (omega arith) in omega arith
+  | inr (inl m) ↦ let k : count_of config part ≤ peak part older = all_in_use config older part timed.1 m in omega arith
+  | inr (inr m) ↦ absurd (omega arith)
+]
+
+pub stalled_full : StalledPartsAreFull
+stalled_full config h part timed l =
+    let a : peak part h ≤ count_of config part = peak_within config h part timed in
+    let b : count_of config part ≤ peak part h = all_in_use config h part timed l in
     omega arith

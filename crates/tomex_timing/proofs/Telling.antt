@@ -1,8 +1,8 @@
 -- What needs tell of another configuration.
-use Rattle.std.proofs.Common.{ℕ, zero, suc, ◌≤◌, ◌≡◌, ◌⊎◌, Bool, true, false, refl, sym, inl, inr, List, [], ◌∷◌, Some}
-use Rattle.std.specs.Prelude.{nat_le, ◌==◌, ◌&&◌, ◌||◌, slice_get}
+use Rattle.std.proofs.Common.{ℕ, zero, suc, ◌≤◌, ◌≡◌, ◌⊎◌, Bool, true, refl, sym, inl, inr, List, [], ◌∷◌, Some}
+use Rattle.std.specs.Prelude.{nat_le, ◌==◌, ◌&&◌, slice_get}
 use Rattle.std.specs.List.{list_all}
-use Rattle.std.proofs.lemmas.Bool.{and_parts, eqb-true, leb-true}
+use Rattle.std.proofs.lemmas.Bool.{and_parts, eqb-true, leb-true, or_cases}
 use Rattle.tomex_rvdec.specs.declared.pool.PoolId.TheVariants as pools
 use Rattle.tomex_rvdec.specs.declared.pool.UnitId.{UnitId}
 use Rattle.tomex_rvdec.specs.declared.pool.UnitId.TheVariants as units
@@ -15,15 +15,11 @@ use Rattle.tomex_timing.specs.Laws.{NeedsTell}
 use Rattle.tomex_timing.specs.Needs.{AreNeeds, all_parts, all_units, allows, allows_latency, count_of, peak, need_of}
 use Rattle.tomex_timing.specs.Needs.{stalls}
 
-either : (a b : Bool) → (a || b) ≡ true → (a ≡ true) ⊎ (b ≡ true)
-either true b h = inl h
-either false b h = inr h
-
 part_told : (config other : Configuration) (h : List Done) (needs : Needs) (part : Part) → AreNeeds config h needs
     → allows needs config other part ≡ true → (count_of other part ≡ count_of config part)
     ⊎ ((stalls config part h ≡ 0) × (peak part h ≤ count_of other part))
 part_told config other h needs part are told_so =
-    elim (either (count_of config part == count_of other part)
+    elim (or_cases (count_of config part == count_of other part)
     ((need_of needs part).stalls == 0 && nat_le (need_of needs part).peak (count_of other part)) told_so) [
       | inl e ↦ inl (sym (eqb-true (count_of config part) (count_of other part) e))
       | inr e ↦
@@ -41,7 +37,7 @@ latency_told : (config other : Configuration) (h : List Done) (needs : Needs) (u
     → allows_latency needs config other unit ≡ true → ((option_of other unit).latency ≡ (option_of config unit).latency)
     ⊎ (peak (Units unit) h ≡ 0)
 latency_told config other h needs unit are told_so =
-    elim (either ((option_of config unit).latency == (option_of other unit).latency)
+    elim (or_cases ((option_of config unit).latency == (option_of other unit).latency)
     ((need_of needs (Units unit)).peak == 0) told_so) [
       | inl e ↦ inl (sym (eqb-true (option_of config unit).latency (option_of other unit).latency e))
       | inr e ↦ inr (rw (are.parts (Units unit)) at (eqb-true (need_of needs (Units unit)).peak 0 e))

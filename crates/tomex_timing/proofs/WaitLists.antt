@@ -1,23 +1,104 @@
--- The waits of a run's steps, in program order, grow by one step at a time, and add up to its stalls.
-use Rattle.std.proofs.Common.{ℕ, suc, ◌*◌, ◌≤◌, ◌≡◌, ◌∙◌, arith, refl, List, [], ◌∷◌, ◌++◌, ap, length, reverse}
-use Rattle.std.specs.Prelude.{All, sum_by}
-use Rattle.std.proofs.lemmas.List.{reverse-append, length-reverse}
-use Rattle.std.proofs.lemmas.List.Elements.{All-nil, All-push}
-use Rattle.std.proofs.lemmas.List.Sums.{sum_by_push}
-use Rattle.tomex_steps.specs.declared.step.Step.{Step}
+-- The waits of a run's steps, in program order, grow by one step at a time, and add up to its stalls. No step waits
+-- longer than until its end, so the stalls of a run are no more than its steps times its cycles.
+use Rattle.std.proofs.Common.{ℕ, ◌+◌, ◌-◌, ◌*◌, ◌^◌, ◌<◌, ◌≤◌, ◌≡◌, Bool, arith, inl, inr, List, [], ◌∷◌, max, suc, ◌∙◌}
+use Rattle.std.proofs.Common.{refl, ◌++◌, ap, length, reverse}
+use Rattle.std.specs.Prelude.{count_by, length, All, sum_by}
+use Rattle.std.specs.List.{range_with_len}
+use Rattle.std.proofs.lemmas.Bool.{cases_Bool}
+use Rattle.std.proofs.lemmas.List.FromFn.{length-range_with_len}
+use Rattle.std.proofs.lemmas.List.Sums.{count_by-le-length, sum_by_push}
+use Rattle.tomex_steps.specs.Steps.{step_pool, step_unit, is_in}
 use Rattle.tomex_config.specs.Configuration.{Configuration, IsWithinLimits}
+use Rattle.tomex_timing.specs.declared.needs.Needs.{Needs}
+use Rattle.tomex_timing.specs.declared.part.Part.{Part}
+use Rattle.tomex_timing.specs.declared.part.Part.TheVariants.{Stations, Units, Buses, Width}
 use Rattle.tomex_timing.specs.declared.part.Waits.{Waits}
 use Rattle.tomex_timing.specs.declared.times.Done.{Done}
-use Rattle.tomex_timing.specs.History.{greatest_end}
-use Rattle.tomex_timing.specs.Laws.{WaitsAddUp, BusWaitsAreStalls, WidthWaitsAreStalls}
-use Rattle.tomex_timing.specs.Needs.{stalls_by, waits_in, waits_of, waits_over}
+use Rattle.tomex_timing.specs.History.{is_of, greatest_end, last_issue}
+use Rattle.tomex_timing.specs.Laws.{InReach, WaitsAddUp, BusWaitsAreStalls, WidthWaitsAreStalls}
+use Rattle.tomex_timing.specs.Needs.{AreNeeds, cycles_that, lacks_branch, lacks_width, lacks_station, lacks_operand}
+use Rattle.tomex_timing.specs.Needs.{lacks_address, lacks_memory, lacks_unit, waits_of, waits_for, sum_over, stalls_by}
+use Rattle.tomex_timing.specs.Needs.{waits_in, waits_over}
 use Rattle.tomex_timing.specs.Recurrence.{AreTimed}
-use Rattle.tomex_timing.specs.Search.{times_of, history}
-use Rattle.tomex_timing.specs.Waiting.{AreWithin}
+use Rattle.tomex_timing.specs.Waiting.{AreWithin, IsWithin}
 use Rattle.tomex_timing.proofs.Bound.{total_bound}
-use Rattle.tomex_timing.proofs.Histories.{are_timed, history_more, length-history}
 use Rattle.tomex_timing.proofs.Orders.{reach}
-use Rattle.tomex_timing.proofs.Small.{waits_within}
+use Rattle.std.proofs.lemmas.List.{reverse-append, length-reverse}
+use Rattle.std.proofs.lemmas.List.Elements.{All-nil, All-push}
+use Rattle.tomex_steps.specs.declared.step.Step.{Step}
+use Rattle.tomex_timing.specs.Search.{times_of, history}
+use Rattle.tomex_timing.proofs.Histories.{are_timed, history_more, length-history}
+
+cycles_few : (p : ℕ → Bool) (from to : ℕ) → cycles_that p from to ≤ to
+cycles_few p from to =
+    let a : count_by p (range_with_len from (to - from)) ≤ length (range_with_len from (to - from)) =
+    count_by-le-length p (range_with_len from (to - from)) in
+    let b : length (range_with_len from (to - from)) ≡ to - from = length-range_with_len from (to - from) in
+    omega arith
+
+pub waits_within : (config : Configuration) (h : List Done) (d : Done) (n : ℕ) → InReach (greatest_end h) d.at
+    → d.at.end ≤ n → AreWithin n (waits_of config h d)
+waits_within config h d n r l =
+    let i : d.at.issue ≤ d.at.end = r.issue in
+    let s : d.at.start ≤ d.at.end = r.start in
+    let low : ℕ = max 1 (last_issue h) in
+    let a = cycles_few (lacks_branch h) (max 1 (last_issue h)) d.at.issue in
+    let b = cycles_few (lacks_width config h) (max 1 (last_issue h)) d.at.issue in
+    let c = cycles_few (lacks_station config h) (max 1 (last_issue h)) d.at.issue in
+    let e = cycles_few (lacks_operand h d) (d.at.issue + 1) d.at.start in
+    let f = cycles_few (lacks_address h d) (d.at.issue + 1) d.at.start in
+    let g = cycles_few (lacks_memory h d) (d.at.issue + 1) d.at.start in
+    let u = cycles_few (lacks_unit h d) (d.at.issue + 1) d.at.start in
+    record {
+      branch = omega arith;
+      width = omega arith;
+      station = omega arith;
+      operand = omega arith;
+      address = omega arith;
+      memory = omega arith;
+      unit = omega arith;
+      bus = omega arith;
+    }
+
+part_within : (part : Part) (d : Done) (waits : Waits) (n : ℕ) → AreWithin n waits → waits_for part d waits ≤ n
+part_within (Stations pool) d waits n w =
+    elim (cases_Bool (is_in pool (step_pool d.step))) [ inl e ↦ rw e w.station | inr e ↦ rw e (omega arith) ]
+part_within (Units unit) d waits n w =
+    elim (cases_Bool (is_of unit (step_unit d.step))) [ inl e ↦ rw e w.unit | inr e ↦ rw e (omega arith) ]
+part_within Buses d waits n w = w.bus
+part_within Width d waits n w = w.width
+
+-- numbers of waits that are no longer than them
+sum_within : (config : Configuration) (f : Done → Waits → ℕ) (h : List Done)
+    → ((d : Done) (waits : Waits) (n : ℕ) → AreWithin n waits → f d waits ≤ n) → IsWithinLimits config
+    → AreTimed config h → greatest_end h ≤ 2 ^ 35 → sum_over (λ older d. f d (waits_of config older d)) h ≤ 2 ^ 35
+    * length h
+sum_within config f [] small good timed l = omega arith
+sum_within config f (d ∷ h) small good timed l =
+    let r : InReach (greatest_end h) d.at = reach config d h good timed in
+    let a : f d (waits_of config h d) ≤ 2 ^ 35 =
+    small d (waits_of config h d) (2 ^ 35) (waits_within config h d (2 ^ 35) r (omega arith)) in
+    let b : sum_over (λ older d. f d (waits_of config older d)) h ≤ 2 ^ 35 * length h =
+    sum_within config f h small good timed.1 (omega arith) in
+    omega arith
+
+pub needs_within : (config : Configuration) (h : List Done) (needs : Needs) → IsWithinLimits config → AreTimed config h
+    → length h < 2 ^ 28 → AreNeeds config h needs → IsWithin (2 ^ 63) needs
+needs_within config h needs good timed few are =
+    let g : greatest_end h ≤ 67 * length h = total_bound config h good timed in
+    let by : greatest_end h ≤ 2 ^ 35 = omega arith in
+    record {
+      parts = λ part. rw (are.parts part) (let s =
+          sum_within config (waits_for part) h (part_within part) good timed by in omega arith);
+      branch = rw are.branch (let s = sum_within config (λ d w. w.branch) h (λ d w n k. k.branch) good timed by in
+          omega arith);
+      operand = rw are.operand (let s = sum_within config (λ d w. w.operand) h (λ d w n k. k.operand) good timed by in
+          omega arith);
+      address = rw are.address (let s = sum_within config (λ d w. w.address) h (λ d w n k. k.address) good timed by in
+          omega arith);
+      memory = rw are.memory (let s = sum_within config (λ d w. w.memory) h (λ d w n k. k.memory) good timed by in
+          omega arith);
+    }
 
 pub waits_more : (config : Configuration) (xs : List Step) (x : Step)
     → waits_in config (xs ++ (x ∷ [])) ≡ waits_in config xs

@@ -1,9 +1,9 @@
 -- Issues by the width: in order, and no more of them in a cycle. With a width of one an issue is later
 -- than the one before, and that is all that the width asks.
-use Rattle.std.proofs.Common.{ℕ, ◌<◌, ◌≤◌, ◌≡◌, ◌∙◌, Bool, true, false, arith, refl, List, [], ◌∷◌, ap, inl, inr, sym}
+use Rattle.std.proofs.Common.{ℕ, ◌<◌, ◌≤◌, ◌≡◌, ◌∙◌, true, false, arith, refl, List, [], ◌∷◌, ap, inl, inr, sym}
 use Rattle.std.specs.Prelude.{nat_lt, nat_le, ◌==◌, ◌&&◌, count_by}
-use Rattle.std.proofs.lemmas.Bool.{cases_Bool, cases_order, lt-ltb, le-ltb, le-leb, lt-leb, leb-true, ltb-true, eq-eqb}
-use Rattle.std.proofs.lemmas.Bool.{ne_eqb, and_parts}
+use Rattle.std.proofs.lemmas.Bool.{cases_Bool, cases_order, lt-ltb, le-ltb, le-leb, lt-leb, ltb-true, eq-eqb}
+use Rattle.std.proofs.lemmas.Bool.{ne_eqb, and_parts, and_right}
 use Rattle.std.proofs.lemmas.List.Sums.{sum_by-cons}
 use Rattle.tomex_steps.specs.Steps.{step_pool}
 use Rattle.tomex_steps.specs.declared.step.Step.{Step}
@@ -12,20 +12,15 @@ use Rattle.tomex_timing.specs.declared.times.Done.{Done}
 use Rattle.tomex_timing.specs.History.{last_issue}
 use Rattle.tomex_timing.specs.Station.{has_station}
 use Rattle.tomex_timing.specs.Recurrence.{AreTimed, can_issue, are_branches_finished}
+use Rattle.tomex_timing.proofs.Tests.{can_issue_is}
 use Rattle.tomex_timing.specs.Laws.{IssuesAlone, IssuesFitTheWidth, IssuesRise, IssuesStandInOrder}
 
 pub issue_from : (config : Configuration) (older : List Done) (s : Step) (t : ℕ) → can_issue config older s t ≡ true
     → last_issue older ≤ t
-issue_from config older s t h =
-    leb-true (last_issue older) t (and_parts _ _ (and_parts _ _ (and_parts _ _ (and_parts _ _ h).0).0).1).0
+issue_from config older s t h = (can_issue_is config older s t h).in_order
 
 pub issues_in_order : IssuesStandInOrder
 issues_in_order config d older timed = issue_from config older d.step d.at.issue timed.0.issue.0
-
-slot_left : (config : Configuration) (older : List Done) (s : Step) (t : ℕ) → can_issue config older s t ≡ true
-    → count_by (λ d. d.at.issue == t) older < config.width
-slot_left config older s t h = ltb-true (count_by (λ d. d.at.issue == t) older) config.width
-    (and_parts _ _ (and_parts _ _ (and_parts _ _ (and_parts _ _ h).0).0).1).1
 
 pub issues_fit : IssuesFitTheWidth
 issues_fit config [] t timed = omega arith
@@ -34,7 +29,7 @@ issues_fit config (d ∷ h) t timed =
     elim (cases_order d.at.issue t) [
       | inl e ↦
           let left : count_by (λ d. d.at.issue == t) h < config.width =
-          slot_left config h d.step t (ap (can_issue config h d.step) (sym e) ∙ timed.0.issue.0) in
+          (can_issue_is config h d.step t (ap (can_issue config h d.step) (sym e) ∙ timed.0.issue.0)).slot_left in
           rw (sum_by-cons, eq-eqb d.at.issue t e) (omega arith)
       | inr (inl l) ↦ rw (sum_by-cons, ne_eqb d.at.issue t (λ (e : d.at.issue ≡ t). absurd (omega arith))) (omega arith)
       | inr (inr l) ↦ rw (sum_by-cons, ne_eqb d.at.issue t (λ (e : d.at.issue ≡ t). absurd (omega arith))) (omega arith)
@@ -49,8 +44,7 @@ none_later config (d ∷ h) t timed l =
     rw (
       sum_by-cons,
       ne_eqb d.at.issue t (λ (e : d.at.issue ≡ t). absurd (omega arith)),
-      none_later config h t timed.1
-          (omega arith),
+      none_later config h t timed.1 (omega arith),
     ) refl
 
 some_there : (d : Done) (h : List Done) (t : ℕ) → d.at.issue ≡ t → 0 < count_by (λ d. d.at.issue == t) (d ∷ h)
@@ -67,24 +61,15 @@ slot_alone config (d ∷ h) t timed = elim (cases_order d.at.issue t) [
   | inl e ↦
       let p : 0 < count_by (λ d. d.at.issue == t) (d ∷ h) = some_there d h t e in
       rw (le-ltb (count_by (λ d. d.at.issue == t) (d ∷ h)) 1 (omega arith), le-ltb d.at.issue t (omega arith))
-      (last_false _ _)
+      (and_right _ (_ && false) (and_right _ false refl))
   | inr (inl l) ↦ rw (
     none_later config (d ∷ h) t timed l,
     lt-ltb d.at.issue t l,
     le-leb d.at.issue t (omega arith),
     lt-ltb 0 t (omega arith),
   ) refl
-  | inr (inr l) ↦ rw (lt-leb d.at.issue t l, le-ltb d.at.issue t (omega arith)) (mid_false _)
+  | inr (inr l) ↦ rw (lt-leb d.at.issue t l, le-ltb d.at.issue t (omega arith)) (and_right _ false refl)
 ]
-  where
-    last_false : (a b : Bool) → (a && (b && false)) ≡ false
-    last_false false b = refl
-    last_false true true = refl
-    last_false true false = refl
-
-    mid_false : (a : Bool) → (a && false) ≡ false
-    mid_false true = refl
-    mid_false false = refl
 
 pub issues_alone : IssuesAlone
 issues_alone config h s t one timed =

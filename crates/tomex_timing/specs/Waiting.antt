@@ -1,12 +1,9 @@
 -- The needs of a run as they are counted: a step's waits are differences of cycles that the evaluator has at hand.
-use Rattle.std.specs.Prelude.{ℕ, ◌+◌, ◌-◌, ◌≤◌, ◌==◌, if◌then◌else◌, List, [], ◌∷◌, Option, Some}
-use Rattle.std.specs.Prelude.{None, count_by, is_some, max, replicate, slice_index_or, slice_set}
+use Rattle.std.specs.Prelude.{ℕ, ◌+◌, ◌-◌, ◌≤◌, ◌==◌, if◌then◌else◌, List, Option, Some}
+use Rattle.std.specs.Prelude.{None, max, replicate, slice_index_or, slice_set}
 use Rattle.tomex_rvdec.specs.Parts.{place_of_pool, place_of_unit}
 use Rattle.tomex_rvdec.specs.declared.pool.PoolId.{PoolId}
 use Rattle.tomex_rvdec.specs.declared.pool.UnitId.{UnitId}
-use Rattle.tomex_steps.specs.Steps.{step_unit, j_of, k_of}
-use Rattle.tomex_steps.specs.declared.step.Step.{Step}
-use Rattle.tomex_config.specs.Configuration.{Configuration}
 use Rattle.tomex_timing.specs.declared.needs.Needs.{Needs}
 use Rattle.tomex_timing.specs.declared.next.Marks.{Marks}
 use Rattle.tomex_timing.specs.declared.next.Next.{Next}
@@ -18,13 +15,6 @@ use Rattle.tomex_timing.specs.declared.waiting.Taken.{Taken}
 use Rattle.tomex_timing.specs.declared.window.Facts.{Facts}
 use Rattle.tomex_timing.specs.declared.window.Latest.{Latest}
 use Rattle.tomex_timing.specs.Needs.{no_need, need_of, stations_up_to}
-use Rattle.tomex_timing.specs.Window.{Live, facts_of, issue_from, conflicts_with}
-use Rattle.tomex_timing.specs.Window.{starts_in, sends_in, end_among, ready_from}
-
--- the first cycle from this one on that is later than the finish of each conflicting access
-abbrev pub clear_among : Facts → List Live → ℕ → ℕ
-clear_among f [] from = from
-clear_among f (l ∷ live) from = clear_among f live (if conflicts_with f l then max from (l.finish + 1) else from)
 
 -- the first cycle in which a step can wait to issue, and the first after it that no branch is in the way of
 abbrev pub issue_low : Latest → ℕ
@@ -36,23 +26,6 @@ past_branches latest = max (issue_low latest) (latest.branch + 1)
 -- the first cycle after the issue with both operands
 abbrev pub operands_from : ℕ → ℕ → ℕ → ℕ
 operands_from issue j k = max issue (max j k) + 1
-
--- the marks of a next step, with the ends of its operands' producers; without a unit it starts as it issues
-abbrev pub marks_from : Configuration → List Live → Latest → Facts → Option UnitId → ℕ → ℕ → Times → Marks
-marks_from config live latest f None j k at =
-    record { from = issue_from config latest; operands = at.issue; ready = at.issue; clear = at.issue }
-marks_from config live latest f (Some unit) j k at = record {
-  from = issue_from config latest;
-  operands = operands_from at.issue j k;
-  ready = ready_from at.issue at.address j k;
-  clear = clear_among f live (ready_from at.issue at.address j k);
-}
-
-abbrev pub marks_among : Configuration → List Live → Latest → Step → Times → Marks
-marks_among config live latest s at =
-    let j = end_among latest.ends (j_of s) in
-    let k = end_among latest.ends (k_of s) in
-    marks_from config live latest (facts_of s) (step_unit s) j k at
 
 -- the waits of a next step, between its marks
 abbrev pub waits_by : Latest → Marks → Times → Waits
@@ -67,14 +40,6 @@ waits_by latest marks at = record {
   bus = at.end - at.finish - 1;
 }
 
--- how many units of a kind are taken in a cycle with a next step's own, and how many buses
-abbrev pub units_taken : List Live → Option UnitId → ℕ → ℕ
-units_taken live None t = 0
-units_taken live (Some unit) t = count_by (starts_in unit t) live + 1
-
-abbrev pub buses_taken : List Live → Option ℕ → ℕ → ℕ
-buses_taken live dest t = if is_some dest then count_by (sends_in t) live + 1 else 0
-
 -- what a next step takes
 abbrev pub taken_with : Latest → Times → ℕ → ℕ → Taken
 taken_with latest at units buses = record {
@@ -86,11 +51,6 @@ taken_with latest at units buses = record {
 
 abbrev pub taken_from : Latest → Next → Taken
 taken_from latest next = taken_with latest next.at next.units next.buses
-
--- by what is kept
-abbrev pub taken_among : List Live → Latest → Facts → Times → Taken
-taken_among live latest f at =
-    taken_with latest at (units_taken live f.unit at.start) (buses_taken live f.dest at.end)
 
 -- before the first step
 abbrev pub nothing_needed : Needs

@@ -1,68 +1,47 @@
 -- Each turn of the loop keeps what is held, and adds the step's times.
-use Rattle.std.proofs.Common.{rules, ◌≡◌, ◌≤◌, ◌*◌, arith, slice_index_or, sym}
+use Rattle.std.proofs.Common.{rules, ◌≡◌, arith, sym}
 use Rattle.std.proofs.lemmas.Grind.{common_steps}
 use Rattle.tomex_timing.specs.Search.{times_in}
 use Rattle.tomex_timing.proofs.Histories.{are_timed, length-times_in, times_bound}
-use Rattle.tomex_timing.proofs.Shown.{settled_there, start_shown}
-use Rattle.tomex_timing.proofs.ShownTurns.{IsStep, can_keep, held_turn}
-use Rattle.tomex_timing.proofs.Turns.{end_bound}
+use Rattle.tomex_timing.proofs.Shown.{start_shown}
+use Rattle.tomex_timing.proofs.Turns.{bounded, can_keep, held_turn, times_turn, turn_of}
 use Rattle.tomex_timing.proofs.evaluate.times.Goals as goal
 
 pub loop-step-init : goal.loop-step-init
 loop-step-init g c = record {
-  shown = rw (
-    c.new-window.ensures.latest,
-    c.new-window.ensures.table,
-    c.new-window.ensures.stations,
-    c.new-window.ensures.accesses,
-  ) (start_shown c.args.config.now);
+  shown = start_shown c.args.config.now c.new-window.ensures.latest c.new-window.ensures.table
+      c.new-window.ensures.stations c.new-window.ensures.accesses;
   times = c.new-result.ensures.items;
 }
 
 pub next_step-requires-clause-settled : goal.next_step-requires-clause-settled
 next_step-requires-clause-settled g c =
-    settled_there c.args.config.now c.args.steps.now c.loop-step.step-index _ _ _ _ c.keeps_limits.ensures
-    c.loop-step.invariant.shown
+    (bounded c.args.config.now c.args.steps.now c.loop-step.step-index c.keeps_limits.ensures
+    (omega arith) c.loop-step.invariant.shown).settled
 
 pub next_step-requires-clause-small : goal.next_step-requires-clause-small
 next_step-requires-clause-small g c =
-    let by : c.loop-step.window.latest.end ≤ 67 * c.loop-step.step-index =
-    end_bound c.args.config.now c.args.steps.now c.loop-step.step-index _ c.loop-step.window.latest
-    c.keeps_limits.ensures (omega arith) c.loop-step.invariant.shown.kept in
-    omega arith
+    omega (
+      arith,
+      (bounded c.args.config.now c.args.steps.now c.loop-step.step-index c.keeps_limits.ensures
+          (omega arith) c.loop-step.invariant.shown).end,
+    )
 
 pub keep-requires : goal.keep-requires
 keep-requires g c =
-    let is : slice_index_or c.args.steps.now c.loop-step.step-index c.step-item.result ≡ c.step-item.result =
-    search rules in
-    let step : IsStep c.args.config.now c.args.steps.now c.loop-step.step-index c.step-item.result c.of-facts.result =
-    record {
-      good = c.keeps_limits.ensures;
-      place = c.loop-step-test.true;
-      at = is;
-      facts = c.of-facts.ensures.facts;
-      registers = c.of-facts.ensures.registers;
-    } in
-    can_keep c.args.config.now c.args.steps.now c.loop-step.step-index c.step-item.result c.of-facts.result _ _ _ _
-    c.next_step.result c.requires.few step c.loop-step.invariant.shown c.next_step.ensures
+    can_keep (turn_of c.args.config.now c.args.steps.now c.loop-step.step-index c.step-item.result c.of-facts.result
+    c.keeps_limits.ensures c.loop-step-test.true (search rules) c.of-facts.ensures.facts c.of-facts.ensures.registers
+    c.loop-step.invariant.shown c.next_step.ensures) c.requires.few
 
 pub loop-step-preserved : goal.loop-step-preserved
 loop-step-preserved g c =
-    let is : slice_index_or c.args.steps.now c.loop-step.step-index c.step-item.result ≡ c.step-item.result =
-    search rules in
-    let step : IsStep c.args.config.now c.args.steps.now c.loop-step.step-index c.step-item.result c.of-facts.result =
+    let turn = turn_of c.args.config.now c.args.steps.now c.loop-step.step-index c.step-item.result c.of-facts.result
+    c.keeps_limits.ensures c.loop-step-test.true (search rules) c.of-facts.ensures.facts c.of-facts.ensures.registers
+    c.loop-step.invariant.shown c.next_step.ensures in
     record {
-      good = c.keeps_limits.ensures;
-      place = c.loop-step-test.true;
-      at = is;
-      facts = c.of-facts.ensures.facts;
-      registers = c.of-facts.ensures.registers;
-    } in
-    let turn = held_turn c.args.config.now c.args.steps.now c.loop-step.step-index c.step-item.result c.of-facts.result
-    _ _ _ _ _ c.next_step.result step c.loop-step.invariant.shown c.next_step.ensures c.in_ok-keep.ensures.table in
-    record {
-      shown = rw (c.in_ok-keep.ensures.latest, c.in_ok-keep.ensures.stations, c.in_ok-keep.ensures.accesses) turn.0;
-      times = rw (c.in_ok-push.ensures.items, c.loop-step.invariant.times) (sym turn.1);
+      shown = rw (c.in_ok-keep.ensures.latest, c.in_ok-keep.ensures.stations, c.in_ok-keep.ensures.accesses)
+          (held_turn turn c.in_ok-keep.ensures.table);
+      times = rw (c.in_ok-push.ensures.items, c.loop-step.invariant.times) (sym (times_turn turn));
     }
 
 pub returns-clause-recurrence : goal.returns-clause-recurrence

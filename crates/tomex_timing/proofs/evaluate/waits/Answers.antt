@@ -1,84 +1,59 @@
 -- Each turn of the loop keeps what is held, and adds the step's waits.
-use Rattle.std.proofs.Common.{rules, ◌≡◌, ◌≤◌, ◌*◌, arith, slice_index_or, sym}
+use Rattle.std.proofs.Common.{rules, ◌≡◌, arith, sym}
 use Rattle.std.proofs.lemmas.Grind.{common_steps}
 use Rattle.tomex_timing.specs.Needs.{waits_in}
-use Rattle.tomex_timing.proofs.HeldNeeds.{held_waits}
-use Rattle.tomex_timing.proofs.Shown.{settled_there, start_shown}
-use Rattle.tomex_timing.proofs.ShownTurns.{IsStep, can_keep, held_turn}
-use Rattle.tomex_timing.proofs.Turns.{end_bound}
+use Rattle.tomex_timing.proofs.Shown.{start_shown}
+use Rattle.tomex_timing.proofs.Turns.{bounded, can_keep, held_turn, turn_of, waits_turn}
 use Rattle.tomex_timing.proofs.WaitLists.{length-waits_in, waits_in_within}
 use Rattle.tomex_timing.proofs.evaluate.waits.Goals as goal
 
 pub loop-step-init : goal.loop-step-init
 loop-step-init g c = record {
-  shown = rw (
-    c.new-window.ensures.latest,
-    c.new-window.ensures.table,
-    c.new-window.ensures.stations,
-    c.new-window.ensures.accesses,
-  ) (start_shown c.args.config.now);
+  shown = start_shown c.args.config.now c.new-window.ensures.latest c.new-window.ensures.table
+      c.new-window.ensures.stations c.new-window.ensures.accesses;
   waits = c.new-result.ensures.items;
 }
 
 pub next_step-next-requires-clause-settled : goal.next_step-next-requires-clause-settled
 next_step-next-requires-clause-settled g c =
-    settled_there c.args.config.now c.args.steps.now c.loop-step.step-index _ _ _ _ c.keeps_limits.ensures
-    c.loop-step.invariant.shown
+    (bounded c.args.config.now c.args.steps.now c.loop-step.step-index c.keeps_limits.ensures
+    (omega arith) c.loop-step.invariant.shown).settled
 
 pub next_step-next-requires-clause-small : goal.next_step-next-requires-clause-small
 next_step-next-requires-clause-small g c =
-    let by : c.loop-step.window.latest.end ≤ 67 * c.loop-step.step-index =
-    end_bound c.args.config.now c.args.steps.now c.loop-step.step-index _ c.loop-step.window.latest
-    c.keeps_limits.ensures (omega arith) c.loop-step.invariant.shown.kept in
-    omega arith
+    omega (
+      arith,
+      (bounded c.args.config.now c.args.steps.now c.loop-step.step-index c.keeps_limits.ensures
+          (omega arith) c.loop-step.invariant.shown).end,
+    )
 
 pub keep-requires : goal.keep-requires
 keep-requires g c =
-    let is : slice_index_or c.args.steps.now c.loop-step.step-index c.step-item.result ≡ c.step-item.result =
-    search rules in
-    let step : IsStep c.args.config.now c.args.steps.now c.loop-step.step-index c.step-item.result c.of-facts.result =
-    record {
-      good = c.keeps_limits.ensures;
-      place = c.loop-step-test.true;
-      at = is;
-      facts = c.of-facts.ensures.facts;
-      registers = c.of-facts.ensures.registers;
-    } in
-    can_keep c.args.config.now c.args.steps.now c.loop-step.step-index c.step-item.result c.of-facts.result _ _ _ _
-    c.next_step-next.result c.requires.few step c.loop-step.invariant.shown c.next_step-next.ensures
+    can_keep (turn_of c.args.config.now c.args.steps.now c.loop-step.step-index c.step-item.result c.of-facts.result
+    c.keeps_limits.ensures c.loop-step-test.true (search rules) c.of-facts.ensures.facts c.of-facts.ensures.registers
+    c.loop-step.invariant.shown c.next_step-next.ensures) c.requires.few
 
 pub loop-step-preserved : goal.loop-step-preserved
 loop-step-preserved g c =
-    let is : slice_index_or c.args.steps.now c.loop-step.step-index c.step-item.result ≡ c.step-item.result =
-    search rules in
-    let step : IsStep c.args.config.now c.args.steps.now c.loop-step.step-index c.step-item.result c.of-facts.result =
+    let turn = turn_of c.args.config.now c.args.steps.now c.loop-step.step-index c.step-item.result c.of-facts.result
+    c.keeps_limits.ensures c.loop-step-test.true (search rules) c.of-facts.ensures.facts c.of-facts.ensures.registers
+    c.loop-step.invariant.shown c.next_step-next.ensures in
     record {
-      good = c.keeps_limits.ensures;
-      place = c.loop-step-test.true;
-      at = is;
-      facts = c.of-facts.ensures.facts;
-      registers = c.of-facts.ensures.registers;
-    } in
-    let turn = held_turn c.args.config.now c.args.steps.now c.loop-step.step-index c.step-item.result c.of-facts.result
-    _ _ _ _ _ c.next_step-next.result step c.loop-step.invariant.shown c.next_step-next.ensures
-    c.in_ok-keep.ensures.table in
-    let waits = held_waits c.args.config.now c.args.steps.now c.loop-step.step-index c.step-item.result
-    c.of-facts.result _ _ _ _ c.next_step-next.result c.waits_of-waits.result step c.loop-step.invariant.shown
-    c.next_step-next.ensures c.waits_of-waits.ensures in
-    record {
-      shown = rw (c.in_ok-keep.ensures.latest, c.in_ok-keep.ensures.stations, c.in_ok-keep.ensures.accesses) turn.0;
-      waits = rw (c.in_ok-push.ensures.items, c.loop-step.invariant.waits) (sym waits);
+      shown = rw (c.in_ok-keep.ensures.latest, c.in_ok-keep.ensures.stations, c.in_ok-keep.ensures.accesses)
+          (held_turn turn c.in_ok-keep.ensures.table);
+      waits = rw (c.in_ok-push.ensures.items, c.loop-step.invariant.waits)
+          (sym (waits_turn turn c.waits_of-waits.ensures));
     }
 
 pub waits_of-waits-requires : goal.waits_of-waits-requires
 waits_of-waits-requires g c =
-    let s = settled_there c.args.config.now c.args.steps.now c.loop-step.step-index _ _ _ _ c.keeps_limits.ensures
-    c.loop-step.invariant.shown in
-    let b : c.loop-step.window.latest.branch ≤ c.loop-step.window.latest.end = s.branch in
-    let by : c.loop-step.window.latest.end ≤ 67 * c.loop-step.step-index =
-    end_bound c.args.config.now c.args.steps.now c.loop-step.step-index _ c.loop-step.window.latest
-    c.keeps_limits.ensures (omega arith) c.loop-step.invariant.shown.kept in
-    record { branch = omega arith }
+    record {
+      branch = omega (
+        arith,
+        (bounded c.args.config.now c.args.steps.now c.loop-step.step-index c.keeps_limits.ensures
+            (omega arith) c.loop-step.invariant.shown).branch,
+      );
+    }
 
 pub returns-clause-pairs : goal.returns-clause-pairs
 returns-clause-pairs g c =

@@ -1,0 +1,231 @@
+-- The step that comes next by what is held has the times of the recurrence.
+use Rattle.std.proofs.Common.{ℕ, ◌+◌, ◌-◌, ◌<◌, ◌≤◌, ◌≡◌, ◌∙◌, Bool, true, false, cond, arith, refl, sym, inl, inr}
+use Rattle.std.proofs.Common.{List, Option, Some, None, max}
+use Rattle.std.specs.Prelude.{nat_lt, nat_le, ◌&&◌, is_some, count_by, MatchOption}
+use Rattle.std.specs.Bool.{MatchBool}
+use Rattle.std.specs.Option.{ForSome}
+use Rattle.std.proofs.lemmas.Bool.{cases_Bool, false_from_ne_true, and_from, and_parts, le-leb, lt-ltb, le-ltb}
+use Rattle.std.proofs.lemmas.Bool.{leb-true, ltb-true}
+use Rattle.tomex_rvdec.specs.Parts.{place_of_unit}
+use Rattle.tomex_rvdec.specs.declared.pool.PoolId.{PoolId}
+use Rattle.tomex_rvdec.specs.declared.pool.UnitId.{UnitId}
+use Rattle.tomex_steps.specs.Steps.{step_pool, step_unit, step_dest, j_of, k_of}
+use Rattle.tomex_steps.specs.declared.step.Step.{Step}
+use Rattle.tomex_config.specs.Configuration.{Configuration, IsWithinLimits, stations_of, option_of}
+use Rattle.tomex_timing.specs.declared.accesses.Access.{Access}
+use Rattle.tomex_timing.specs.declared.next.Next.{Next}
+use Rattle.tomex_timing.specs.declared.part.Part.TheVariants.{Stations}
+use Rattle.tomex_timing.specs.declared.times.Done.{Done}
+use Rattle.tomex_timing.specs.declared.window.Latest.{Latest}
+use Rattle.tomex_timing.specs.Ahead.{IsIdle, IsNextBy, RunsOn, TakesBus, TakesStation, end_in}
+use Rattle.tomex_reservations.specs.Reservations.{IsFreeFirst, Reserved, bus_line, end_at, is_left}
+use Rattle.tomex_timing.specs.History.{cycle_of, is_memory, last_address, last_issue, source_end}
+use Rattle.tomex_timing.specs.Recurrence.{IsLeast, IsTimed, AreTimed, EndsAfter, are_conflicts_finished, can_address}
+use Rattle.tomex_timing.specs.Recurrence.{can_end, can_issue, can_start, has_operands}
+use Rattle.tomex_timing.specs.Search.{least}
+use Rattle.tomex_timing.specs.Station.{is_held, has_station, is_free}
+use Rattle.tomex_timing.specs.Waiting.{operands_from}
+use Rattle.tomex_timing.specs.Window.{facts_of, ready_from, register_of}
+use Rattle.tomex_timing.proofs.Shown.{source_agree, IsShown}
+use Rattle.tomex_timing.proofs.Least.{first_from_le, least_agree}
+use Rattle.tomex_timing.proofs.Limits.{latency_low, stations_high}
+use Rattle.tomex_timing.proofs.Holders.{stations_fit}
+use Rattle.tomex_reservations.proofs.Searching.{first_here}
+use Rattle.tomex_timing.proofs.Splits.{slot_from, slot_range, from_of, issue_split, ready_split, after_split}
+use Rattle.tomex_timing.proofs.Splits.{address_agree}
+use Rattle.tomex_timing.proofs.Stations.{number_is}
+use Rattle.tomex_timing.proofs.Taken.{peak_within}
+use Rattle.tomex_timing.proofs.Width.{issue_from as issue_after}
+
+-- a step comes next after a history, by what is held of that
+pub record ComesNext (config : Configuration) (h : List Done) (latest : Latest) (table : Reserved) (taken : List ℕ)
+    (accesses : List Access) (s : Step) (next : Next) : Type 0 where
+  pub good : IsWithinLimits config
+  pub timed : AreTimed config h
+  pub shown : IsShown h latest table taken accesses
+  pub j : ForSome (j_of s) (λ o. o.register < 32)
+  pub k : ForSome (k_of s) (λ o. o.register < 32)
+  pub by : IsNextBy config latest table taken accesses (facts_of s) next
+
+-- the issue and the station of a step of this pool
+record HasIssue (config : Configuration) (h : List Done) (pool : Option PoolId) (from issue : ℕ)
+    (station : Option ℕ) : Type 0 where
+  first : IsLeast (λ t. nat_le from t && has_station config h pool t) issue
+  takes : MatchOption pool (station ≡ None) (λ p. (n : ℕ) × (station ≡ Some n) × IsLeast (is_free p h issue) n)
+
+address_part : (memory : Bool) (h : List Done) (s : Step) (issue : ℕ) (a : Option ℕ)
+    → a ≡ cond memory (Some (max (max issue (source_end h (j_of s))) (last_address h) + 1)) None
+    → MatchBool memory (IsLeast (can_address h s issue) (cycle_of a)) (a ≡ None)
+address_part true h s issue a e = rw e (address_agree h s issue)
+address_part false h s issue a e = e
+
+-- the marks of an operation, by the history
+pub record HasMarks (h : List Done) (s : Step) (next : Next) : Type 0 where
+  pub operands : next.marks.operands ≡ operands_from next.at.issue (source_end h (j_of s)) (source_end h (k_of s))
+  pub ready : next.marks.ready
+      ≡ ready_from next.at.issue next.at.address (source_end h (j_of s)) (source_end h (k_of s))
+  -- past each conflict
+  pub clear : (t : ℕ) → nat_le next.marks.clear t ≡ (nat_le next.marks.ready t && are_conflicts_finished h s t)
+  pub order : next.marks.ready ≤ next.marks.clear
+  pub late : last_issue h < next.marks.ready
+
+-- the times from the start on
+record HasRun (config : Configuration) (h : List Done) (s : Step) (unit : Option UnitId) (next : Next) : Type 0 where
+  start : MatchOption unit (next.at.start ≡ next.at.issue)
+      (λ u. IsLeast (can_start config h s u next.at.issue (cycle_of next.at.address)) next.at.start)
+  finish : MatchOption unit (next.at.finish ≡ next.at.issue)
+      (λ u. next.at.finish ≡ next.at.start + (option_of config u).latency - 1)
+  end : MatchOption unit (next.at.end ≡ next.at.issue) (λ u. EndsAfter config h s next.at.finish next.at.end)
+
+module _ {config : Configuration} {h : List Done} {latest : Latest} {table : Reserved} {taken : List ℕ}
+    {accesses : List Access} {s : Step} {next : Next} (c : ComesNext config h latest table taken accesses s next) where
+  -- the station that is free first: then one of the pool's is left, and before that none is
+  some_left : (p : PoolId) (from issue n : ℕ) → last_issue h ≤ from → 0 < from
+      → IsFreeFirst taken p (stations_of config p) from issue n → has_station config h (Some p) issue ≡ true
+  some_left p from issue n late pos first =
+      let high : stations_of config p ≤ 16 = stations_high config p c.good in
+      let begun : from ≤ issue = first.begun in
+      let there : n < stations_of config p = first.there in
+      let free : is_free p h issue n ≡ true = c.shown.stations p issue n (omega arith) (omega arith)
+      ∙ lt-ltb (end_at taken p n) issue first.free in
+      lt-ltb (count_by (is_held p issue) h) (stations_of config p)
+      (stations_fit config h p issue n (stations_of config p) c.timed (omega arith) free first.there
+      (peak_within config h (Stations p) c.timed))
+
+  none_left : (p : PoolId) (from issue n t : ℕ) → 0 < from → IsFreeFirst taken p (stations_of config p) from issue n
+      → from ≤ t → t < issue → has_station config h (Some p) t ≡ false
+  none_left p from issue n t pos first l m = false_from_ne_true (has_station config h (Some p) t) (λ left.
+      let is = number_is config h p t left in
+      let high : stations_of config p ≤ 16 = stations_high config p c.good in
+      let low : least (is_free p h t) (stations_of config p) < stations_of config p = is.1 in
+      let ended = ltb-true _ _ (sym (c.shown.stations p t (least (is_free p h t) (stations_of config p)) (omega arith)
+      (omega arith)) ∙ is.0.0) in
+      let held = first.none (least (is_free p h t) (stations_of config p)) t low l m in
+      omega arith)
+
+  has_issue : (pool : Option PoolId) (from issue : ℕ) (station : Option ℕ) → last_issue h ≤ from → 0 < from
+      → TakesStation config taken pool from issue station → HasIssue config h pool from issue station
+  has_issue None from issue station late pos takes =
+      record { first = rw takes.0 (first_here (λ t. true) from refl); takes = takes.1 }
+  has_issue (Some p) from issue station late pos takes =
+      let first : IsFreeFirst taken p (stations_of config p) from issue takes.0 = takes.2 in
+      let begun : from ≤ issue = first.begun in
+      let high : stations_of config p ≤ 16 = stations_high config p c.good in
+      let there : takes.0 < stations_of config p = first.there in
+      record {
+        first = (
+          and_from (nat_le from issue) _ (le-leb from issue begun) (some_left p from issue takes.0 late pos first),
+          λ t l. elim (cases_Bool (nat_le from t)) [
+            | inl e ↦ rw e (none_left p from issue takes.0 t pos first (leb-true from t e) l)
+            | inr e ↦ rw e refl
+          ],
+        );
+        takes = (
+          takes.0,
+          takes.1,
+          (
+            c.shown.stations p issue takes.0 (omega arith) (omega arith)
+                ∙ lt-ltb (end_at taken p takes.0) issue first.free,
+            λ k l. c.shown.stations p issue k (omega arith) (omega arith)
+                ∙ le-ltb (end_at taken p k) issue (first.least k l),
+          ),
+        );
+      }
+
+  -- how the operation that comes next runs, if it is one
+  abbrev pub Runs : Option UnitId → Type 0
+  Runs unit = MatchOption unit (IsIdle next)
+      (RunsOn config table accesses (facts_of s) (end_in latest.ends (register_of (j_of s)))
+      (end_in latest.ends (register_of (k_of s))) next)
+
+  pub has_marks : (u : UnitId) → Runs (Some u) → last_issue h ≤ next.at.issue → HasMarks h s next
+  has_marks u run late =
+      let j = source_agree h latest.ends (j_of s) c.shown.kept.ends c.j in
+      let k = source_agree h latest.ends (k_of s) c.shown.kept.ends c.k in
+      let ready : next.marks.ready
+      ≡ ready_from next.at.issue next.at.address (source_end h (j_of s)) (source_end h (k_of s)) =
+      rw (j, k) at run.ready in
+      let clear : (t : ℕ) → nat_le next.marks.clear t ≡ (nat_le next.marks.ready t && are_conflicts_finished h s t) =
+      λ t. run.clear t ∙ elim (cases_Bool (nat_le next.marks.ready t)) [
+        | inl e ↦ let l : next.marks.ready ≤ t = leb-true next.marks.ready t e in
+            rw (e, c.shown.conflicts s t (omega arith)) refl
+        | inr e ↦ rw e refl
+      ] in
+      record {
+        operands = rw (j, k) at run.operands;
+        ready = ready;
+        clear = clear;
+        order = leb-true next.marks.ready next.marks.clear (and_parts (nat_le next.marks.ready next.marks.clear)
+            (are_conflicts_finished h s next.marks.clear)
+            (sym (clear next.marks.clear) ∙ le-leb next.marks.clear next.marks.clear (omega arith))).0;
+        late = omega arith;
+      }
+
+  start_timed : (u : UnitId) → Runs (Some u) → HasMarks h s next
+      → IsLeast (can_start config h s u next.at.issue (cycle_of next.at.address)) next.at.start
+  start_timed u run marks =
+      least_agree (λ t. nat_le next.marks.clear t && is_left table (place_of_unit u) (option_of config u).units t)
+      (can_start config h s u next.at.issue (cycle_of next.at.address)) next.at.start
+      (λ t. let split : nat_le next.marks.ready t
+      ≡ ((nat_lt next.at.issue t && nat_lt (cycle_of next.at.address) t) && has_operands h s t) =
+      rw marks.ready
+      (ready_split next.at.issue (cycle_of next.at.address) (source_end h (j_of s)) (source_end h (k_of s)) t) in
+      rw (marks.clear t, ← split) (elim (cases_Bool (nat_le next.marks.ready t)) [
+        | inl e ↦ let l : next.marks.ready ≤ t = leb-true next.marks.ready t e in
+            rw (e, c.shown.starts u t (omega (arith, marks.late))) refl
+        | inr e ↦ rw e refl
+      ])) run.start
+
+  end_timed : (dest : Option ℕ) (finish end buses : ℕ) → last_issue h ≤ finish
+      → TakesBus config table dest finish end buses
+      → MatchBool (is_some dest) (IsLeast (can_end config h finish) end) (end ≡ finish)
+  end_timed None finish end buses late takes = takes.0
+  end_timed (Some r) finish end buses late takes =
+      least_agree (λ t. nat_le (finish + 1) t && is_left table bus_line config.buses t) (can_end config h finish) end
+      (λ t. rw (after_split finish t) (elim (cases_Bool (nat_lt finish t)) [
+        | inl e ↦ let l : finish < t = ltb-true finish t e in rw (e, c.shown.results t (omega arith)) refl
+        | inr e ↦ rw e refl
+      ])) takes.0
+
+  -- it starts no earlier than its marks
+  pub start_marked : (u : UnitId) → Runs (Some u) → next.marks.clear ≤ next.at.start
+  start_marked u run =
+      first_from_le (is_left table (place_of_unit u) (option_of config u).units) next.marks.clear next.at.start
+      run.start
+
+  has_run : (unit : Option UnitId) → Runs unit → last_issue h ≤ next.at.issue → HasRun config h s unit next
+  has_run None run late = record { start = run.start; finish = run.finish; end = run.end }
+  has_run (Some u) run late =
+      let marks : HasMarks h s next = has_marks u run late in
+      let begun : next.marks.clear ≤ next.at.start = start_marked u run in
+      let long : 0 < (option_of config u).latency = latency_low config u c.good in
+      let finish : next.at.finish ≡ next.at.start + (option_of config u).latency - 1 = run.finish in
+      record {
+        start = start_timed u run marks;
+        finish = run.finish;
+        end = end_timed (step_dest s) next.at.finish next.at.end next.buses (omega arith) run.end;
+      }
+
+  pub from_is : next.marks.from ≡ from_of config h
+  from_is = rw (c.shown.kept.issue, c.shown.kept.issued, c.shown.kept.branch) at c.by.from
+
+  pub next_timed : IsTimed config h s next.at
+  next_timed =
+      let from : next.marks.from ≡ from_of config h = from_is in
+      let slot : last_issue h ≤ slot_from config h = (slot_range config h).0 in
+      let issue : HasIssue config h (step_pool s) next.marks.from next.at.issue next.at.station =
+      has_issue (step_pool s) next.marks.from next.at.issue next.at.station (omega arith) (omega arith) c.by.issue in
+      let first : IsLeast (can_issue config h s) next.at.issue =
+      least_agree (λ t. nat_le next.marks.from t && has_station config h (step_pool s) t) (can_issue config h s)
+      next.at.issue (λ t. rw (from, issue_split config h t c.good c.timed) refl) issue.first in
+      let late : last_issue h ≤ next.at.issue = issue_after config h s next.at.issue first.0 in
+      let run : HasRun config h s (step_unit s) next = has_run (step_unit s) c.by.run late in
+      record {
+        issue = first;
+        address = address_part (is_memory s) h s next.at.issue next.at.address
+            (rw (source_agree h latest.ends (j_of s) c.shown.kept.ends c.j, c.shown.kept.address) at c.by.address);
+        start = run.start;
+        finish = run.finish;
+        end = run.end;
+        station = issue.takes;
+      }
