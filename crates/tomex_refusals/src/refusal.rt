@@ -19,12 +19,13 @@ pub enum Refusal {
 
 impl Refusal {
     /// All of them, in the order in which they are looked for: what has a name in it first.
-    pub const ALL: [Refusal; 35] = [
+    pub const ALL: [Refusal; 36] = [
         Refusal::Command(CommandRefusal::CannotRead),
         Refusal::Command(CommandRefusal::BadWindow),
         Refusal::Command(CommandRefusal::TooLong),
         Refusal::Command(CommandRefusal::NoSuchRow),
         Refusal::Command(CommandRefusal::NoSuchProgram),
+        Refusal::Command(CommandRefusal::NoSymbols),
         Refusal::Command(CommandRefusal::NoSuchStep),
         Refusal::Command(CommandRefusal::PictureTooLarge),
         Refusal::Command(CommandRefusal::TableTooLarge),
