@@ -16,6 +16,12 @@ pub three_joined : {X : Type 0} (s0 s1 s2 s3 a b c : List X) → s1 ≡ s0 ++ a 
     → s3 ≡ s0 ++ (a ++ (b ++ c))
 three_joined s0 s1 s2 s3 a b c e1 e2 e3 = joined s0 s1 s3 a (b ++ c) e1 (joined s1 s2 s3 b c e2 e3)
 
+-- and four
+pub four_joined : {X : Type 0} (s0 s1 s2 s3 s4 a b c d : List X) → s1 ≡ s0 ++ a → s2 ≡ s1 ++ b → s3 ≡ s2 ++ c
+    → s4 ≡ s3 ++ d → s4 ≡ s0 ++ (a ++ (b ++ (c ++ d)))
+four_joined s0 s1 s2 s3 s4 a b c d e1 e2 e3 e4 =
+    joined s0 s1 s4 a (b ++ (c ++ d)) e1 (three_joined s1 s2 s3 s4 b c d e2 e3 e4)
+
 -- of a list's records, one more
 pub one_put : {X : Type 0} (f : X → List ℕ) (x : X) (left rest : List X) (before after whole : List ℕ)
     → left ≡ x ∷ rest → before ++ flat_map f left ≡ whole → after ≡ before ++ f x → after ++ flat_map f rest ≡ whole

@@ -17,7 +17,8 @@ pub const PRODUCT_STALLS: &str = "part,count,peak,stalls\n\
     alu,1,1,2\nmul,1,1,0\ndiv,1,0,0\nload,1,0,0\nstore,1,0,0\nbru,1,0,0\n\
     alu_units,1,1,0\nmul_units,1,1,0\ndiv_units,1,0,0\nmem_units,1,0,0\nbru_units,1,0,0\n\
     buses,1,1,0\nwidth,1,1,3\n\
-    branch,-,-,0\noperand,-,-,1\naddress,-,-,0\nmemory,-,-,0\ndrain,-,-,4\ntotal,-,-,10\n";
+    branch,-,-,0\noperand,-,-,1\naddress,-,-,0\nmemory,-,-,0\ndrain,-,-,4\ntotal,-,-,10\n\
+    floor,1,-,8\nfloor,2,-,7\nfloor,3,-,7\nfloor,4,-,7\n";
 
 /// And by place.
 pub const PRODUCT_STALLS_BY_PC: &str =
