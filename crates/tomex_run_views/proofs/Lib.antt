@@ -1,5 +1,5 @@
 pub mod Written
-pub mod Sums
+pub mod SumsOfPlaces
 pub mod Tallies
 pub mod Reports
 pub mod Excerpts

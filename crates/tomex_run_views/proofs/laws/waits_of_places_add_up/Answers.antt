@@ -1,6 +1,6 @@
 -- The places of visits list each address of them once.
 use Rattle.std.proofs.Common.{◌∙◌, sym}
-use Rattle.tomex_run_views.proofs.Sums.{by_places, ones, ones_in_all}
+use Rattle.tomex_run_views.proofs.SumsOfPlaces.{by_places, ones, ones_in_all}
 use Rattle.tomex_run_views.proofs.laws.waits_of_places_add_up.Goals as goal
 
 pub returns-clause-steps : goal.returns-clause-steps

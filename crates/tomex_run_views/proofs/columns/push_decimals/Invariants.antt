@@ -2,7 +2,7 @@
 use Rattle.std.proofs.Common.{◌≡◌, ◌++◌, [], take, map}
 use Rattle.std.specs.Fmt.{decimal}
 use Rattle.csv.specs.Records.{fields_of, partial_of}
-use Rattle.tomex_run_views.proofs.by_place.push_decimals.Given as goal
+use Rattle.tomex_run_views.proofs.columns.push_decimals.Given as goal
 
 abbrev pub invariant-loop-number : goal.invariant-loop-number
 invariant-loop-number l = record {
