@@ -12,7 +12,8 @@ use Rattle.std.proofs.Math.Bool.{or-true}
 use Rattle.std.proofs.lemmas.Cmp.{nat_cmp_total, tied_itself}
 use Rattle.std.proofs.lemmas.List.Sums.{sum_by-cons}
 use Rattle.std.proofs.lemmas.Map.Keys.{sorted_head, sorted_tail}
-use Rattle.tomex_run_views.specs.ByPlace.{Visit, visits_at}
+use Rattle.tomex_steps.specs.declared.step.Step.{Step}
+use Rattle.tomex_run_views.specs.ByPlace.{Visit, visits_of}
 
 apart : (k y : ℕ) → nat_cmp k y ≡ Less → (k == y) ≡ false
 apart k y less = ne_eqb k y (λ e. let bad : Less ≡ Equal = sym (subst (λ z. nat_cmp k z ≡ Less) (sym e) less)
@@ -26,28 +27,28 @@ eqb_itself n = go (eqb_tells n n)
     go (inr other) = absurd (other.1 refl)
 
 -- one visit more is one term more where it stands
-one_more : (f : Visit → ℕ) (v : Visit) (vs : List Visit) (pc : ℕ)
-    → sum_by f (visits_at pc (v ∷ vs)) ≡ cond (v.0.pc == pc) (f v) 0 + sum_by f (visits_at pc vs)
-one_more f v vs pc = go (v.0.pc == pc) refl
+one_more : (key : Step → ℕ) (f : Visit → ℕ) (v : Visit) (vs : List Visit) (pc : ℕ)
+    → sum_by f (visits_of key pc (v ∷ vs)) ≡ cond (key v.step == pc) (f v) 0 + sum_by f (visits_of key pc vs)
+one_more key f v vs pc = go (key v.step == pc) refl
   where
-    go : (b : Bool) → (v.0.pc == pc) ≡ b → sum_by f (visits_at pc (v ∷ vs)) ≡ cond b (f v) 0
-        + sum_by f (visits_at pc vs)
-    go true e = rw e (sum_by-cons f v (visits_at pc vs))
+    go : (b : Bool) → (key v.step == pc) ≡ b → sum_by f (visits_of key pc (v ∷ vs)) ≡ cond b (f v) 0
+        + sum_by f (visits_of key pc vs)
+    go true e = rw e (sum_by-cons f v (visits_of key pc vs))
     go false e = rw e (omega arith)
 
 -- and so it is of all places together
-one_more_in_all : (f : Visit → ℕ) (v : Visit) (vs : List Visit) (pcs : List ℕ)
-    → sum_by (λ pc. sum_by f (visits_at pc (v ∷ vs))) pcs
-    ≡ sum_by (λ pc. cond (v.0.pc == pc) (f v) 0) pcs + sum_by (λ pc. sum_by f (visits_at pc vs)) pcs
-one_more_in_all f v vs [] = refl
-one_more_in_all f v vs (pc ∷ pcs) =
+one_more_in_all : (key : Step → ℕ) (f : Visit → ℕ) (v : Visit) (vs : List Visit) (pcs : List ℕ)
+    → sum_by (λ pc. sum_by f (visits_of key pc (v ∷ vs))) pcs
+    ≡ sum_by (λ pc. cond (key v.step == pc) (f v) 0) pcs + sum_by (λ pc. sum_by f (visits_of key pc vs)) pcs
+one_more_in_all key f v vs [] = refl
+one_more_in_all key f v vs (pc ∷ pcs) =
     omega (
       arith,
-      one_more f v vs pc,
-      one_more_in_all f v vs pcs,
-      sum_by-cons (λ pc. sum_by f (visits_at pc (v ∷ vs))) pc pcs,
-      sum_by-cons (λ pc. cond (v.0.pc == pc) (f v) 0) pc pcs,
-      sum_by-cons (λ pc. sum_by f (visits_at pc vs)) pc pcs,
+      one_more key f v vs pc,
+      one_more_in_all key f v vs pcs,
+      sum_by-cons (λ pc. sum_by f (visits_of key pc (v ∷ vs))) pc pcs,
+      sum_by-cons (λ pc. cond (key v.step == pc) (f v) 0) pc pcs,
+      sum_by-cons (λ pc. sum_by f (visits_of key pc vs)) pc pcs,
     )
 
 -- a term at an address below all is nowhere
@@ -76,31 +77,31 @@ once n k (pc ∷ pcs) rising there =
         rw (later (rw other.0 at there), ne_eqb k pc (λ e. other.1 (sym e))) (omega arith)
 
 -- so a sum over all visits is that over all places
-pub by_places : (f : Visit → ℕ) (visits : List Visit) (pcs : List ℕ) → IsStrictlySortedBy nat_cmp pcs
-    → ((pc : ℕ) → list_any (λ v. v.0.pc == pc) visits ≡ true → list_any (λ p. p == pc) pcs ≡ true)
-    → sum_by (λ pc. sum_by f (visits_at pc visits)) pcs ≡ sum_by f visits
-by_places f [] pcs rising there = nothing pcs
+pub by_keys : (key : Step → ℕ) (f : Visit → ℕ) (visits : List Visit) (pcs : List ℕ) → IsStrictlySortedBy nat_cmp pcs
+    → ((pc : ℕ) → list_any (λ v. key v.step == pc) visits ≡ true → list_any (λ p. p == pc) pcs ≡ true)
+    → sum_by (λ pc. sum_by f (visits_of key pc visits)) pcs ≡ sum_by f visits
+by_keys key f [] pcs rising there = nothing pcs
   where
     nothing : (pcs : List ℕ) → sum_by (λ pc. 0) pcs ≡ 0
     nothing [] = refl
     nothing (pc ∷ pcs) = rw (sum_by-cons (λ pc. 0) pc pcs, nothing pcs) refl
-by_places f (v ∷ vs) pcs rising there =
-    let own = once (f v) v.0.pc pcs rising (there v.0.pc (rw (eqb_itself v.0.pc) refl)) in
-    let others = by_places f vs pcs rising (λ pc in_rest. there pc (rw in_rest (or-true _))) in
-    omega (arith, one_more_in_all f v vs pcs, own, others, sum_by-cons f v vs)
+by_keys key f (v ∷ vs) pcs rising there =
+    let own = once (f v) (key v.step) pcs rising (there (key v.step) (rw (eqb_itself (key v.step)) refl)) in
+    let others = by_keys key f vs pcs rising (λ pc in_rest. there pc (rw in_rest (or-true _))) in
+    omega (arith, one_more_in_all key f v vs pcs, own, others, sum_by-cons f v vs)
 
 -- as many as there are is one for each
 pub ones : {X : Type 0} (xs : List X) → length xs ≡ sum_by (λ x. 1) xs
 ones [] = refl
 ones (x ∷ xs) = omega (arith, ones xs, sum_by-cons (λ x. 1) x xs)
 
-pub ones_in_all : (visits : List Visit) (pcs : List ℕ)
-    → sum_by (λ pc. length (visits_at pc visits)) pcs ≡ sum_by (λ pc. sum_by (λ v. 1) (visits_at pc visits)) pcs
-ones_in_all visits [] = refl
-ones_in_all visits (pc ∷ pcs) = omega (
+pub ones_in_all : (key : Step → ℕ) (visits : List Visit) (pcs : List ℕ)
+    → sum_by (λ pc. length (visits_of key pc visits)) pcs ≡ sum_by (λ pc. sum_by (λ v. 1) (visits_of key pc visits)) pcs
+ones_in_all key visits [] = refl
+ones_in_all key visits (pc ∷ pcs) = omega (
   arith,
-  ones (visits_at pc visits),
-  ones_in_all visits pcs,
-  sum_by-cons (λ pc. length (visits_at pc visits)) pc pcs,
-  sum_by-cons (λ pc. sum_by (λ v. 1) (visits_at pc visits)) pc pcs,
+  ones (visits_of key pc visits),
+  ones_in_all key visits pcs,
+  sum_by-cons (λ pc. length (visits_of key pc visits)) pc pcs,
+  sum_by-cons (λ pc. sum_by (λ v. 1) (visits_of key pc visits)) pc pcs,
 )

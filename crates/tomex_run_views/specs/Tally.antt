@@ -1,5 +1,5 @@
 -- What is kept of the steps with each key while they are counted.
-use Rattle.std.specs.Prelude.{◌≡◌, ℕ, ◌+◌, List, [], ◌∷◌, ◌++◌, Option, Some, None, codes, length}
+use Rattle.std.specs.Prelude.{◌≡◌, ℕ, zero, suc, ◌+◌, List, [], ◌∷◌, ◌++◌, Option, Some, None, codes, length}
 use Rattle.std.specs.List.{flat_map}
 use Rattle.std.specs.BTreeMap.{get, values}
 use Rattle.std.specs.Ordering.{nat_cmp}
@@ -21,6 +21,11 @@ use Rattle.tomex_run_views.specs.ByPlace.{Visit, cycles_of, sum_columns, sum_fie
 -- first step issues so long after cycle 1, and one more after cycle 0.
 abbrev pub cycles_by : ℕ → Waits → ℕ
 cycles_by first waits = waits.branch + waits.width + waits.station + first
+
+-- the cycle more that the first step takes
+abbrev pub more_at : ℕ → ℕ
+more_at zero = 1
+more_at (suc index) = 0
 
 -- the visits of steps with these waits, the first of which takes so many cycles more
 abbrev pub visits_by : ℕ → List Step → List Waits → List Visit
@@ -75,7 +80,7 @@ abbrev pub with_drain : ℕ → Sum → Sum
 with_drain drain sum = record sum { cycles = sum.cycles + drain }
 
 abbrev pub only_drain : ℕ → Sum
-only_drain drain = with_drain drain no_sum
+only_drain drain = record no_sum { cycles = drain }
 
 -- the fields of an address
 abbrev pub place_fields : Group → List (List ℕ)

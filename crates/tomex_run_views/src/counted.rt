@@ -1,6 +1,6 @@
 //! The steps of a run on a configuration, counted.
 
-ghost use Rattle.std.specs.Prelude.{◌≡◌, ◌≤◌, ◌^◌, ℕ, IfOk, length, map};
+ghost use Rattle.std.specs.Prelude.{◌≡◌, ◌≤◌, ◌^◌, ◌*◌, ℕ, IfOk, length, map};
 ghost use Rattle.tomex_steps.specs.declared.step.Step.{Step};
 ghost use Rattle.tomex_run_views.specs.Tally.{IsCounted, only_drain, with_drain};
 
@@ -21,10 +21,11 @@ pub struct Counted<A: Allocator> {
 impl<A: Allocator> Counted<A> {
     /// What the record of the drain has.
     pub fn only_drain(&self) -> Sum
-        requires { self.now.drain ≤ 2 ^ 62 }
         ensures { result ≡ only_drain self.now.drain }
     {
-        Sum::none().with_drain(self.drain)
+        let mut sum = Sum::none();
+        sum.cycles = self.drain;
+        sum
     }
 
     /// What the record of the run has: all its steps, and the drain.
@@ -45,12 +46,13 @@ pub fn count_run<A: Allocator + Clone>(
     keys: &[u64],
 ) -> Result<Counted<A>, AllocError>
     requires few { length steps.now ≤ 262144 }
-    requires keys { length keys.now ≡ length steps.now }
+    requires keys { (key : Step → ℕ) × (keys.now ≡ map key steps.now) }
     ensures counted { IfOk result (λ c. (key : Step → ℕ) → keys.now ≡ map key steps.now
         → IsCounted key config.now steps.now c) }
     ensures drain { IfOk result (λ c. c.drain ≤ 2 ^ 62) }
     ensures cycles { IfOk result (λ c. c.tally.all.cycles ≤ 2 ^ 62) }
 {
+    config.keeps_limits();
     let waits = waits(alloc.clone()?, steps, config)?;
     let drain = drain_of(config, steps, waits.as_slice());
     let tally = count_by_key(alloc, keys, steps, waits.as_slice())?;

@@ -35,6 +35,7 @@ pub fn drain_of(config: &Config, steps: &[Step], waits: &[Waits]) -> u64
     ensures value { result ≡ drain (history config.now steps.now) }
     ensures bound { result ≤ 2 ^ 62 }
 {
+    config.keeps_limits();
     let mut issue = 0;
     let mut end = 0;
     for (index, step) in steps.iter().enumerate() {

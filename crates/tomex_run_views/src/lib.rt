@@ -21,7 +21,7 @@ pub use columns::{push_sum, put_columns, put_sum};
 pub use counted::{Counted, count_run};
 pub use excerpt::Excerpt;
 pub use excerpt_error::ExcerptError;
-pub use laws::waits_of_places_add_up;
+pub use laws::{cycles_are_accounted_for, places_add_up};
 pub use picture_error::PictureError;
 pub use pipeline::{first_issue, picture_of, pipeline_text, push_picture, signs_of};
 pub use stage::{Stage, stage_in};

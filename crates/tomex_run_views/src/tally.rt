@@ -1,9 +1,9 @@
 //! The steps of each key, such as an address, counted with their cycles and waits.
 
-ghost use Rattle.std.specs.Prelude.{◌≡◌, ◌+◌, ◌*◌, ◌^◌, ◌<◌, ◌≤◌, ◌==◌, ℕ, if◌then◌else◌, IfOk, All, length, map};
+ghost use Rattle.std.specs.Prelude.{◌≡◌, ◌+◌, ◌*◌, ◌^◌, ◌<◌, ◌≤◌, ℕ, IfOk, All, length, map};
 ghost use Rattle.tomex_steps.specs.declared.step.Step.{Step};
 ghost use Rattle.tomex_timing.specs.Waiting.{AreWithin};
-ghost use Rattle.tomex_run_views.specs.Tally.{IsTally, cycles_by, no_sum, only_drain, sum_after, visits_by, with_drain};
+ghost use Rattle.tomex_run_views.specs.Tally.{IsTally, cycles_by, more_at, no_sum, sum_after, visits_by, with_drain};
 
 use std::alloc::{AllocError, Allocator};
 use std::collections::BTreeMap;
@@ -35,8 +35,9 @@ pub struct Tally<A: Allocator> {
 
 /// How many cycles a step issues after the one before it, or after cycle 0.
 pub fn cycles_of(index: usize, waits: &Waits) -> u64
-    requires { AreWithin (2 ^ 60) waits.now }
-    ensures { result ≡ cycles_by (if index == 0 then 1 else 0) waits.now }
+    requires { AreWithin (2 ^ 35) waits.now }
+    ensures value { result ≡ cycles_by (more_at index) waits.now }
+    ensures bound { result ≤ 2 ^ 37 }
 {
     waits.branch + waits.width + waits.station + u64::from(index == 0)
 }
@@ -127,11 +128,12 @@ pub fn count_by_key<A: Allocator + Clone>(
     waits: &[Waits],
 ) -> Result<Tally<A>, AllocError>
     requires few { length steps.now ≤ 262144 }
-    requires keys { length keys.now ≡ length steps.now }
+    requires keys { (key : Step → ℕ) × (keys.now ≡ map key steps.now) }
     requires pairs { length waits.now ≡ length steps.now }
     requires waits { All (AreWithin (2 ^ 35)) waits.now }
-    ensures { IfOk result (λ tally. (key : Step → ℕ) → keys.now ≡ map key steps.now
+    ensures counted { IfOk result (λ tally. (key : Step → ℕ) → keys.now ≡ map key steps.now
         → IsTally key (visits_by 1 steps.now waits.now) tally) }
+    ensures bound { IfOk result (λ tally. tally.all.cycles ≤ 2 ^ 62) }
 {
     let mut groups = BTreeMap::new(alloc);
     let mut all = Sum::none();
