@@ -49,7 +49,7 @@ module _ {A : Type 0} (symbols : List Symbol) (steps : List Step) (index : Index
   found i l e = (
     rw (is.functions, length-map _ _) l,
     ap (λ (fs : List (Option Symbol)). get_or fs i None) is.functions
-    ∙ (get_or-map (function_at symbols) index.addresses.items i 0 None l ∙ ap (function_at symbols) e),
+        ∙ (get_or-map (function_at symbols) index.addresses.items i 0 None l ∙ ap (function_at symbols) e),
   )
 
   missed : (i : ℕ) → ((k : ℕ) → k < i → get_or index.addresses.items k 0 < pc)

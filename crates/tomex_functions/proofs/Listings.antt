@@ -85,9 +85,12 @@ rows_are symbols calls visits tally made sorted is ordered are moved order =
     are ∙ (sym (flat_map_single (row_of_group symbols calls) (values tally.groups))
     ∙ shown_are (function_key symbols) visits tally is ordered (λ group. row_of_group symbols calls group ∷ [])
     (rows_of_visits symbols calls) tally.groups.entries
-    (entry_is (function_key symbols) visits tally is ordered) (row_is symbols calls)) in
-    (keys tally.groups, are_keys (function_key symbols) visits tally is ordered,
-    subst (λ (rs : List Row). IsPermutation rs sorted) rows moved, order)
+    (entry_is (function_key symbols) visits tally is ordered) (row_is symbols calls)) in (
+      keys tally.groups,
+      are_keys (function_key symbols) visits tally is ordered,
+      subst (λ (rs : List Row). IsPermutation rs sorted) rows moved,
+      order,
+    )
 
 -- of the groups to come, the first one, and the rest
 pub first_of : (P : Group → Type 0) (x : Group) (left rest : List Group) → left ≡ x ∷ rest → All P left → P x
@@ -99,9 +102,9 @@ pub rows_next : (f : Group → Row) (P : Group → Type 0) (x : Group) (left res
 rows_next f P x left rest old new whole row is all so_far own grown = (
   All-tail P x rest (subst (λ (xs : List Group). All P xs) is all),
   ap (λ (rs : List Row). rs ++ map f rest) grown
-  ∙ (append_assoc old (row ∷ []) (map f rest)
-  ∙ (ap (λ (r : Row). old ++ r ∷ map f rest) own
-  ∙ (ap (λ (xs : List Group). old ++ map f xs) (sym is) ∙ so_far))),
+      ∙ (append_assoc old (row ∷ []) (map f rest)
+      ∙ (ap (λ (r : Row). old ++ r ∷ map f rest) own
+      ∙ (ap (λ (xs : List Group). old ++ map f xs) (sym is) ∙ so_far))),
 )
 
 -- the keys of a run's functions

@@ -33,14 +33,17 @@ by_symbols : {A : Type 0} (file : List ℕ) (config : Configuration) (steps : Li
     (text : List ℕ) → IsListing (symbols_of file) config steps listing → text ≡ report_of_listing file listing
     → IsReportByFunction file config steps text
 by_symbols file config steps listing text is written =
-    let rows = flat_map (λ row. record_text (row_fields file row)) listing.rows.items in
-    (listing.rows.items, is.rows, written
-    ∙ (ap (λ (n : ℕ). record_text (codes "pc" ∷ codes "function" ∷ codes "calls" ∷ sum_columns) ++ (rows
-    ++ (record_text (codes "drain" ∷ codes "-" ∷ codes "0" ∷ fields_of_sum listing.drain)
-    ++ record_text (codes "total" ∷ codes "-" ∷ decimal n ∷ fields_of_sum listing.total)))) is.calls
-    ∙ ap₂ (λ (d t : Sum). record_text (codes "pc" ∷ codes "function" ∷ codes "calls" ∷ sum_columns) ++ (rows
-    ++ (record_text (codes "drain" ∷ codes "-" ∷ codes "0" ∷ fields_of_sum d)
-    ++ record_text (codes "total" ∷ codes "-" ∷ decimal (length (calls_in (symbols_of file) steps)) ∷ fields_of_sum t)))) is.last is.all))
+    let rows = flat_map (λ row. record_text (row_fields file row)) listing.rows.items in (
+      listing.rows.items,
+      is.rows,
+      written
+          ∙ (ap (λ (n : ℕ). record_text (codes "pc" ∷ codes "function" ∷ codes "calls" ∷ sum_columns) ++ (rows
+          ++ (record_text (codes "drain" ∷ codes "-" ∷ codes "0" ∷ fields_of_sum listing.drain)
+          ++ record_text (codes "total" ∷ codes "-" ∷ decimal n ∷ fields_of_sum listing.total)))) is.calls
+          ∙ ap₂ (λ (d t : Sum). record_text (codes "pc" ∷ codes "function" ∷ codes "calls" ∷ sum_columns) ++ (rows
+          ++ (record_text (codes "drain" ∷ codes "-" ∷ codes "0" ∷ fields_of_sum d)
+          ++ record_text (codes "total" ∷ codes "-" ∷ decimal (length (calls_in (symbols_of file) steps)) ∷ fields_of_sum t)))) is.last is.all),
+    )
 
 pub report_by_function : {A : Type 0} (file : List ℕ) (symbols : List Symbol) (config : Configuration)
     (made steps : List Step) (listing : Listing A) (text : List ℕ) → symbols ≡ symbols_of file → made ≡ steps
@@ -65,11 +68,14 @@ by_place file config steps counted text is ordered written =
     let symbols = symbols_of file in
     let places = shown_are pc_of (visits_in config steps) counted.tally is.tally ordered
     (λ place. record_text (place_fields file symbols place)) (place_record file symbols) counted.tally.groups.entries
-    (entry_is pc_of (visits_in config steps) counted.tally is.tally ordered) (record_is file symbols) in
-    (keys counted.tally.groups, are_keys pc_of (visits_in config steps) counted.tally is.tally ordered, written
-    ∙ ap₂ (λ (a b : List ℕ). record_text (codes "pc" ∷ codes "instr" ∷ codes "function" ∷ sum_columns) ++ (a ++ b)) places
-    (ap₂ (λ (n : ℕ) (s : Sum). record_text (codes "drain" ∷ codes "-" ∷ codes "-" ∷ fields_of_sum (only_drain n))
-    ++ record_text (codes "total" ∷ codes "-" ∷ codes "-" ∷ fields_of_sum (with_drain n s))) is.drain is.tally.all))
+    (entry_is pc_of (visits_in config steps) counted.tally is.tally ordered) (record_is file symbols) in (
+      keys counted.tally.groups,
+      are_keys pc_of (visits_in config steps) counted.tally is.tally ordered,
+      written
+          ∙ ap₂ (λ (a b : List ℕ). record_text (codes "pc" ∷ codes "instr" ∷ codes "function" ∷ sum_columns) ++ (a ++ b)) places
+          (ap₂ (λ (n : ℕ) (s : Sum). record_text (codes "drain" ∷ codes "-" ∷ codes "-" ∷ fields_of_sum (only_drain n))
+          ++ record_text (codes "total" ∷ codes "-" ∷ codes "-" ∷ fields_of_sum (with_drain n s))) is.drain is.tally.all),
+    )
 
 pub report_by_place : {A : Type 0} (file : List ℕ) (symbols : List Symbol) (config : Configuration)
     (made steps : List Step) (counted : Counted A) (text : List ℕ) → symbols ≡ symbols_of file → made ≡ steps

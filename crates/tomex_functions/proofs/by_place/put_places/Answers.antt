@@ -1,5 +1,5 @@
 -- The record of one address more.
-use Rattle.std.proofs.Common.{◌≡◌, ap, refl, rules, Option}
+use Rattle.std.proofs.Common.{◌≡◌, [], ap, refl, rules, Option}
 use Rattle.std.specs.BTreeMap.{values}
 use Rattle.tomex_csv_text.specs.Csv.{record_text}
 use Rattle.tomex_symbols.specs.declared.symbol.Symbol.{Symbol}
@@ -36,5 +36,6 @@ loop-place-preserved g c = record {
 
 pub returns-clause-text : goal.returns-clause-text
 returns-clause-text g c = λ symbols steps is have.
-    places_done (λ place. record_text (place_fields c.args.file.now symbols place)) _ _ _ c.in-None.ensures.steps
+    let none : c.loop-place.place-iterator ≡ [] = c.in-None.ensures.steps.0 in
+    places_done (λ place. record_text (place_fields c.args.file.now symbols place)) _ _ _ none
     (c.loop-place.invariant.text symbols steps is have).1

@@ -12,7 +12,7 @@ pub count_run-requires-clause-keys : goal.count_run-requires-clause-keys
 count_run-requires-clause-keys g c = (
   function_key c.args.symbols.items,
   keys_are c.args.symbols.items c.args.steps.now _ _ _ (c.in_ok-functions.ensures c.args.symbols.items c.in_ok-index.ensures)
-  c.as_slice.ensures.value (c.as_slice-3.ensures.value ∙ c.in_ok-keys.ensures),
+      c.as_slice.ensures.value (c.as_slice-3.ensures.value ∙ c.in_ok-keys.ensures),
 )
 
 pub returns : goal.returns
