@@ -5,3 +5,4 @@ pub mod CallTurns
 pub mod RowsOrder
 pub mod Listings
 pub mod Texts
+pub mod RowSums
