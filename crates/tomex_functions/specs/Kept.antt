@@ -1,10 +1,11 @@
 -- What is kept of a run's functions while its steps are counted.
-use Rattle.std.specs.Prelude.{◌≡◌, ℕ, zero, suc, ◌<◌, ◌×◌, List, [], ◌∷◌, ◌++◌, Option, Some, None, All, codes, length, map}
+use Rattle.std.specs.Prelude.{◌≡◌, ℕ, zero, suc, ◌<◌, List, [], ◌∷◌, ◌++◌, Option, Some, None, All, codes, length, map}
 use Rattle.std.specs.Prelude.{slice_index_or, IsPermutation, unwrap_or}
 use Rattle.std.specs.List.{flat_map}
 use Rattle.std.specs.List.Sorted.{IsNonDecreasing}
 use Rattle.std.specs.BTreeMap.{get, values}
 use Rattle.std.specs.Fmt.{decimal}
+use Rattle.std.specs.declared.cmp.Reverse.{Reverse}
 use Rattle.std.specs.Ordering.{nat_cmp}
 use Rattle.tomex_steps.specs.declared.step.Step.{Step}
 use Rattle.tomex_symbols.specs.Functions.{function_at}
@@ -36,14 +37,13 @@ pub record IsIndexOf {A : Type 0} (symbols : List Symbol) (steps : List Step) (i
 
 -- a step of the run stands at the address
 abbrev pub HasAddress : ℕ → List Step → Type 0
-HasAddress pc steps = (i : ℕ) × (i < length steps) × ((d : Step) → (slice_index_or steps i d).pc ≡ pc)
+HasAddress pc steps = (i : ℕ) × (i < length steps) × (slice_index_or (map pc_of steps) i 0 ≡ pc)
 
--- the step before the one at an index
-abbrev pub step_before : ℕ → List Step → Option Step
-step_before zero steps = None
-step_before (suc i) [] = None
-step_before (suc zero) (s ∷ steps) = Some s
-step_before (suc (suc i)) (s ∷ steps) = step_before (suc i) steps
+-- the step before the one at an index, the first one coming after a given one, if any
+abbrev pub before_at : Option Step → ℕ → List Step → Option Step
+before_at before zero steps = before
+before_at before (suc i) [] = before
+before_at before (suc i) (s ∷ steps) = before_at (Some s) i steps
 
 -- how often each function is called, by its key, and how often any is
 pub record AreCalls {A : Type 0} (symbols : List Symbol) (steps : List Step) (calls : Calls A) : Type 0 where
@@ -62,8 +62,8 @@ row_of_group symbols calls group = record {
 pub record IsListing {A : Type 0} (symbols : List Symbol) (config : Configuration) (steps : List Step)
     (listing : Listing A) : Type 0 where
   pub rows : AreRows symbols (calls_in symbols steps) (visits_in config steps) listing.rows.items
-  pub drain : listing.drain ≡ only_drain (drain (history config steps))
-  pub total : listing.total ≡ with_drain (drain (history config steps)) (sum_of (visits_in config steps))
+  pub last : listing.drain ≡ only_drain (drain (history config steps))
+  pub all : listing.total ≡ with_drain (drain (history config steps)) (sum_of (visits_in config steps))
   pub calls : listing.calls ≡ length (calls_in symbols steps)
 
 -- the fields of all steps
@@ -92,3 +92,11 @@ report_of_counted file symbols counted =
     ++ (flat_map (λ place. record_text (place_fields file symbols place)) (values counted.tally.groups)
     ++ (record_text (codes "drain" ∷ codes "-" ∷ codes "-" ∷ fields_of_sum (only_drain counted.drain))
     ++ record_text (codes "total" ∷ codes "-" ∷ codes "-" ∷ fields_of_sum (with_drain counted.drain counted.tally.all))))
+
+-- what rows are ordered by: is there no function, the cycles, the greatest first, the address, and the number
+abbrev pub key_with : ℕ → Option Symbol → ℕ × Reverse ℕ × ℕ × ℕ
+key_with cycles (Some f) = (0, record { 0 = cycles }, f.address, f.number)
+key_with cycles None = (1, record { 0 = cycles }, 0, 0)
+
+abbrev pub sort_key : Row → ℕ × Reverse ℕ × ℕ × ℕ
+sort_key row = key_with row.sum.cycles row.function

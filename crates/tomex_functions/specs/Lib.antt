@@ -5,3 +5,4 @@ pub mod Calls
 pub mod ByFunction
 pub mod ByPlace
 pub mod Kept
+pub mod Laws

@@ -6,10 +6,12 @@ mod by_place;
 mod calls;
 mod functions_error;
 mod index;
+mod laws;
 mod rows;
 mod shown_names;
 
 pub use by_function::stalls_by_function;
 pub use by_place::stalls_by_pc_and_function;
 pub use functions_error::FunctionsError;
+pub use laws::functions_add_up;
 pub use shown_names::shown_function;

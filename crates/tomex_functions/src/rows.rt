@@ -8,7 +8,7 @@ ghost use Rattle.tomex_symbols.specs.Functions.{AreNumbered};
 ghost use Rattle.tomex_symbols.specs.declared.symbol.Symbol.{Symbol};
 ghost use Rattle.tomex_functions.specs.ByFunction.{InOrder};
 ghost use Rattle.tomex_functions.specs.Calls.{calls_in};
-ghost use Rattle.tomex_functions.specs.Kept.{AreCalls, HasAddress, IsIndexOf, IsListing, row_of_group};
+ghost use Rattle.tomex_functions.specs.Kept.{AreCalls, HasAddress, IsIndexOf, IsListing, row_of_group, sort_key};
 
 use crate::calls::{Calls, count_calls};
 use crate::index::{Index, key_of, keys_of};
@@ -40,7 +40,7 @@ pub struct Listing<A: Allocator> {
 }
 
 /// The row of the steps of one function.
-fn row_of<A: Allocator>(group: &Group, index: &Index<A>, calls: &Calls<A>) -> Row
+fn row_of<A: Allocator + Clone>(group: &Group, index: &Index<A>, calls: &Calls<A>) -> Row
     ensures { (symbols : List Symbol) (steps : List Step) → IsIndexOf symbols steps index.now
         → AreCalls symbols steps calls.now → HasAddress group.now.first.pc steps
         → result ≡ row_of_group symbols (calls_in symbols steps) group.now }
@@ -48,16 +48,13 @@ fn row_of<A: Allocator>(group: &Group, index: &Index<A>, calls: &Calls<A>) -> Ro
     let function = index.function_at(group.first.pc);
     Row {
         function,
-        calls: match calls.by_key.get(&key_of(&function)) {
-            Some(count) => *count,
-            None => 0,
-        },
+        calls: calls.of(key_of(&function)),
         sum: group.sum,
     }
 }
 
 /// The rows of the functions, by their keys.
-fn rows_of<A: Allocator>(
+fn rows_of<A: Allocator + Clone>(
     alloc: A,
     tally: &Tally<A>,
     index: &Index<A>,
@@ -75,19 +72,24 @@ fn rows_of<A: Allocator>(
     Ok(rows)
 }
 
+/// What rows are ordered by: is there no function, the cycles, the greatest first, the address, and the number.
+fn sort_key(row: &Row) -> (u8, Reverse<u64>, u32, u32)
+    ensures { result ≡ sort_key row.now }
+{
+    let cycles = Reverse(row.sum.cycles);
+    match row.function {
+        Some(symbol) => (0, cycles, symbol.address, symbol.number),
+        None => (1, cycles, 0, 0),
+    }
+}
+
 /// Puts rows in the order of a report: those with the most cycles first, then by address and by number in the table, and
 /// last that of steps without a function.
 fn sort_rows<A: Allocator>(rows: &mut Vec<Row, A>)
     ensures moved { IsPermutation rows.old.items rows.new.items }
     ensures order { InOrder rows.new.items }
 {
-    rows.sort_unstable_by_key(|row| {
-        let (is_none, address, number) = match row.function {
-            Some(symbol) => (false, symbol.address, symbol.number),
-            None => (true, 0, 0),
-        };
-        (is_none, Reverse(row.sum.cycles), address, number)
-    });
+    rows.sort_unstable_by_key(|row| sort_key(row));
 }
 
 /// The functions of a run on a configuration.
