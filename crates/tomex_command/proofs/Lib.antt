@@ -3,5 +3,7 @@ mod Drawn
 mod Fronts
 mod Surveys
 mod Left
+mod Placed
 mod Reached
 mod Reading
+mod Reported

@@ -7,6 +7,8 @@ use Rattle.tomex_report.specs.declared.survey_error.SurveyError.{SurveyError}
 use Rattle.tomex_report.specs.declared.survey_error.SurveyError.TheVariants as surveys
 use Rattle.tomex_animate.specs.declared.animation_error.AnimationError.{AnimationError}
 use Rattle.tomex_animate.specs.declared.animation_error.AnimationError.TheVariants as animations
+use Rattle.tomex_functions.specs.declared.functions_error.FunctionsError.{FunctionsError}
+use Rattle.tomex_functions.specs.declared.functions_error.FunctionsError.TheVariants as functions
 use Rattle.tomex_refusals.specs.declared.explaining.ExplainError.{ExplainError}
 use Rattle.tomex_refusals.specs.declared.explaining.ExplainError.TheVariants as explanations
 use Rattle.tomex_run_views.specs.declared.excerpt_error.ExcerptError.{ExcerptError}
@@ -17,7 +19,7 @@ use Rattle.tomex_study_reader.specs.declared.error.StudyError.TheVariants as stu
 use Rattle.tomex_command.specs.declared.run.RunRefusal.TheVariants as refusals
 use Rattle.tomex_command.specs.declared.failure.Failure.{Failure}
 use Rattle.tomex_command.specs.declared.failure.Failure.TheVariants.{BadWindow, Run, Study, NoSuchRow}
-use Rattle.tomex_command.specs.declared.failure.Failure.TheVariants.{NoSuchProgram, CyclePastEnd, NoSuchStep}
+use Rattle.tomex_command.specs.declared.failure.Failure.TheVariants.{NoSuchProgram, NoSymbols, CyclePastEnd, NoSuchStep}
 use Rattle.tomex_command.specs.declared.failure.Failure.TheVariants.{PictureTooLarge, TableTooLarge, CannotRead, CannotWrite}
 use Rattle.tomex_command.specs.declared.failure.Failure.TheVariants.{NoSuchRefusal, Memory, Worker}
 
@@ -30,6 +32,7 @@ status_of_failure (Study studies.Memory) = 3
 status_of_failure (Study error) = 1
 status_of_failure NoSuchRow = 1
 status_of_failure NoSuchProgram = 1
+status_of_failure NoSymbols = 1
 status_of_failure CyclePastEnd = 1
 status_of_failure NoSuchStep = 1
 status_of_failure PictureTooLarge = 1
@@ -63,6 +66,11 @@ failure_of_picture pictures.Memory = Memory
 abbrev pub failure_of_excerpt : ExcerptError → Failure
 failure_of_excerpt excerpts.NoSuchStep = NoSuchStep
 failure_of_excerpt excerpts.Memory = Memory
+
+-- the failure if there is no report by function
+abbrev pub failure_of_functions : FunctionsError → Failure
+failure_of_functions functions.NoSymbols = NoSymbols
+failure_of_functions functions.Memory = Memory
 
 -- the failure that a refused page of a run becomes
 abbrev pub failure_of_animation : AnimationError → Failure

@@ -22,6 +22,13 @@ pub record AreSources (file : List ℕ → Told) (study : List ℕ) (bytes : Lis
   pub named : Names file study bytes names
   pub read : AreRead file names contents
 
+-- the study of a file, and the contents of the files that it names
+pub record IsStudyWith (file : List ℕ → Told) (name : List ℕ) (study : DesignSpace) (contents : List (List ℕ))
+    : Type 0 where
+  pub bytes : List ℕ
+  pub sources : AreSources file name bytes contents
+  pub stands : IsStudyOf bytes contents study
+
 -- the study of these files
 pub record IsStudyIn (file : List ℕ → Told) (name : List ℕ) (study : DesignSpace) : Type 0 where
   pub bytes : List ℕ

@@ -2,7 +2,7 @@
 use Rattle.std.specs.Prelude.{◌≡◌, ◌⊎◌, ℕ, List, ◌++◌, codes, string_bytes}
 use Rattle.tomex_command.specs.declared.failure.Failure.{Failure}
 use Rattle.tomex_command.specs.declared.failure.Failure.TheVariants.{BadWindow, Run, Study, NoSuchRow}
-use Rattle.tomex_command.specs.declared.failure.Failure.TheVariants.{NoSuchProgram, CyclePastEnd, NoSuchStep}
+use Rattle.tomex_command.specs.declared.failure.Failure.TheVariants.{NoSuchProgram, NoSymbols, CyclePastEnd, NoSuchStep}
 use Rattle.tomex_command.specs.declared.failure.Failure.TheVariants.{PictureTooLarge, TableTooLarge, CannotRead, CannotWrite}
 use Rattle.tomex_command.specs.declared.failure.Failure.TheVariants.{NoSuchRefusal, Memory, Worker}
 use Rattle.tomex_arguments.specs.declared.fault.LineFault.{LineFault}
@@ -19,6 +19,7 @@ IsTextOf (Run refusal) text = Unit {0}
 IsTextOf (Study error) text = Unit {0}
 IsTextOf NoSuchRow text = text ≡ codes "no such row"
 IsTextOf NoSuchProgram text = text ≡ codes "no such program"
+IsTextOf NoSymbols text = text ≡ codes "no symbols"
 IsTextOf CyclePastEnd text = text ≡ codes "cycle past the end"
 IsTextOf NoSuchStep text = text ≡ codes "no such step"
 IsTextOf PictureTooLarge text = text ≡ codes "picture too large"

@@ -2,12 +2,14 @@
 ghost use Rattle.std.specs.Prelude.{◌≡◌};
 ghost use Rattle.tomex_command.specs.declared.failure.Failure.TheVariants as failures;
 ghost use Rattle.tomex_command.specs.Statuses.{failure_of_animation, failure_of_answer, failure_of_explanation};
-ghost use Rattle.tomex_command.specs.Statuses.{failure_of_excerpt, failure_of_picture, failure_of_survey};
+ghost use Rattle.tomex_command.specs.Statuses.{failure_of_excerpt, failure_of_functions, failure_of_picture};
+ghost use Rattle.tomex_command.specs.Statuses.{failure_of_survey};
 ghost use Rattle.tomex_command.specs.Statuses.{status_of_failure};
 
 use crate::run::RunRefusal;
 use std::alloc::{AllocError, AllocFailed};
 use tomex_animate::AnimationError;
+use tomex_functions::FunctionsError;
 use tomex_refusals::ExplainError;
 use tomex_report::{AnswerError, StudyError, SurveyError};
 use tomex_run_views::{ExcerptError, PictureError};
@@ -26,6 +28,8 @@ pub enum Failure {
     NoSuchRow,
     /// The study has no program of that name.
     NoSuchProgram,
+    /// The program's file has no symbols.
+    NoSymbols,
     /// The program's run on the configuration ends before that cycle.
     CyclePastEnd,
     /// The program's run on the configuration ends before that step.
@@ -57,7 +61,8 @@ impl Failure {
             Failure::Run(_) => 1,
             Failure::Study(StudyError::Memory) => 3,
             Failure::Study(_) => 1,
-            Failure::NoSuchRow | Failure::NoSuchProgram | Failure::CyclePastEnd => 1,
+            Failure::NoSuchRow | Failure::NoSuchProgram | Failure::NoSymbols => 1,
+            Failure::CyclePastEnd => 1,
             Failure::NoSuchStep | Failure::PictureTooLarge | Failure::TableTooLarge => 1,
             Failure::NoSuchRefusal => 1,
             Failure::CannotRead(_) | Failure::CannotWrite | Failure::Memory | Failure::Worker => 3,
@@ -141,6 +146,17 @@ impl From<ExcerptError> for Failure {
         match error {
             ExcerptError::NoSuchStep => Failure::NoSuchStep,
             ExcerptError::Memory => Failure::Memory,
+        }
+    }
+}
+
+impl From<FunctionsError> for Failure {
+    ghost from_gives = { λ error failure. failure ≡ failure_of_functions error };
+
+    fn from(error: FunctionsError) -> Failure {
+        match error {
+            FunctionsError::NoSymbols => Failure::NoSymbols,
+            FunctionsError::Memory => Failure::Memory,
         }
     }
 }

@@ -59,6 +59,7 @@ fn text_of(heap: Global, failure: &Failure) -> Result<String, AllocError>
         Failure::Study(error) => format!(in heap; "{error}"),
         Failure::NoSuchRow => String::from_str(heap, "no such row"),
         Failure::NoSuchProgram => String::from_str(heap, "no such program"),
+        Failure::NoSymbols => String::from_str(heap, "no symbols"),
         Failure::CyclePastEnd => String::from_str(heap, "cycle past the end"),
         Failure::NoSuchStep => String::from_str(heap, "no such step"),
         Failure::PictureTooLarge => String::from_str(heap, "picture too large"),

@@ -25,7 +25,7 @@ IsCommand found (Times line) =
     × IsOneRunAsked rows line.study.now line.config line.program.now
 IsCommand found (Stalls line) =
     (rows : List Row) × (found ≡ Some (codes "stalls", rows))
-    × IsStallsAsked rows line.run.study.now line.run.config line.run.program.now line.by_pc
+    × IsStallsAsked rows line.run.study.now line.run.config line.run.program.now line.by_pc line.by_function
 IsCommand found (Pipeline line) =
     (rows : List Row) × (found ≡ Some (codes "pipeline", rows))
     × IsPipelineAsked rows line.run.study.now line.run.config line.run.program.now line.from line.steps line.konata

@@ -59,11 +59,11 @@ times_shape = record (new_shape (codes "times")) {
   rules = word_rule (codes "STUDY") ∷ numeral_rule (codes "CONFIG") 0 16383 ∷ word_rule (codes "PROGRAM") ∷ [];
 }
 
--- `stalls STUDY CONFIG PROGRAM [--by-pc]`
+-- `stalls STUDY CONFIG PROGRAM [--by-pc] [--by-function]`
 abbrev pub stalls_shape : Shape
 stalls_shape = record (new_shape (codes "stalls")) {
   rules = word_rule (codes "STUDY") ∷ numeral_rule (codes "CONFIG") 0 16383 ∷ word_rule (codes "PROGRAM")
-      ∷ flag_rule (codes "by-pc") ∷ [];
+      ∷ flag_rule (codes "by-pc") ∷ flag_rule (codes "by-function") ∷ [];
 }
 
 -- `pipeline STUDY CONFIG PROGRAM [--from N] [--steps N] [--konata]`

@@ -25,13 +25,14 @@ IsNoOneRun rows = (study : List ℕ) (config : ℕ) (program : List ℕ) → IsO
 
 -- the values of `stalls`
 pub record IsStallsAsked (rows : List Row) (study : List ℕ) (config : ℕ) (program : List ℕ)
-    (by_pc : Bool) : Type 0 where
+    (by_pc by_function : Bool) : Type 0 where
   pub of_run : IsOneRunAsked rows study config program
   pub is_by_pc : IsFlag rows (codes "by-pc") by_pc
+  pub is_by_function : IsFlag rows (codes "by-function") by_function
 
 abbrev pub IsNoStalls : List Row → Type 0
-IsNoStalls rows = (study : List ℕ) (config : ℕ) (program : List ℕ) (by_pc : Bool)
-    → IsStallsAsked rows study config program by_pc → ⊥
+IsNoStalls rows = (study : List ℕ) (config : ℕ) (program : List ℕ) (by_pc by_function : Bool)
+    → IsStallsAsked rows study config program by_pc by_function → ⊥
 
 -- the values of `pipeline`
 pub record IsPipelineAsked (rows : List Row) (study : List ℕ) (config : ℕ) (program : List ℕ) (from steps : ℕ)

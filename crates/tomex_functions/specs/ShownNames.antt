@@ -1,5 +1,5 @@
 -- How a function's name is shown in a text: a line stays one line, and a long name is cut.
-use Rattle.std.specs.Prelude.{ℕ, List, [], ◌++◌, codes, false, length, nat_lt, take, if◌then◌else◌}
+use Rattle.std.specs.Prelude.{ℕ, List, [], ◌++◌, Option, Some, None, codes, false, length, nat_lt, take, if◌then◌else◌}
 use Rattle.std.specs.Fmt.{digits}
 use Rattle.std.specs.List.{flat_map}
 use Rattle.std.specs.Str.{is_utf8}
@@ -22,3 +22,8 @@ cut_name name = shown_bytes (take 256 name) ++ (if nat_lt 256 (length name) then
 -- the name of a symbol of a file
 abbrev pub shown_function : List ℕ → Symbol → List ℕ
 shown_function bytes s = cut_name (name_of bytes s)
+
+-- and of one that there may be
+abbrev pub name_field : List ℕ → Option Symbol → List ℕ
+name_field bytes None = codes "-"
+name_field bytes (Some s) = shown_function bytes s

@@ -1,6 +1,17 @@
-//! The functions of a program, as texts show them.
+//! The functions of a program, as texts show them, and where in them the cycles of a run go.
 #![tactic(auto)]
 
+mod by_function;
+mod by_place;
+mod calls;
+mod functions_error;
+mod index;
+mod laws;
+mod rows;
 mod shown_names;
 
+pub use by_function::stalls_by_function;
+pub use by_place::stalls_by_pc_and_function;
+pub use functions_error::FunctionsError;
+pub use laws::functions_add_up;
 pub use shown_names::shown_function;

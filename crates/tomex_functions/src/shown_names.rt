@@ -1,9 +1,11 @@
 //! Names of functions, as they are shown.
 
-ghost use Rattle.std.specs.Prelude.{◌≡◌, ◌++◌, IfOk, OnOk, string_bytes};
+ghost use Rattle.std.specs.Prelude.{◌≡◌, ◌++◌, ◌∷◌, [], IfOk, OnOk, string_bytes};
 ghost use Rattle.std.specs.List.{flat_map};
-ghost use Rattle.tomex_functions.specs.ShownNames.{shown_byte, shown_bytes, shown_function};
+ghost use Rattle.csv.specs.Records.{fields_of, partial_of};
+ghost use Rattle.tomex_functions.specs.ShownNames.{name_field, shown_byte, shown_bytes, shown_function};
 
+use csv::ByteRecord;
 use std::alloc::{AllocError, Global};
 use std::fmt::Write;
 use tomex_streams::{push_shown, shown};
@@ -55,4 +57,22 @@ pub fn shown_function(heap: Global, bytes: &[u8], symbol: &Symbol) -> Result<Str
         text.push_str("..")?;
     }
     Ok(text)
+}
+
+/// Adds the name of a function, or `-` of none.
+pub fn push_function(
+    fields: &mut ByteRecord,
+    heap: Global,
+    file: &[u8],
+    function: &Option<Symbol>,
+) -> Result<(), AllocError>
+    requires { partial_of fields.old ≡ [] }
+    ensures fields { OnOk result (fields_of fields.new
+        ≡ fields_of fields.old ++ name_field file.now function.now ∷ []) }
+    ensures whole { OnOk result (partial_of fields.new ≡ []) }
+{
+    match function {
+        Some(symbol) => fields.push_field(shown_function(heap, file, symbol)?.as_bytes()),
+        None => fields.push_field(b"-"),
+    }
 }

@@ -10,6 +10,7 @@ words_of those.BadWindow = codes "bad window"
 words_of those.TooLong = codes "too long"
 words_of those.NoSuchRow = codes "no such row"
 words_of those.NoSuchProgram = codes "no such program"
+words_of those.NoSymbols = codes "no symbols"
 words_of those.NoSuchStep = codes "no such step"
 words_of those.PictureTooLarge = codes "picture too large"
 words_of those.TableTooLarge = codes "table too large"
@@ -53,6 +54,13 @@ abbrev pub no_such_program : List ℕ
 no_such_program =
     codes "PROGRAM is the `name` of one of the study's programs, as written there, and not\n"
     ++ codes "the name of its file.\n"
+
+abbrev pub no_symbols : List ℕ
+no_symbols =
+    codes "`--by-function` takes the names of functions from the program's file, which has\n"
+    ++ (codes "none: it is a flat file, or an ELF file whose symbols were stripped. Link without\n"
+    ++ (codes "`-s`, don't `strip` it, and name the ELF file in the study. `readelf -s FILE`\n"
+    ++ codes "lists the symbols (FUNC).\n"))
 
 abbrev pub no_such_step : List ℕ
 no_such_step =
@@ -103,6 +111,7 @@ advice_of those.BadWindow = bad_window
 advice_of those.TooLong = too_long
 advice_of those.NoSuchRow = no_such_row
 advice_of those.NoSuchProgram = no_such_program
+advice_of those.NoSymbols = no_symbols
 advice_of those.NoSuchStep = no_such_step
 advice_of those.PictureTooLarge = picture_too_large
 advice_of those.TableTooLarge = table_too_large

@@ -19,10 +19,10 @@ use Rattle.tomex_refusals.specs.Studies as of_studies
 abbrev pub all_refusals : List Refusal
 all_refusals =
     Command commands.CannotRead ∷ Command commands.BadWindow ∷ Command commands.TooLong
-    ∷ Command commands.NoSuchRow ∷ Command commands.NoSuchProgram ∷ Command commands.NoSuchStep
-    ∷ Command commands.PictureTooLarge ∷ Command commands.TableTooLarge ∷ Command commands.CyclePastEnd
-    ∷ Command commands.CannotWrite ∷ Command commands.ThreadRefused ∷ Command commands.OutOfMemory
-    ∷ Command commands.NoSuchRefusal
+    ∷ Command commands.NoSuchRow ∷ Command commands.NoSuchProgram ∷ Command commands.NoSymbols
+    ∷ Command commands.NoSuchStep ∷ Command commands.PictureTooLarge ∷ Command commands.TableTooLarge
+    ∷ Command commands.CyclePastEnd ∷ Command commands.CannotWrite ∷ Command commands.ThreadRefused
+    ∷ Command commands.OutOfMemory ∷ Command commands.NoSuchRefusal
     ∷ Image images.Empty ∷ Image images.TooLarge ∷ Image images.Truncated ∷ Image images.NotRiscv
     ∷ Image images.NotExecutable ∷ Image images.HeaderSize ∷ Image images.Dynamic ∷ Image images.TooManySegments
     ∷ Image images.Segment ∷ Image images.Overlap ∷ Image images.Entry ∷ Fault faults.Fetch ∷ Fault faults.Illegal

@@ -16,6 +16,8 @@ pub enum CommandRefusal {
     NoSuchRow,
     /// The study has no program of that name.
     NoSuchProgram,
+    /// The program's file has no symbols.
+    NoSymbols,
     /// The run has fewer instructions.
     NoSuchStep,
     /// The picture would have too many signs.
@@ -61,6 +63,13 @@ product of all lists; docs/STUDIES.md says in which order. The first column of
 const NO_SUCH_PROGRAM: &str =
     "PROGRAM is the `name` of one of the study's programs, as written there, and not
 the name of its file.
+";
+
+const NO_SYMBOLS: &str =
+    "`--by-function` takes the names of functions from the program's file, which has
+none: it is a flat file, or an ELF file whose symbols were stripped. Link without
+`-s`, don't `strip` it, and name the ELF file in the study. `readelf -s FILE`
+lists the symbols (FUNC).
 ";
 
 const NO_SUCH_STEP: &str =
@@ -116,6 +125,7 @@ impl CommandRefusal {
             CommandRefusal::TooLong => "too long",
             CommandRefusal::NoSuchRow => "no such row",
             CommandRefusal::NoSuchProgram => "no such program",
+            CommandRefusal::NoSymbols => "no symbols",
             CommandRefusal::NoSuchStep => "no such step",
             CommandRefusal::PictureTooLarge => "picture too large",
             CommandRefusal::TableTooLarge => "table too large",
@@ -147,6 +157,7 @@ impl CommandRefusal {
             CommandRefusal::TooLong => TOO_LONG,
             CommandRefusal::NoSuchRow => NO_SUCH_ROW,
             CommandRefusal::NoSuchProgram => NO_SUCH_PROGRAM,
+            CommandRefusal::NoSymbols => NO_SYMBOLS,
             CommandRefusal::NoSuchStep => NO_SUCH_STEP,
             CommandRefusal::PictureTooLarge => PICTURE_TOO_LARGE,
             CommandRefusal::TableTooLarge => TABLE_TOO_LARGE,

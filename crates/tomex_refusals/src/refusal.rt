@@ -19,12 +19,13 @@ pub enum Refusal {
 
 impl Refusal {
     /// All refusals, in the order in which they are looked for: those with a name in them first.
-    pub const ALL: [Refusal; 35] = [
+    pub const ALL: [Refusal; 36] = [
         Refusal::Command(CommandRefusal::CannotRead),
         Refusal::Command(CommandRefusal::BadWindow),
         Refusal::Command(CommandRefusal::TooLong),
         Refusal::Command(CommandRefusal::NoSuchRow),
         Refusal::Command(CommandRefusal::NoSuchProgram),
+        Refusal::Command(CommandRefusal::NoSymbols),
         Refusal::Command(CommandRefusal::NoSuchStep),
         Refusal::Command(CommandRefusal::PictureTooLarge),
         Refusal::Command(CommandRefusal::TableTooLarge),

@@ -1,5 +1,7 @@
 pub mod Written
-pub mod Sums
+pub mod SumsOfPlaces
+pub mod Gaps
+pub mod Cycles
 pub mod Tallies
 pub mod Reports
 pub mod Excerpts

@@ -1,10 +1,10 @@
 -- The report of what was counted is that of the visits.
-use Rattle.std.proofs.Common.{◌≡◌, ◌≢◌, ◌≤◌, ◌⊎◌, Ok, Err, Vec, ◌∙◌, ap, ap₂, sym, refl, inl, inr, ℕ, ◌==◌, Bool}
+use Rattle.std.proofs.Common.{◌≡◌, ◌≢◌, ◌≤◌, ◌⊎◌, Ok, Err, Vec, ◌∙◌, ap, ap₂, subst, sym, refl, inl, inr, ℕ, ◌==◌, Bool}
 use Rattle.std.proofs.Common.{true}
 use Rattle.std.proofs.Common.{false, cond, ◌||◌, List, [], ◌∷◌, ◌++◌, get_or, Option, Some, is_some, arith}
-use Rattle.std.specs.Prelude.{All, IfOk, OnOk, Result}
+use Rattle.std.specs.Prelude.{All, codes, IfOk, OnOk, Result}
 use Rattle.std.specs.BTreeMap.{IsOrdered, is_at, keys}
-use Rattle.std.specs.List.{flat_map, list_any, zip}
+use Rattle.std.specs.List.{flat_map, list_any}
 use Rattle.std.specs.Map.{keys_of, values_of}
 use Rattle.std.specs.Option.{option_map_or}
 use Rattle.std.specs.Ordering.{nat_cmp}
@@ -16,32 +16,36 @@ use Rattle.std.proofs.lemmas.Map.Entries.{btree_map_get_place}
 use Rattle.std.proofs.lemmas.Map.Made.{is_some-lookup}
 use Rattle.std.proofs.lemmas.Option.{slice_get-get_or}
 use Rattle.tomex_steps.specs.declared.step.Step.{Step}
-use Rattle.tomex_config.specs.Configuration.{Configuration}
-use Rattle.tomex_timing.specs.Needs.{waits_in}
+use Rattle.tomex_config.specs.Configuration.{Configuration, IsWithinLimits}
+use Rattle.tomex_timing.specs.Needs.{drain, waits_in}
+use Rattle.tomex_timing.specs.Search.{history}
 use Rattle.tomex_timing.specs.Waiting.{AreWithin}
 use Rattle.tomex_timing.specs.declared.part.Waits.{Waits}
 use Rattle.tomex_csv_text.specs.Csv.{record_text}
-use Rattle.tomex_run_views.specs.ByPlace.{ArePlaces, IsReport, Visit, header, place_record, report_at, visits_at}
-use Rattle.tomex_run_views.specs.ByPlace.{visits_in}
-use Rattle.tomex_run_views.specs.declared.tally.Place.{Place}
+use Rattle.tomex_run_views.specs.ByPlace.{AreKeys, IsReportByPlace, Visit, pc_of, place_record, report_at, sum_columns}
+use Rattle.tomex_run_views.specs.ByPlace.{visits_in, visits_of}
+use Rattle.tomex_run_views.specs.declared.counted.Counted.{Counted}
+use Rattle.tomex_run_views.specs.declared.tally.Group.{Group}
 use Rattle.tomex_run_views.specs.declared.tally.Sum.{Sum}
 use Rattle.tomex_run_views.specs.declared.tally.Tally.{Tally}
-use Rattle.tomex_run_views.specs.Tally.{IsTally, place_fields, place_of, report_of_tally, total_fields}
+use Rattle.tomex_run_views.specs.Tally.{IsCounted, IsTally, fields_of_sum, group_of, only_drain, place_fields}
+use Rattle.tomex_run_views.specs.Tally.{report_of_counted, visits_by, with_drain}
+use Rattle.tomex_run_views.proofs.Gaps.{visits_are}
 use Rattle.tomex_run_views.proofs.Tallies.{same_key}
 
 same_any : {X : Type 0} (f g : X → Bool) → ((x : X) → f x ≡ g x) → (xs : List X) → list_any f xs ≡ list_any g xs
 same_any f g same [] = refl
 same_any f g same (x ∷ xs) = ap₂ (λ a b. a || b) (same x) (same_any f g same xs)
 
--- there is a place just where there is a visit
-is_visited : (pc : ℕ) (visits : List Visit) → is_some (place_of (visits_at pc visits)) ≡ list_any (λ v. v.0.pc == pc)
-    visits
-is_visited pc [] = refl
-is_visited pc (v ∷ visits) = go (v.0.pc == pc) (is_visited pc visits)
+-- there is a group just where there is a visit
+is_visited : (key : Step → ℕ) (k : ℕ) (visits : List Visit)
+    → is_some (group_of (visits_of key k visits)) ≡ list_any (λ v. key v.step == k) visits
+is_visited key k [] = refl
+is_visited key k (v ∷ visits) = go (key v.step == k) (is_visited key k visits)
   where
-    go : (b : Bool) → is_some (place_of (visits_at pc visits)) ≡ list_any (λ v. v.0.pc == pc) visits
-        → is_some (place_of (cond b (v ∷ visits_at pc visits) (visits_at pc visits)))
-        ≡ b || list_any (λ v. v.0.pc == pc) visits
+    go : (b : Bool) → is_some (group_of (visits_of key k visits)) ≡ list_any (λ v. key v.step == k) visits
+        → is_some (group_of (cond b (v ∷ visits_of key k visits) (visits_of key k visits)))
+        ≡ b || list_any (λ v. key v.step == k) visits
     go true rest = refl
     go false rest = rest
 
@@ -53,59 +57,67 @@ flip a b = go (eqb_tells a b) ∙ sym (same_key b a)
     go (inl same) = same.0 ∙ sym (eq-eqb b a (sym same.1))
     go (inr other) = other.0 ∙ sym (ne_eqb b a (λ e. other.1 (sym e)))
 
--- a place's record is that of its visits
-record_is : (vs : List Visit) (place : Place) → place_of vs ≡ Some place
-    → record_text (place_fields place) ≡ place_record vs
-record_is [] place is = absurd (cc)
-record_is (v ∷ vs) place is =
-    ap (λ (o : Option Place). option_map_or (λ p. record_text (place_fields p)) o []) (sym is)
-
-module _ {A : Type 0} (visits : List Visit) (tally : Tally A) (is : IsTally visits tally)
-    (ordered : IsOrdered nat_cmp tally.places) where
-  pub keys_are_places : ArePlaces visits (keys tally.places)
-  keys_are_places = record {
+-- what the groups of visits show, by what shows each
+module _ {A : Type 0} (key : Step → ℕ) (visits : List Visit) (tally : Tally A) (is : IsTally key visits tally)
+    (ordered : IsOrdered nat_cmp tally.groups) where
+  pub are_keys : AreKeys key visits (keys tally.groups)
+  are_keys = record {
     rising = ordered;
-    those = λ pc.
-        same_any (λ p. p == pc) (is_at (nat_cmp pc)) (λ p. flip p pc) (keys tally.places)
-        ∙ (sym (is_some-lookup (is_at (nat_cmp pc)) tally.places.entries)
-        ∙ (ap (λ (o : Option Place). is_some o) (is.places pc) ∙ is_visited pc visits));
+    those = λ k.
+        same_any (λ p. p == k) (is_at (nat_cmp k)) (λ p. flip p k) (keys tally.groups)
+        ∙ (sym (is_some-lookup (is_at (nat_cmp k)) tally.groups.entries)
+        ∙ (ap (λ (o : Option Group). is_some o) (is.groups k) ∙ is_visited key k visits));
   }
 
   -- what an entry has is what its key's visits come to
-  abbrev IsKept : ℕ × Place → Type 0
-  IsKept e = place_of (visits_at e.0 visits) ≡ Some e.1
+  abbrev pub IsKept : ℕ × Group → Type 0
+  IsKept e = group_of (visits_of key e.0 visits) ≡ Some e.1
 
-  entry_is : All IsKept tally.places.entries
+  pub entry_is : All IsKept tally.groups.entries
   entry_is k d within =
-      let e = get_or tally.places.entries k d in
-      sym (is.places e.0) ∙ btree_map_get_place nat_cmp_total tally.places k e.0 e.1 ordered
-      (slice_get-get_or tally.places.entries k d within)
+      let e = get_or tally.groups.entries k d in
+      sym (is.groups e.0) ∙ btree_map_get_place nat_cmp_total tally.groups k e.0 e.1 ordered
+      (slice_get-get_or tally.groups.entries k d within)
 
-  records_are : (es : List (ℕ × Place)) → All IsKept es
-      → flat_map (λ place. record_text (place_fields place)) (values_of es)
-      ≡ flat_map (λ pc. place_record (visits_at pc visits)) (keys_of es)
-  records_are [] all = refl
-  records_are (e ∷ es) all =
-      ap₂ (λ (a b : List ℕ). a ++ b) (record_is (visits_at e.0 visits) e.1 (All-head IsKept e es all))
-      (records_are es (All-tail IsKept e es all))
+  -- of two ways to show some visits, by what was counted of them and by the visits
+  pub shown_are : {X : Type 0} (f : Group → List X) (g : List Visit → List X) (es : List (ℕ × Group)) → All IsKept es
+      → ((vs : List Visit) (group : Group) → group_of vs ≡ Some group → f group ≡ g vs)
+      → flat_map f (values_of es) ≡ flat_map (λ k. g (visits_of key k visits)) (keys_of es)
+  shown_are f g [] all same = refl
+  shown_are f g (e ∷ es) all same =
+      ap₂ (λ a b. a ++ b) (same (visits_of key e.0 visits) e.1 (All-head IsKept e es all))
+      (shown_are f g es (All-tail IsKept e es all) same)
 
-  pub report_is : report_of_tally tally ≡ report_at (keys tally.places) visits
-  report_is =
-      ap₂ (λ (a b : List ℕ). record_text header ++ (a ++ b)) (records_are tally.places.entries entry_is)
-      (ap (λ (s : Sum). record_text (total_fields s)) is.all)
+-- a place's record is that of its visits
+record_is : (vs : List Visit) (place : Group) → group_of vs ≡ Some place
+    → record_text (place_fields place) ≡ place_record vs
+record_is [] place is = absurd (cc)
+record_is (v ∷ vs) place is =
+    ap (λ (o : Option Group). option_map_or (λ p. record_text (place_fields p)) o []) (sym is)
 
--- the text of what was counted of visits is their report
-pub report_of : {A B E : Type 0} (r : Result (Vec ℕ B) E) (visits : List Visit) (tally : Tally A) → IsTally visits tally
-    → IfOk r (λ text. text.items ≡ report_of_tally tally) → OnOk r (IsOrdered nat_cmp tally.places)
-    → IfOk r (λ text. IsReport visits text.items)
-report_of (Ok text) visits tally is written ordered =
-    (keys tally.places, keys_are_places visits tally is ordered, written ∙ report_is visits tally is ordered)
-report_of (Err e) visits tally is written ordered = tt
+report_is : {A : Type 0} (config : Configuration) (steps : List Step) (counted : Counted A)
+    → IsCounted pc_of config steps counted → IsOrdered nat_cmp counted.tally.groups
+    → report_of_counted counted
+    ≡ report_at (keys counted.tally.groups) (drain (history config steps)) (visits_in config steps)
+report_is config steps counted is ordered =
+    let places = shown_are pc_of (visits_in config steps) counted.tally is.tally ordered
+    (λ place. record_text (place_fields place)) place_record counted.tally.groups.entries
+    (entry_is pc_of (visits_in config steps) counted.tally is.tally ordered) record_is in
+    ap₂ (λ (a b : List ℕ). record_text (codes "pc" ∷ codes "instr" ∷ sum_columns) ++ (a ++ b)) places
+    (ap₂ (λ (n : ℕ) (s : Sum). record_text (codes "drain" ∷ codes "-" ∷ fields_of_sum (only_drain n))
+    ++ record_text (codes "total" ∷ codes "-" ∷ fields_of_sum (with_drain n s))) is.drain is.tally.all)
 
--- the visits that were counted are those of the run
-pub visits_are : (config : Configuration) (run made : List Step) (waits kept : List Waits) → made ≡ run
-    → waits ≡ waits_in config made → kept ≡ waits → zip made kept ≡ visits_in config run
-visits_are config run made waits kept is waited held = rw (held, waited, is) refl
+-- the text of what was counted by address is the report by place
+pub report_of : {A B E : Type 0} (r : Result (Vec ℕ B) E) (config : Configuration) (steps : List Step)
+    (counted : Counted A) → IsCounted pc_of config steps counted
+    → IfOk r (λ text. text.items ≡ report_of_counted counted) → OnOk r (IsOrdered nat_cmp counted.tally.groups)
+    → IfOk r (λ text. IsReportByPlace config steps text.items)
+report_of (Ok text) config steps counted is written ordered = (
+  keys counted.tally.groups,
+  are_keys pc_of (visits_in config steps) counted.tally is.tally ordered,
+  written ∙ report_is config steps counted is ordered,
+)
+report_of (Err e) config steps counted is written ordered = tt
 
 -- no wait is longer than a larger number
 pub wider : (n m : ℕ) (w : Waits) → n ≤ m → AreWithin n w → AreWithin m w
@@ -128,3 +140,14 @@ wider n m w more h =
       unit = omega (arith, more);
       bus = omega (arith, more);
     }
+
+-- what was counted by the waits of a run is what its visits come to
+pub counted_is : {A : Type 0} (key : Step → ℕ) (config : Configuration) (steps : List Step) (waits : List Waits)
+    (counted : Counted A) → IsWithinLimits config → waits ≡ waits_in config steps
+    → IsTally key (visits_by 1 steps waits) counted.tally → counted.drain ≡ drain (history config steps)
+    → IsCounted key config steps counted
+counted_is key config steps waits counted good are tally drained = record {
+  tally = subst (λ (vs : List Visit). IsTally key vs counted.tally)
+      (ap (λ (ws : List Waits). visits_by 1 steps ws) are ∙ visits_are config steps good) tally;
+  drain = drained;
+}

@@ -1,76 +1,98 @@
 -- One visit more in what visits come to, and that the sums stay small.
-use Rattle.std.proofs.Common.{◌≡◌, ◌≢◌, ◌⊎◌, ◌∙◌, ap, sym, inl, inr, eqb-true, take_all, subst, refl, ℕ, ◌+◌, ◌^◌}
-use Rattle.std.proofs.Common.{◌<◌}
-use Rattle.std.proofs.Common.{◌≤◌, ◌==◌, Bool, true, false, cond, List, [], ◌∷◌, ◌++◌, length, get_or, take, Option}
+use Rattle.std.proofs.Common.{◌≡◌, ◌≢◌, ◌⊎◌, ◌∙◌, ap, sym, inl, inr, eqb-true, subst, take_all, refl, ℕ, zero, suc, add-one, ◌+◌, ◌*◌}
+use Rattle.std.proofs.Common.{◌^◌, ◌<◌, ◌≤◌, ◌==◌, Bool, true, false, cond, List, [], ◌∷◌, ◌++◌, length, get_or, map, take, Option}
 use Rattle.std.proofs.Common.{Some, arith}
 use Rattle.std.specs.Prelude.{All, sum_by, unwrap_or}
-use Rattle.std.specs.List.{zip}
 use Rattle.std.specs.FinMap.{nat_cmp-IsAntisymmetric}
 use Rattle.std.specs.Ordering.{is_eq, nat_cmp}
 use Rattle.std.specs.declared.cmp.Ordering.{Ordering}
 use Rattle.std.specs.declared.cmp.Ordering.TheVariants.{Less, Equal, Greater}
 use Rattle.std.proofs.lemmas.Bool.Decides.{eqb_tells}
 use Rattle.std.proofs.lemmas.Cmp.{nat_cmp_total, tied_itself}
-use Rattle.std.proofs.lemmas.List.{append-nil, length_push, length-take, take_more}
+use Rattle.std.proofs.lemmas.List.{append-nil, length_push, length-take}
 use Rattle.std.proofs.lemmas.List.Elements.{All-cons, All-filter, All-head, All-nil, All-tail, All-take, All-weaker}
 use Rattle.std.proofs.lemmas.List.Elements.{filter-append}
 use Rattle.std.proofs.lemmas.List.Sums.{count_by-le-length, length-filter, sum_by-le, sum_by_push}
-use Rattle.std.proofs.lemmas.Slice.Zip.{get_or-zip, length-zip}
 use Rattle.tomex_steps.specs.declared.step.Step.{Step}
 use Rattle.tomex_timing.specs.Waiting.{AreWithin}
 use Rattle.tomex_timing.specs.declared.part.Waits.{Waits}
-use Rattle.tomex_run_views.specs.ByPlace.{Visit, visits_at, waits_of_all}
-use Rattle.tomex_run_views.specs.declared.tally.Place.{Place}
+use Rattle.tomex_run_views.specs.ByPlace.{Visit, cycles_of, visits_of, waits_of_all}
+use Rattle.tomex_run_views.specs.declared.tally.Group.{Group}
 use Rattle.tomex_run_views.specs.declared.tally.Sum.{Sum}
-use Rattle.tomex_run_views.specs.Tally.{no_sum, place_of, sum_after, sum_of}
+use Rattle.tomex_run_views.specs.Tally.{cycles_by, group_of, more_at, no_sum, sum_after, sum_of, visits_by}
 
-pub sum_more : (vs : List Visit) (v : Visit) → sum_of (vs ++ v ∷ []) ≡ sum_after (sum_of vs) v.1
+pub sum_more : (vs : List Visit) (v : Visit) → sum_of (vs ++ v ∷ []) ≡ sum_after (sum_of vs) v.cycles v.waits
 sum_more vs v =
     rw (
       length_push vs v,
-      sum_by_push (λ v. v.1.branch) vs v,
-      sum_by_push (λ v. v.1.width) vs v,
-      sum_by_push (λ v. v.1.station) vs v,
-      sum_by_push (λ v. v.1.operand) vs v,
-      sum_by_push (λ v. v.1.address) vs v,
-      sum_by_push (λ v. v.1.memory) vs v,
-      sum_by_push (λ v. v.1.unit) vs v,
-      sum_by_push (λ v. v.1.bus) vs v,
+      sum_by_push (λ v. v.cycles) vs v,
+      sum_by_push (λ v. v.waits.branch) vs v,
+      sum_by_push (λ v. v.waits.width) vs v,
+      sum_by_push (λ v. v.waits.station) vs v,
+      sum_by_push (λ v. v.waits.operand) vs v,
+      sum_by_push (λ v. v.waits.address) vs v,
+      sum_by_push (λ v. v.waits.memory) vs v,
+      sum_by_push (λ v. v.waits.unit) vs v,
+      sum_by_push (λ v. v.waits.bus) vs v,
     ) refl
 
--- a place with one visit more, of which it may be the first
-abbrev pub before : Option Place → Visit → Place
-before o v = unwrap_or o (record { first = v.0; sum = no_sum })
+-- a group with one visit more, of which it may be the first
+abbrev pub before : Option Group → Step → Group
+before o s = unwrap_or o (record { first = s; sum = no_sum })
 
-abbrev pub place_after : Option Place → Visit → Place
-place_after o v = record (before o v) { sum = sum_after (before o v).sum v.1 }
+abbrev pub group_after : Option Group → Visit → Group
+group_after o v = record (before o v.step) { sum = sum_after (before o v.step).sum v.cycles v.waits }
 
-place_more : (vs : List Visit) (v : Visit) → place_of (vs ++ v ∷ []) ≡ Some (place_after (place_of vs) v)
-place_more [] v = rw (sum_more [] v) refl
-place_more (x ∷ xs) v = rw (sum_more (x ∷ xs) v) refl
+group_more : (vs : List Visit) (v : Visit) → group_of (vs ++ v ∷ []) ≡ Some (group_after (group_of vs) v)
+group_more [] v = rw (sum_more [] v) refl
+group_more (x ∷ xs) v = rw (sum_more (x ∷ xs) v) refl
 
-pub place_more_at : (pc : ℕ) (vs : List Visit) (v : Visit)
-    → place_of (visits_at pc (vs ++ v ∷ [])) ≡ cond (v.0.pc == pc) (Some (place_after (place_of (visits_at pc vs)) v))
-    (place_of (visits_at pc vs))
-place_more_at pc vs v = rw (filter-append (λ (v : Visit). v.0.pc == pc) vs (v ∷ [])) (go (v.0.pc == pc) refl)
+pub group_more_at : (key : Step → ℕ) (k : ℕ) (vs : List Visit) (v : Visit)
+    → group_of (visits_of key k (vs ++ v ∷ []))
+    ≡ cond (key v.step == k) (Some (group_after (group_of (visits_of key k vs)) v)) (group_of (visits_of key k vs))
+group_more_at key k vs v =
+    rw (filter-append (λ (v : Visit). key v.step == k) vs (v ∷ [])) (go (key v.step == k) refl)
   where
-    go : (b : Bool) → (v.0.pc == pc) ≡ b
-        → place_of (visits_at pc vs ++ visits_at pc (v ∷ []))
-        ≡ cond b (Some (place_after (place_of (visits_at pc vs)) v)) (place_of (visits_at pc vs))
-    go true e = rw e (place_more (visits_at pc vs) v)
-    go false e = rw (e, append-nil (visits_at pc vs)) refl
+    go : (b : Bool) → (key v.step == k) ≡ b
+        → group_of (visits_of key k vs ++ visits_of key k (v ∷ []))
+        ≡ cond b (Some (group_after (group_of (visits_of key k vs)) v)) (group_of (visits_of key k vs))
+    go true e = rw e (group_more (visits_of key k vs) v)
+    go false e = rw (e, append-nil (visits_of key k vs)) refl
+
+-- the visit of a step, whose index is known
+abbrev pub visit : ℕ → Step → Waits → Visit
+visit more s w = record { step = s; cycles = cycles_by more w; waits = w }
 
 -- the visits of a loop's next turn
+later_visits : (ss : List Step) (ws : List Waits) (i : ℕ) (s : Step) (w none : Waits) → i < length ss
+    → length ws ≡ length ss → s ≡ get_or ss i s → w ≡ get_or ws i none
+    → take (i + 1) (visits_by 0 ss ws) ≡ take i (visits_by 0 ss ws) ++ visit 0 s w ∷ []
+later_visits [] ws i s w none within pairs step waits = absurd (omega arith)
+later_visits (x ∷ ss) [] i s w none within pairs step waits = absurd (cc)
+later_visits (x ∷ ss) (y ∷ ws) zero s w none within pairs step waits = rw (step, waits) refl
+later_visits (x ∷ ss) (y ∷ ws) (suc i) s w none within pairs step waits =
+    rw (add-one (suc i)) (ap (λ (vs : List Visit). visit 0 x y ∷ vs)
+    (rw (add-one i) at (later_visits ss ws i s w none (omega arith) (omega (arith, pairs)) step waits)))
+
 pub visits_more : (ss : List Step) (ws : List Waits) (i : ℕ) (s : Step) (w none : Waits) → i < length ss
-    → length ws ≡ length ss
-    → s ≡ get_or ss i s → w ≡ get_or ws i none → take (i + 1) (zip ss ws) ≡ take i (zip ss ws) ++ (s, w) ∷ []
-visits_more ss ws i s w none within pairs step waits =
-    take_more (zip ss ws) i (s, none) (rw (length-zip ss ws) (omega (arith, within, pairs)))
-    ∙ rw (get_or-zip ss ws i (s, none) within (omega (arith, within, pairs)), ← step, ← waits) refl
+    → length ws ≡ length ss → s ≡ get_or ss i s → w ≡ get_or ws i none
+    → take (i + 1) (visits_by 1 ss ws) ≡ take i (visits_by 1 ss ws) ++ visit (more_at i) s w ∷ []
+visits_more [] ws i s w none within pairs step waits = absurd (omega arith)
+visits_more (x ∷ ss) [] i s w none within pairs step waits = absurd (cc)
+visits_more (x ∷ ss) (y ∷ ws) zero s w none within pairs step waits = rw (step, waits) refl
+visits_more (x ∷ ss) (y ∷ ws) (suc i) s w none within pairs step waits =
+    rw (add-one (suc i)) (ap (λ (vs : List Visit). visit 1 x y ∷ vs)
+    (rw (add-one i) at (later_visits ss ws i s w none (omega arith) (omega (arith, pairs)) step waits)))
+
+length_visits : (more : ℕ) (ss : List Step) (ws : List Waits) → length (visits_by more ss ws) ≤ length ss
+length_visits more [] ws = omega arith
+length_visits more (s ∷ ss) [] = omega arith
+length_visits more (s ∷ ss) (w ∷ ws) = let k = length_visits 0 ss ws in omega arith
 
 -- and those after the last
-pub whole : (ss : List Step) (ws : List Waits) (i : ℕ) → length ss ≤ i → take i (zip ss ws) ≡ zip ss ws
-whole ss ws i past = take_all i (zip ss ws) (rw (length-zip ss ws) (omega (arith, past)))
+pub whole : (ss : List Step) (ws : List Waits) (i : ℕ) → length ss ≤ i
+    → take i (visits_by 1 ss ws) ≡ visits_by 1 ss ws
+whole ss ws i past = take_all i (visits_by 1 ss ws) (let k = length_visits 1 ss ws in omega arith)
 
 -- a key is found by its order just where it is the same
 pub same_key : (a b : ℕ) → is_eq (nat_cmp a b) ≡ (a == b)
@@ -87,104 +109,127 @@ same_key a b = go (eqb_tells a b)
     go (inr other) = apart (nat_cmp a b) refl other.1 ∙ sym other.0
 
 -- the sum of all after a turn
-pub all_more : (ss : List Step) (ws : List Waits) (i : ℕ) (s : Step) (w none : Waits) (old new : Sum) → i < length ss
-    → length ws ≡ length ss
-    → s ≡ get_or ss i s → w ≡ get_or ws i none → old ≡ sum_of (take i (zip ss ws)) → new ≡ sum_after old w
-    → new ≡ sum_of (take (i + 1) (zip ss ws))
-all_more ss ws i s w none old new within pairs step waits was is =
-    rw (is, was, visits_more ss ws i s w none within pairs step waits) (sym (sum_more (take i (zip ss ws)) (s, w)))
-
--- and what is kept at each address
-pub at_more : (ss : List Step) (ws : List Waits) (i : ℕ) (s : Step) (w none : Waits) (pc : ℕ) (got had : Option Place)
-    (now new : Place)
+pub all_more : (ss : List Step) (ws : List Waits) (i : ℕ) (s : Step) (w none : Waits) (old new : Sum) (n : ℕ)
     → i < length ss → length ws ≡ length ss → s ≡ get_or ss i s → w ≡ get_or ws i none
-    → got ≡ cond (is_eq (nat_cmp s.pc pc)) (Some new) had → had ≡ place_of (visits_at pc (take i (zip ss ws)))
-    → now ≡ before (place_of (visits_at s.pc (take i (zip ss ws)))) (s, w)
-    → new ≡ record now { sum = sum_after now.sum w }
-    → got ≡ place_of (visits_at pc (take (i + 1) (zip ss ws)))
-at_more ss ws i s w none pc got had now new within pairs step waits is was kept grown =
-    is ∙ (ap (λ (b : Bool). cond b (Some new) had) (same_key s.pc pc)
-    ∙ (go (s.pc == pc) refl ∙ (sym (place_more_at pc (take i (zip ss ws)) (s, w))
-    ∙ ap (λ (vs : List Visit). place_of (visits_at pc vs))
-    (sym (visits_more ss ws i s w none within pairs step waits)))))
+    → n ≡ cycles_by (more_at i) w → old ≡ sum_of (take i (visits_by 1 ss ws)) → new ≡ sum_after old n w
+    → new ≡ sum_of (take (i + 1) (visits_by 1 ss ws))
+all_more ss ws i s w none old new n within pairs step waits count was is =
+    rw (is, was, count, visits_more ss ws i s w none within pairs step waits)
+    (sym (sum_more (take i (visits_by 1 ss ws)) (visit (more_at i) s w)))
+
+-- and what is kept of each key
+pub at_more : (key : Step → ℕ) (ss : List Step) (ws : List Waits) (i : ℕ) (s : Step) (w none : Waits) (k : ℕ)
+    (got had : Option Group) (now new : Group) (at n : ℕ)
+    → i < length ss → length ws ≡ length ss → s ≡ get_or ss i s → w ≡ get_or ws i none
+    → n ≡ cycles_by (more_at i) w → at ≡ key s
+    → got ≡ cond (is_eq (nat_cmp at k)) (Some new) had
+    → had ≡ group_of (visits_of key k (take i (visits_by 1 ss ws)))
+    → now ≡ before (group_of (visits_of key at (take i (visits_by 1 ss ws)))) s
+    → new ≡ record now { sum = sum_after now.sum n w }
+    → got ≡ group_of (visits_of key k (take (i + 1) (visits_by 1 ss ws)))
+at_more key ss ws i s w none k got had now new at n within pairs step waits count key_is is was kept grown =
+    let visits = take i (visits_by 1 ss ws) in
+    is ∙ (ap (λ (b : Bool). cond b (Some new) had) (same_key at k)
+    ∙ (go (at == k) refl ∙ (ap (λ (n : ℕ). cond (n == k)
+    (Some (group_after (group_of (visits_of key k (take i (visits_by 1 ss ws)))) (visit (more_at i) s w)))
+    (group_of (visits_of key k (take i (visits_by 1 ss ws))))) key_is
+    ∙ (sym (group_more_at key k visits (visit (more_at i) s w))
+    ∙ ap (λ (vs : List Visit). group_of (visits_of key k vs))
+    (sym (visits_more ss ws i s w none within pairs step waits))))))
   where
-    go : (b : Bool) → (s.pc == pc) ≡ b
-        → cond (s.pc == pc) (Some new) had
-        ≡ cond (s.pc == pc) (Some (place_after (place_of (visits_at pc (take i (zip ss ws)))) (s, w)))
-        (place_of (visits_at pc (take i (zip ss ws))))
-    go true e = rw (e, grown, kept, eqb-true s.pc pc e) refl
+    go : (b : Bool) → (at == k) ≡ b
+        → cond (at == k) (Some new) had
+        ≡ cond (at == k)
+        (Some (group_after (group_of (visits_of key k (take i (visits_by 1 ss ws)))) (visit (more_at i) s w)))
+        (group_of (visits_of key k (take i (visits_by 1 ss ws))))
+    go true e = rw (e, grown, count, kept, eqb-true at k e) refl
     go false e = rw (e, was) refl
 
--- where each wait is small, so are the sums of not too many
-summed : (f : Waits → ℕ) (vs : List Visit) → length vs ≤ 2 ^ 28 → ((w : Waits) → AreWithin (2 ^ 35) w → f w ≤ 2 ^ 35)
-    → All (λ (v : Visit). AreWithin (2 ^ 35) v.1) vs → sum_by (λ v. f v.1) vs ≤ 2 ^ 63
-summed f vs few is small =
-    let each = All-weaker (λ (v : Visit). AreWithin (2 ^ 35) v.1) (λ (v : Visit). f v.1 ≤ 2 ^ 35) (λ v h. is v.1 h) vs
-    small in
-    omega (arith, sum_by-le (λ (v : Visit). f v.1) (2 ^ 35) vs each, few)
+-- the key of a step, among those of all steps
+pub key_there : (key : Step → ℕ) (ks : List ℕ) (ss : List Step) (i : ℕ) (s : Step) → ks ≡ map key ss → i < length ss
+    → s ≡ get_or ss i s → get_or ks i 0 ≡ key s
+key_there key ks ss i s are within is = ap (λ (ns : List ℕ). get_or ns i 0) are ∙ (go ss i within ∙ ap key (sym is))
+  where
+    go : (xs : List Step) (j : ℕ) → j < length xs → get_or (map key xs) j 0 ≡ key (get_or xs j s)
+    go [] j l = absurd (omega arith)
+    go (x ∷ xs) zero l = refl
+    go (x ∷ xs) (suc j) l = go xs j (omega arith)
 
-pub within_all : (vs : List Visit) → length vs ≤ 2 ^ 28 → All (λ v. AreWithin (2 ^ 35) v.1) vs
-    → AreWithin (2 ^ 63) (waits_of_all vs)
-within_all vs few small = record {
-  branch = summed (λ w. w.branch) vs few (λ w h. h.branch) small;
-  width = summed (λ w. w.width) vs few (λ w h. h.width) small;
-  station = summed (λ w. w.station) vs few (λ w h. h.station) small;
-  operand = summed (λ w. w.operand) vs few (λ w h. h.operand) small;
-  address = summed (λ w. w.address) vs few (λ w h. h.address) small;
-  memory = summed (λ w. w.memory) vs few (λ w h. h.memory) small;
-  unit = summed (λ w. w.unit) vs few (λ w h. h.unit) small;
-  bus = summed (λ w. w.bus) vs few (λ w h. h.bus) small;
+-- a visit that takes and waits for a small number of cycles
+pub record IsSmall (v : Visit) : Type 0 where
+  pub cycles : v.cycles ≤ 2 ^ 37
+  pub waits : AreWithin (2 ^ 35) v.waits
+
+all_small : (more : ℕ) (ss : List Step) (ws : List Waits) → more ≤ 1 → All (AreWithin (2 ^ 35)) ws
+    → All IsSmall (visits_by more ss ws)
+all_small more [] ws m small = All-nil IsSmall
+all_small more (s ∷ ss) [] m small = All-nil IsSmall
+all_small more (s ∷ ss) (w ∷ ws) m small =
+    let h : AreWithin (2 ^ 35) w = All-head (AreWithin (2 ^ 35)) w ws small in
+    let b : w.branch ≤ 2 ^ 35 = h.branch in
+    let i : w.width ≤ 2 ^ 35 = h.width in
+    let t : w.station ≤ 2 ^ 35 = h.station in
+    All-cons IsSmall (visit more s w) (visits_by 0 ss ws) (record { cycles = omega arith; waits = h })
+    (all_small 0 ss ws (omega arith) (All-tail (AreWithin (2 ^ 35)) w ws small))
+
+-- where each number is small, so are the sums of not too many
+summed : (f : Visit → ℕ) (n : ℕ) (vs : List Visit) → ((v : Visit) → IsSmall v → f v ≤ n) → All IsSmall vs
+    → sum_by f vs ≤ length vs * n
+summed f n vs is small = sum_by-le f n vs (All-weaker IsSmall (λ (v : Visit). f v ≤ n) is vs small)
+
+-- the sums of not too many small visits
+pub record AreSmall (sum : Sum) : Type 0 where
+  pub steps : sum.steps < 2 ^ 63
+  pub cycles : sum.cycles ≤ 2 ^ 62
+  pub waits : AreWithin (2 ^ 63) sum.waits
+
+small_sum : (vs : List Visit) → length vs ≤ 262144 → All IsSmall vs → AreSmall (sum_of vs)
+small_sum vs few small = record {
+  steps = omega (arith, few);
+  cycles = omega (arith, few, summed (λ v. v.cycles) (2 ^ 37) vs (λ v h. h.cycles) small);
+  waits = record {
+    branch = omega (arith, few, summed (λ v. v.waits.branch) (2 ^ 35) vs (λ v h. h.waits.branch) small);
+    width = omega (arith, few, summed (λ v. v.waits.width) (2 ^ 35) vs (λ v h. h.waits.width) small);
+    station = omega (arith, few, summed (λ v. v.waits.station) (2 ^ 35) vs (λ v h. h.waits.station) small);
+    operand = omega (arith, few, summed (λ v. v.waits.operand) (2 ^ 35) vs (λ v h. h.waits.operand) small);
+    address = omega (arith, few, summed (λ v. v.waits.address) (2 ^ 35) vs (λ v h. h.waits.address) small);
+    memory = omega (arith, few, summed (λ v. v.waits.memory) (2 ^ 35) vs (λ v h. h.waits.memory) small);
+    unit = omega (arith, few, summed (λ v. v.waits.unit) (2 ^ 35) vs (λ v h. h.waits.unit) small);
+    bus = omega (arith, few, summed (λ v. v.waits.bus) (2 ^ 35) vs (λ v h. h.waits.bus) small);
+  };
 }
 
-zipped : (ss : List Step) (ws : List Waits) → All (AreWithin (2 ^ 35)) ws
-    → All (λ (v : Visit). AreWithin (2 ^ 35) v.1) (zip ss ws)
-zipped [] ws small = All-nil (λ (v : Visit). AreWithin (2 ^ 35) v.1)
-zipped (s ∷ ss) [] small = All-nil (λ (v : Visit). AreWithin (2 ^ 35) v.1)
-zipped (s ∷ ss) (w ∷ ws) small =
-    All-cons (λ (v : Visit). AreWithin (2 ^ 35) v.1) (s, w) (zip ss ws) (All-head (AreWithin (2 ^ 35)) w ws small)
-    (zipped ss ws (All-tail (AreWithin (2 ^ 35)) w ws small))
+-- the sum of the visits so far
+pub small_so_far : (ss : List Step) (ws : List Waits) (i : ℕ) → length ss ≤ 262144 → All (AreWithin (2 ^ 35)) ws
+    → AreSmall (sum_of (take i (visits_by 1 ss ws)))
+small_so_far ss ws i few small =
+    small_sum (take i (visits_by 1 ss ws))
+    (let k = length_visits 1 ss ws in let l = length-take i (visits_by 1 ss ws) in omega arith)
+    (All-take IsSmall i (visits_by 1 ss ws) (all_small 1 ss ws (omega arith) small))
 
--- the sum of the visits so far, at one address or at all
-pub within_so_far : (ss : List Step) (ws : List Waits) (i : ℕ) → length ss < 2 ^ 28 → All (AreWithin (2 ^ 35)) ws
-    → AreWithin (2 ^ 63) (waits_of_all (take i (zip ss ws)))
-within_so_far ss ws i few small =
-    within_all (take i (zip ss ws)) (rw (length-take i (zip ss ws), length-zip ss ws) (omega (arith, few)))
-    (All-take (λ (v : Visit). AreWithin (2 ^ 35) v.1) i (zip ss ws) (zipped ss ws small))
+pub weaker : (n : ℕ) → n ≤ 2 ^ 62 → n ≤ 2 ^ 63
+weaker n l = omega (arith, l)
 
-sum_before : (xs : List Visit) (v : Visit) → (before (place_of xs) v).sum ≡ sum_of xs
-sum_before [] v = refl
-sum_before (x ∷ xs) v = refl
+sum_before : (xs : List Visit) (s : Step) → (before (group_of xs) s).sum ≡ sum_of xs
+sum_before [] s = refl
+sum_before (x ∷ xs) s = refl
 
-pub within_place : (ss : List Step) (ws : List Waits) (i pc : ℕ) (v : Visit) → length ss < 2 ^ 28
+-- and of those with one key
+pub small_group : (key : Step → ℕ) (ss : List Step) (ws : List Waits) (i k : ℕ) (s : Step) → length ss ≤ 262144
     → All (AreWithin (2 ^ 35)) ws
-    → AreWithin (2 ^ 63) (before (place_of (visits_at pc (take i (zip ss ws)))) v).sum.waits
-within_place ss ws i pc v few small =
-    let visits = take i (zip ss ws) in
-    let is = sum_before (visits_at pc visits) v in
-    rw is (within_all (visits_at pc visits)
-    (omega (
+    → AreSmall (before (group_of (visits_of key k (take i (visits_by 1 ss ws)))) s).sum
+small_group key ss ws i k s few small =
+    let visits = take i (visits_by 1 ss ws) in
+    rw (sum_before (visits_of key k visits) s)
+    (small_sum (visits_of key k visits)
+    (let m = length_visits 1 ss ws in
+    omega (
       arith,
       few,
-      length-filter (λ (v : Visit). v.0.pc == pc) visits,
-      count_by-le-length
-          (λ (v : Visit). v.0.pc == pc) visits,
-      length-take i (zip ss ws),
-      length-zip ss ws,
+      m,
+      length-filter (λ (v : Visit). key v.step == k) visits,
+      count_by-le-length (λ (v : Visit). key v.step == k) visits,
+      length-take i (visits_by 1 ss ws),
     ))
-    (All-filter (λ (v : Visit). v.0.pc == pc) (λ (v : Visit). AreWithin (2 ^ 35) v.1) visits
-    (All-take (λ (v : Visit). AreWithin (2 ^ 35) v.1) i (zip ss ws) (zipped ss ws small))))
-
-pub few_at_place : (ss : List Step) (ws : List Waits) (i pc : ℕ) (v : Visit) → length ss < 2 ^ 28
-    → (before (place_of (visits_at pc (take i (zip ss ws)))) v).sum.steps < 2 ^ 63
-few_at_place ss ws i pc v few =
-    let visits = take i (zip ss ws) in
-    rw (sum_before (visits_at pc visits) v)
-    (omega (
-      arith,
-      few,
-      length-filter (λ (v : Visit). v.0.pc == pc) visits,
-      count_by-le-length
-          (λ (v : Visit). v.0.pc == pc) visits,
-      length-take i (zip ss ws),
-      length-zip ss ws,
-    ))
+    (All-filter (λ (v : Visit). key v.step == k) IsSmall visits
+    (All-take IsSmall i (visits_by 1 ss ws) (all_small 1 ss ws (omega arith) small))))

@@ -1,7 +1,7 @@
 -- The stalls report by place in the program: a record for each address at which the run has a step, rising, with how
--- many steps it has there and how long they wait for what.
-use Rattle.std.specs.Prelude.{◌≡◌, ℕ, ◌==◌, List, [], ◌∷◌, ◌++◌, codes, filter, length, sum_by}
-use Rattle.std.specs.List.{flat_map, list_any, zip}
+-- many steps it has there, how many cycles they take, and how long they wait for what.
+use Rattle.std.specs.Prelude.{◌≡◌, ℕ, ◌+◌, ◌-◌, ◌==◌, List, [], ◌∷◌, ◌++◌, codes, filter, length, sum_by}
+use Rattle.std.specs.List.{flat_map, list_any}
 use Rattle.std.specs.List.Sorted.{IsStrictlySortedBy}
 use Rattle.std.specs.Ordering.{nat_cmp}
 use Rattle.std.specs.Fmt.{decimal}
@@ -9,68 +9,104 @@ use Rattle.tomex_rvdec.specs.Text.{instr_text}
 use Rattle.tomex_rvexec.specs.Texts.{hex8}
 use Rattle.tomex_steps.specs.declared.step.Step.{Step}
 use Rattle.tomex_config.specs.Configuration.{Configuration}
-use Rattle.tomex_timing.specs.Needs.{waits_in}
+use Rattle.tomex_timing.specs.Needs.{drain, waits_in}
+use Rattle.tomex_timing.specs.Search.{history, times_in}
 use Rattle.tomex_timing.specs.declared.part.Waits.{Waits}
+use Rattle.tomex_timing.specs.declared.times.Times.{Times}
 use Rattle.tomex_csv_text.specs.Csv.{record_text}
 
--- a step with its waits
-abbrev pub Visit : Type 0
-Visit = Step × Waits
+-- a step, how many cycles it issues after the step before it, and how long it waits
+pub record Visit : Type 0 where
+  pub step : Step
+  pub cycles : ℕ
+  pub waits : Waits
 
+-- of steps with their times and waits, the step before them having issued in a given cycle
+abbrev pub visits_after : ℕ → List Step → List Times → List Waits → List Visit
+visits_after issue (s ∷ steps) (at ∷ times) (w ∷ waits) =
+    record { step = s; cycles = at.issue - issue; waits = w } ∷ visits_after at.issue steps times waits
+visits_after issue _ _ _ = []
+
+-- before the first step is cycle 0
 abbrev pub visits_in : Configuration → List Step → List Visit
-visits_in config steps = zip steps (waits_in config steps)
+visits_in config steps = visits_after 0 steps (times_in config steps) (waits_in config steps)
 
--- those of the steps at an address
+-- those of the steps with a key, as those at an address
+abbrev pub visits_of : (Step → ℕ) → ℕ → List Visit → List Visit
+visits_of key k visits = filter (λ v. key v.step == k) visits
+
+abbrev pub pc_of : Step → ℕ
+pc_of step = step.pc
+
 abbrev pub visits_at : ℕ → List Visit → List Visit
-visits_at pc visits = filter (λ v. v.0.pc == pc) visits
+visits_at pc visits = visits_of pc_of pc visits
 
--- the addresses of the steps, rising, each once
-pub record ArePlaces (visits : List Visit) (pcs : List ℕ) : Type 0 where
-  pub rising : IsStrictlySortedBy nat_cmp pcs
-  pub those : (pc : ℕ) → list_any (λ p. p == pc) pcs ≡ list_any (λ v. v.0.pc == pc) visits
+-- the keys of the steps, rising, each once
+pub record AreKeys (key : Step → ℕ) (visits : List Visit) (keys : List ℕ) : Type 0 where
+  pub rising : IsStrictlySortedBy nat_cmp keys
+  pub those : (k : ℕ) → list_any (λ p. p == k) keys ≡ list_any (λ v. key v.step == k) visits
 
--- how long some steps wait, all together
+-- and so their addresses
+abbrev pub ArePlaces : List Visit → List ℕ → Type 0
+ArePlaces visits pcs = AreKeys pc_of visits pcs
+
+-- how many cycles some steps take, and how long they wait, all together
+abbrev pub cycles_of : List Visit → ℕ
+cycles_of visits = sum_by (λ v. v.cycles) visits
+
 abbrev pub waits_of_all : List Visit → Waits
 waits_of_all visits = record {
-  branch = sum_by (λ v. v.1.branch) visits;
-  width = sum_by (λ v. v.1.width) visits;
-  station = sum_by (λ v. v.1.station) visits;
-  operand = sum_by (λ v. v.1.operand) visits;
-  address = sum_by (λ v. v.1.address) visits;
-  memory = sum_by (λ v. v.1.memory) visits;
-  unit = sum_by (λ v. v.1.unit) visits;
-  bus = sum_by (λ v. v.1.bus) visits;
+  branch = sum_by (λ v. v.waits.branch) visits;
+  width = sum_by (λ v. v.waits.width) visits;
+  station = sum_by (λ v. v.waits.station) visits;
+  operand = sum_by (λ v. v.waits.operand) visits;
+  address = sum_by (λ v. v.waits.address) visits;
+  memory = sum_by (λ v. v.waits.memory) visits;
+  unit = sum_by (λ v. v.waits.unit) visits;
+  bus = sum_by (λ v. v.waits.bus) visits;
 }
 
-abbrev pub header : List (List ℕ)
-header =
-    codes "pc" ∷ codes "instr" ∷ codes "steps" ∷ codes "branch" ∷ codes "width" ∷ codes "station" ∷ codes "operand"
+-- the names of the columns of sums
+abbrev pub sum_columns : List (List ℕ)
+sum_columns =
+    codes "steps" ∷ codes "cycles" ∷ codes "branch" ∷ codes "width" ∷ codes "station" ∷ codes "operand"
     ∷ codes "address" ∷ codes "memory" ∷ codes "unit" ∷ codes "bus" ∷ []
 
--- how many steps there are, and how long they wait
-abbrev pub sum_fields : ℕ → Waits → List (List ℕ)
-sum_fields steps waits =
-    decimal steps ∷ decimal waits.branch ∷ decimal waits.width ∷ decimal waits.station ∷ decimal waits.operand
-    ∷ decimal waits.address ∷ decimal waits.memory ∷ decimal waits.unit ∷ decimal waits.bus ∷ []
+-- how many steps there are, how many cycles they take, and how long they wait
+abbrev pub sum_fields : ℕ → ℕ → Waits → List (List ℕ)
+sum_fields steps cycles waits =
+    decimal steps ∷ decimal cycles ∷ decimal waits.branch ∷ decimal waits.width ∷ decimal waits.station
+    ∷ decimal waits.operand ∷ decimal waits.address ∷ decimal waits.memory ∷ decimal waits.unit
+    ∷ decimal waits.bus ∷ []
+
+abbrev pub fields_of_visits : List Visit → List (List ℕ)
+fields_of_visits visits = sum_fields (length visits) (cycles_of visits) (waits_of_all visits)
+
+-- the cycles after the last issue, which are no step's
+abbrev pub drain_fields : ℕ → List (List ℕ)
+drain_fields drain = sum_fields 0 drain (waits_of_all [])
+
+-- all steps, and the drain
+abbrev pub total_fields : ℕ → List Visit → List (List ℕ)
+total_fields drain visits = sum_fields (length visits) (cycles_of visits + drain) (waits_of_all visits)
 
 -- the record of the steps at one address, which all have one instruction
 abbrev pub place_record : List Visit → List ℕ
 place_record [] = []
-place_record (v ∷ visits) = record_text
-    (hex8 v.0.pc ∷ instr_text v.0.instr ∷ sum_fields (length (v ∷ visits)) (waits_of_all (v ∷ visits)))
+place_record (v ∷ visits) =
+    record_text (hex8 v.step.pc ∷ instr_text v.step.instr ∷ fields_of_visits (v ∷ visits))
 
--- and that of all steps
-abbrev pub total_record : List Visit → List ℕ
-total_record visits = record_text (codes "total" ∷ codes "-" ∷ sum_fields (length visits) (waits_of_all visits))
-
-abbrev pub report_at : List ℕ → List Visit → List ℕ
-report_at pcs visits =
-    record_text header ++ (flat_map (λ pc. place_record (visits_at pc visits)) pcs ++ total_record visits)
+abbrev pub report_at : List ℕ → ℕ → List Visit → List ℕ
+report_at pcs drain visits =
+    record_text (codes "pc" ∷ codes "instr" ∷ sum_columns)
+    ++ (flat_map (λ pc. place_record (visits_at pc visits)) pcs
+    ++ (record_text (codes "drain" ∷ codes "-" ∷ drain_fields drain)
+    ++ record_text (codes "total" ∷ codes "-" ∷ total_fields drain visits)))
 
 -- the text is the report of these visits
-abbrev pub IsReport : List Visit → List ℕ → Type 0
-IsReport visits text = (pcs : List ℕ) × ArePlaces visits pcs × (text ≡ report_at pcs visits)
+abbrev pub IsReport : ℕ → List Visit → List ℕ → Type 0
+IsReport drain visits text = (pcs : List ℕ) × ArePlaces visits pcs × (text ≡ report_at pcs drain visits)
 
 -- and of a run's steps on a configuration
 abbrev pub IsReportByPlace : Configuration → List Step → List ℕ → Type 0
-IsReportByPlace config steps text = IsReport (visits_in config steps) text
+IsReportByPlace config steps text = IsReport (drain (history config steps)) (visits_in config steps) text

@@ -1,8 +1,10 @@
--- The stalls report of a run: a record for each part of the machine, and one for each thing else that steps wait for.
+-- The stalls report of a run: a record for each part of the machine, one for each thing else that steps wait for, and
+-- the run's floors.
 use Rattle.std.specs.Prelude.{◌≡◌, ℕ, ◌-◌, List, [], ◌∷◌, ◌++◌, codes}
 use Rattle.std.specs.List.{flat_map}
 use Rattle.std.specs.Fmt.{decimal}
 use Rattle.tomex_rvdec.specs.Parts.{name_of_pool, name_of_unit}
+use Rattle.tomex_rvdec.specs.declared.pool.UnitId.{UnitId}
 use Rattle.tomex_steps.specs.declared.step.Step.{Step}
 use Rattle.tomex_config.specs.Configuration.{Configuration}
 use Rattle.tomex_timing.specs.Needs.{AreNeeds, all_parts, count_of, need_of}
@@ -10,6 +12,7 @@ use Rattle.tomex_timing.specs.Search.{history}
 use Rattle.tomex_timing.specs.declared.needs.Needs.{Needs}
 use Rattle.tomex_timing.specs.declared.part.Part.{Part}
 use Rattle.tomex_timing.specs.declared.part.Part.TheVariants.{Stations, Units, Buses, Width}
+use Rattle.tomex_floor.specs.Floor.{floor_of, latency_of}
 use Rattle.tomex_csv_text.specs.Csv.{record_text}
 
 abbrev pub header : List (List ℕ)
@@ -43,11 +46,24 @@ other_records needs =
     ++ (other_record (codes "memory") needs.memory
     ++ (other_record (codes "drain") (needs.total - needs.last_issue) ++ other_record (codes "total") needs.total))))
 
-abbrev pub report_of_needs : Configuration → Needs → List ℕ
-report_of_needs config needs =
-    record_text header ++ (flat_map (part_record config needs) all_parts ++ other_records needs)
+-- how many cycles the run takes at least if so many steps issue a cycle
+unfoldable pub floor_record : ℕ → ℕ → List ℕ
+floor_record width cycles = record_text (codes "floor" ∷ decimal width ∷ codes "-" ∷ decimal cycles ∷ [])
 
--- the text is the report of what a run's steps need on a configuration
+-- a run's floors for the issue widths from 1 to 4
+abbrev pub floor_records : (UnitId → ℕ) → List Step → List ℕ
+floor_records latency steps =
+    floor_record 1 (floor_of latency 1 steps)
+    ++ (floor_record 2 (floor_of latency 2 steps)
+    ++ (floor_record 3 (floor_of latency 3 steps) ++ floor_record 4 (floor_of latency 4 steps)))
+
+abbrev pub report_of_needs : Configuration → Needs → List Step → List ℕ
+report_of_needs config needs steps =
+    record_text header
+    ++ (flat_map (part_record config needs) all_parts
+    ++ (other_records needs ++ floor_records (latency_of config) steps))
+
+-- the text is the report of what a run's steps need on a configuration, with the floors for its latencies
 abbrev pub IsStallsReport : Configuration → List Step → List ℕ → Type 0
 IsStallsReport config steps text =
-    (needs : Needs) × AreNeeds config (history config steps) needs × (text ≡ report_of_needs config needs)
+    (needs : Needs) × AreNeeds config (history config steps) needs × (text ≡ report_of_needs config needs steps)

@@ -1,27 +1,49 @@
--- What is kept of the steps at each address while they are counted.
-use Rattle.std.specs.Prelude.{◌≡◌, ℕ, ◌+◌, List, [], ◌∷◌, ◌++◌, Option, Some, None, codes, length}
+-- What is kept of the steps with each key while they are counted.
+use Rattle.std.specs.Prelude.{◌≡◌, ℕ, zero, suc, ◌+◌, List, [], ◌∷◌, ◌++◌, Option, Some, None, codes, length}
 use Rattle.std.specs.List.{flat_map}
 use Rattle.std.specs.BTreeMap.{get, values}
 use Rattle.std.specs.Ordering.{nat_cmp}
 use Rattle.tomex_rvdec.specs.Text.{instr_text}
 use Rattle.tomex_rvexec.specs.Texts.{hex8}
+use Rattle.tomex_steps.specs.declared.step.Step.{Step}
 use Rattle.tomex_timing.specs.declared.part.Waits.{Waits}
+use Rattle.tomex_config.specs.Configuration.{Configuration}
+use Rattle.tomex_timing.specs.Needs.{drain}
+use Rattle.tomex_timing.specs.Search.{history}
 use Rattle.tomex_csv_text.specs.Csv.{record_text}
-use Rattle.tomex_run_views.specs.declared.tally.Place.{Place}
+use Rattle.tomex_run_views.specs.declared.counted.Counted.{Counted}
+use Rattle.tomex_run_views.specs.declared.tally.Group.{Group}
 use Rattle.tomex_run_views.specs.declared.tally.Sum.{Sum}
 use Rattle.tomex_run_views.specs.declared.tally.Tally.{Tally}
-use Rattle.tomex_run_views.specs.ByPlace.{Visit, header, sum_fields, visits_at, waits_of_all}
+use Rattle.tomex_run_views.specs.ByPlace.{Visit, cycles_of, sum_columns, sum_fields, visits_in, visits_of, waits_of_all}
+
+-- The cycles of a step, by its waits: it issues after the step before it by the cycles in which it waits to issue. The
+-- first step issues so long after cycle 1, and one more after cycle 0.
+abbrev pub cycles_by : ℕ → Waits → ℕ
+cycles_by first waits = waits.branch + waits.width + waits.station + first
+
+-- the cycle more that the first step takes
+abbrev pub more_at : ℕ → ℕ
+more_at zero = 1
+more_at (suc index) = 0
+
+-- the visits of steps with these waits, the first of which takes so many cycles more
+abbrev pub visits_by : ℕ → List Step → List Waits → List Visit
+visits_by first (s ∷ steps) (w ∷ waits) =
+    record { step = s; cycles = cycles_by first w; waits = w } ∷ visits_by 0 steps waits
+visits_by first _ _ = []
 
 abbrev pub sum_of : List Visit → Sum
-sum_of visits = record { steps = length visits; waits = waits_of_all visits }
+sum_of visits = record { steps = length visits; cycles = cycles_of visits; waits = waits_of_all visits }
 
 abbrev pub no_sum : Sum
 no_sum = sum_of []
 
--- with one step more, which waits so long
-abbrev pub sum_after : Sum → Waits → Sum
-sum_after sum w = record {
+-- with one step more
+abbrev pub sum_after : Sum → ℕ → Waits → Sum
+sum_after sum cycles w = record {
   steps = sum.steps + 1;
+  cycles = sum.cycles + cycles;
   waits = record {
     branch = sum.waits.branch + w.branch;
     width = sum.waits.width + w.width;
@@ -34,26 +56,40 @@ sum_after sum w = record {
   };
 }
 
--- what the visits of one address come to, of which there may be none
-abbrev pub place_of : List Visit → Option Place
-place_of [] = None
-place_of (v ∷ visits) = Some (record { first = v.0; sum = sum_of (v ∷ visits) })
-
--- the fields of an address, and of all steps
-abbrev pub place_fields : Place → List (List ℕ)
-place_fields place = hex8 place.first.pc ∷ instr_text place.first.instr ∷ sum_fields place.sum.steps place.sum.waits
-
-abbrev pub total_fields : Sum → List (List ℕ)
-total_fields all = codes "total" ∷ codes "-" ∷ sum_fields all.steps all.waits
-
--- the report of what was counted
-abbrev pub report_of_tally : {A : Type 0} → Tally A → List ℕ
-report_of_tally tally =
-    record_text header
-    ++ (flat_map (λ place. record_text (place_fields place)) (values tally.places)
-    ++ record_text (total_fields tally.all))
+-- what the visits of one key come to, of which there may be none
+abbrev pub group_of : List Visit → Option Group
+group_of [] = None
+group_of (v ∷ visits) = Some (record { first = v.step; sum = sum_of (v ∷ visits) })
 
 -- what visits come to
-pub record IsTally {A : Type 0} (visits : List Visit) (tally : Tally A) : Type 0 where
-  pub places : (pc : ℕ) → get nat_cmp tally.places pc ≡ place_of (visits_at pc visits)
+pub record IsTally {A : Type 0} (key : Step → ℕ) (visits : List Visit) (tally : Tally A) : Type 0 where
+  pub groups : (k : ℕ) → get nat_cmp tally.groups k ≡ group_of (visits_of key k visits)
   pub all : tally.all ≡ sum_of visits
+
+-- the steps of a run on a configuration are counted
+pub record IsCounted {A : Type 0} (key : Step → ℕ) (config : Configuration) (steps : List Step) (counted : Counted A)
+    : Type 0 where
+  pub tally : IsTally key (visits_in config steps) counted.tally
+  pub drain : counted.drain ≡ drain (history config steps)
+
+abbrev pub fields_of_sum : Sum → List (List ℕ)
+fields_of_sum sum = sum_fields sum.steps sum.cycles sum.waits
+
+-- and with the drain
+abbrev pub with_drain : ℕ → Sum → Sum
+with_drain drain sum = record sum { cycles = sum.cycles + drain }
+
+abbrev pub only_drain : ℕ → Sum
+only_drain drain = record no_sum { cycles = drain }
+
+-- the fields of an address
+abbrev pub place_fields : Group → List (List ℕ)
+place_fields place = hex8 place.first.pc ∷ instr_text place.first.instr ∷ fields_of_sum place.sum
+
+-- the report of what was counted by address
+abbrev pub report_of_counted : {A : Type 0} → Counted A → List ℕ
+report_of_counted counted =
+    record_text (codes "pc" ∷ codes "instr" ∷ sum_columns)
+    ++ (flat_map (λ place. record_text (place_fields place)) (values counted.tally.groups)
+    ++ (record_text (codes "drain" ∷ codes "-" ∷ fields_of_sum (only_drain counted.drain))
+    ++ record_text (codes "total" ∷ codes "-" ∷ fields_of_sum (with_drain counted.drain counted.tally.all))))

@@ -3,6 +3,9 @@
 #![tactic(auto)]
 
 mod by_place;
+mod columns;
+mod counted;
+mod drain;
 mod excerpt;
 mod excerpt_error;
 mod laws;
@@ -13,11 +16,14 @@ mod stage;
 mod stalls;
 mod tally;
 
-pub use by_place::stalls_by_pc;
+pub use by_place::{addresses_of, stalls_by_pc};
+pub use columns::{push_sum, put_columns, put_sum};
+pub use counted::{Counted, count_run};
 pub use excerpt::Excerpt;
 pub use excerpt_error::ExcerptError;
-pub use laws::waits_of_places_add_up;
+pub use laws::{cycles_are_accounted_for, places_add_up};
 pub use picture_error::PictureError;
 pub use pipeline::{first_issue, picture_of, pipeline_text, push_picture, signs_of};
 pub use stage::{Stage, stage_in};
 pub use stalls::{push_name_of_part, stalls_report};
+pub use tally::{Group, Sum, Tally};

@@ -1,14 +1,17 @@
-//! The stalls report of a run on one configuration.
+//! The stalls report of a run on one configuration, with its floors.
 
-ghost use Rattle.std.specs.Prelude.{◌≡◌, ◌++◌, ◌∷◌, [], IfOk, OnOk, string_bytes};
+ghost use Rattle.std.specs.Prelude.{◌≡◌, ◌++◌, ◌∷◌, [], ℕ, List, IfOk, OnOk, string_bytes};
 ghost use Rattle.std.specs.List.{flat_map};
 ghost use Rattle.csv.specs.Records.{fields_of, partial_of};
+ghost use Rattle.tomex_rvdec.specs.declared.pool.UnitId.{UnitId};
+ghost use Rattle.tomex_steps.specs.declared.step.Step.{Step};
 ghost use Rattle.tomex_rvexec.specs.Run.{start_of};
 ghost use Rattle.tomex_rvexec.specs.Trace.{steps_from};
 ghost use Rattle.tomex_timing.specs.Needs.{all_parts};
+ghost use Rattle.tomex_floor.specs.Floor.{floors_by_width, latency_of};
 ghost use Rattle.tomex_csv_text.specs.Csv.{IsReady, record_text, written};
-ghost use Rattle.tomex_run_views.specs.StallsReport.{IsStallsReport, header, name_of_part, other_record};
-ghost use Rattle.tomex_run_views.specs.StallsReport.{other_records};
+ghost use Rattle.tomex_run_views.specs.StallsReport.{IsStallsReport, floor_record, floor_records, header};
+ghost use Rattle.tomex_run_views.specs.StallsReport.{name_of_part, other_record, other_records};
 ghost use Rattle.tomex_run_views.specs.StallsReport.{part_fields, part_record, report_of_needs};
 
 use csv::{ByteRecord, Writer};
@@ -16,6 +19,7 @@ use std::alloc::{AllocError, Allocator, Global};
 use std::fmt::Write;
 use tomex_config::Config;
 use tomex_csv_text::{into_text, push_decimal, push_names, put_record};
+use tomex_floor::floors;
 use tomex_study::Program;
 use tomex_timing::evaluate::needs;
 use tomex_timing::{Needs, Part};
@@ -153,40 +157,85 @@ fn put_others<A: Allocator>(
     put_other(writer, heap, "total", needs.total)
 }
 
-/// Writes the report of these needs.
+/// Writes the record of the floor for an issue width.
+#[tactic(auto, unfolding(crate::specs::StallsReport::floor_record))]
+fn put_floor<A: Allocator>(
+    writer: &mut Writer<Vec<u8, A>>,
+    heap: Global,
+    width: u64,
+    cycles: u64,
+) -> Result<(), AllocError>
+    requires ready { IsReady writer.old }
+    ensures ready { OnOk result (IsReady writer.new) }
+    ensures text { OnOk result (written (λ v. v.items) writer.new
+        ≡ written (λ v. v.items) writer.old ++ floor_record width cycles) }
+{
+    let mut record = ByteRecord::new(heap);
+    let mut scratch = String::new(heap);
+    push_names(&mut record, &["floor"])?;
+    push_decimal(&mut record, &mut scratch, width)?;
+    push_names(&mut record, &["-"])?;
+    push_decimal(&mut record, &mut scratch, cycles)?;
+    put_record(writer, &record)
+}
+
+/// Writes the records of the floors, which are those for the issue widths from 1 to 4.
+fn put_floors<A: Allocator>(
+    writer: &mut Writer<Vec<u8, A>>,
+    heap: Global,
+    floors: &[u64; 4],
+) -> Result<(), AllocError>
+    requires { IsReady writer.old }
+    ensures { OnOk result ((latency : UnitId → ℕ) (steps : List Step)
+        → floors.now ≡ floors_by_width latency steps → written (λ v. v.items) writer.new
+        ≡ written (λ v. v.items) writer.old ++ floor_records latency steps) }
+{
+    put_floor(writer, heap, 1, floors[0])?;
+    put_floor(writer, heap, 2, floors[1])?;
+    put_floor(writer, heap, 3, floors[2])?;
+    put_floor(writer, heap, 4, floors[3])
+}
+
+/// Writes the report of these needs and floors.
 fn put_needs<A: Allocator>(
     writer: &mut Writer<Vec<u8, A>>,
     heap: Global,
     config: &Config,
     needs: &Needs,
+    floors: &[u64; 4],
 ) -> Result<(), AllocError>
     requires { IsReady writer.old }
-    ensures { OnOk result (written (λ v. v.items) writer.new
-        ≡ written (λ v. v.items) writer.old ++ report_of_needs config.now needs.now) }
+    ensures { OnOk result ((steps : List Step) → floors.now ≡ floors_by_width (latency_of config.now) steps
+        → written (λ v. v.items) writer.new
+        ≡ written (λ v. v.items) writer.old ++ report_of_needs config.now needs.now steps) }
 {
     put_header(writer, heap)?;
     put_parts(writer, heap, config, needs)?;
-    put_others(writer, heap, needs)
+    put_others(writer, heap, needs)?;
+    put_floors(writer, heap, floors)
 }
 
-/// The report of these needs.
+/// The report of these needs and floors.
 fn text_of_needs<A: Allocator>(
     alloc: A,
     heap: Global,
     config: &Config,
     needs: &Needs,
+    floors: &[u64; 4],
 ) -> Result<Vec<u8, A>, AllocError>
-    ensures { IfOk result (λ text. text.items ≡ report_of_needs config.now needs.now) }
+    ensures { IfOk result (λ text. (steps : List Step)
+        → floors.now ≡ floors_by_width (latency_of config.now) steps
+        → text.items ≡ report_of_needs config.now needs.now steps) }
 {
     let mut writer = Writer::from_writer(Vec::new(alloc));
-    put_needs(&mut writer, heap, config, needs)?;
+    put_needs(&mut writer, heap, config, needs, floors)?;
     into_text(writer)
 }
 
 /// The stalls report of a program on a configuration: CSV with a header, a record for each part with how many the
 /// configuration has, how many of them the run takes at once at most, and for how many cycles its steps wait for one;
 /// then the cycles that they wait for what is no part, the drain, which is the cycles after the last issue, and the
-/// total.
+/// total; last the floors for the issue widths from 1 to 4.
 ///
 /// What `csv` needs for its records it takes of `heap`.
 pub fn stalls_report<A: Allocator + Clone>(
@@ -198,6 +247,8 @@ pub fn stalls_report<A: Allocator + Clone>(
     ensures { IfOk result (λ text.
         IsStallsReport config.now (steps_from program.now.limit (start_of program.now.image)) text.items) }
 {
-    let needs = needs(alloc.clone()?, program.steps(), config)?;
-    text_of_needs(alloc, heap, config, &needs)
+    let steps = program.steps();
+    let needs = needs(alloc.clone()?, steps, config)?;
+    let floors = floors(alloc.clone()?, steps, config)?;
+    text_of_needs(alloc, heap, config, &needs, &floors)
 }

@@ -1,34 +1,45 @@
-//! The steps at each address of a program, counted with their waits.
+//! The steps of each key, such as an address, counted with their cycles and waits.
 
-ghost use Rattle.std.specs.Prelude.{◌≡◌, ◌+◌, ◌*◌, ◌^◌, ◌<◌, ◌≤◌, IfOk, All, length};
-ghost use Rattle.std.specs.List.{zip};
+ghost use Rattle.std.specs.Prelude.{◌≡◌, ◌+◌, ◌*◌, ◌^◌, ◌<◌, ◌≤◌, ℕ, IfOk, All, length, map};
+ghost use Rattle.tomex_steps.specs.declared.step.Step.{Step};
 ghost use Rattle.tomex_timing.specs.Waiting.{AreWithin};
-ghost use Rattle.tomex_run_views.specs.Tally.{IsTally, no_sum, sum_after};
+ghost use Rattle.tomex_run_views.specs.Tally.{IsTally, cycles_by, more_at, no_sum, sum_after, visits_by, with_drain};
 
 use std::alloc::{AllocError, Allocator};
 use std::collections::BTreeMap;
 use tomex_rvexec::Step;
 use tomex_timing::Waits;
 
-/// How many steps there are, and how long they wait, in cycles.
+/// How many steps there are, how many cycles they take, and how long they wait, in cycles.
 #[derive(Clone, Copy, Drop)]
 pub struct Sum {
     pub steps: u64,
+    /// How many cycles each of them issues after the step before it.
+    pub cycles: u64,
     pub waits: Waits,
 }
 
-/// The steps at one address.
+/// The steps with one key.
 #[derive(Clone, Copy, Drop)]
-pub struct Place {
+pub struct Group {
     pub first: Step,
     pub sum: Sum,
 }
 
-/// The steps at each address, and all of them.
+/// The steps of each key, and all of them.
 #[derive(Drop)]
 pub struct Tally<A: Allocator> {
-    pub places: BTreeMap<u32, Place, A>,
+    pub groups: BTreeMap<u64, Group, A>,
     pub all: Sum,
+}
+
+/// How many cycles a step issues after the one before it, or after cycle 0.
+pub fn cycles_of(index: usize, waits: &Waits) -> u64
+    requires { AreWithin (2 ^ 35) waits.now }
+    ensures value { result ≡ cycles_by (more_at index) waits.now }
+    ensures bound { result ≤ 2 ^ 37 }
+{
+    waits.branch + waits.width + waits.station + u64::from(index == 0)
 }
 
 impl Sum {
@@ -38,6 +49,7 @@ impl Sum {
     {
         Sum {
             steps: 0,
+            cycles: 0,
             waits: Waits {
                 branch: 0,
                 width: 0,
@@ -52,13 +64,16 @@ impl Sum {
     }
 
     /// Counts one step more.
-    pub fn add(&mut self, waits: &Waits)
+    pub fn add(&mut self, cycles: u64, waits: &Waits)
         requires steps { self.old.steps < 2 ^ 63 }
+        requires old_cycles { self.old.cycles ≤ 2 ^ 63 }
+        requires cycles { cycles ≤ 2 ^ 62 }
         requires sum { AreWithin (2 ^ 63) self.old.waits }
         requires waits { AreWithin (2 ^ 62) waits.now }
-        ensures { self.new ≡ sum_after self.old waits.now }
+        ensures { self.new ≡ sum_after self.old cycles waits.now }
     {
         self.steps += 1;
+        self.cycles += cycles;
         self.waits.branch += waits.branch;
         self.waits.width += waits.width;
         self.waits.station += waits.station;
@@ -68,50 +83,68 @@ impl Sum {
         self.waits.unit += waits.unit;
         self.waits.bus += waits.bus;
     }
+
+    /// With the cycles of the drain, which are no step's.
+    pub fn with_drain(&self, drain: u64) -> Sum
+        requires cycles { self.now.cycles ≤ 2 ^ 62 }
+        requires drain { drain ≤ 2 ^ 62 }
+        ensures { result ≡ with_drain drain self.now }
+    {
+        let mut sum = *self;
+        sum.cycles += drain;
+        sum
+    }
 }
 
-impl Place {
+impl Group {
     /// Before its first step is counted.
-    fn new(first: Step) -> Place
+    fn new(first: Step) -> Group
         ensures { result ≡ record { first = first; sum = no_sum } }
     {
-        Place {
+        Group {
             first,
             sum: Sum::none(),
         }
     }
 
     /// Counts one step more.
-    fn add(&mut self, waits: &Waits)
+    fn add(&mut self, cycles: u64, waits: &Waits)
         requires steps { self.old.sum.steps < 2 ^ 63 }
+        requires old_cycles { self.old.sum.cycles ≤ 2 ^ 63 }
+        requires cycles { cycles ≤ 2 ^ 62 }
         requires sum { AreWithin (2 ^ 63) self.old.sum.waits }
         requires waits { AreWithin (2 ^ 62) waits.now }
-        ensures { self.new ≡ record self.old { sum = sum_after self.old.sum waits.now } }
+        ensures { self.new ≡ record self.old { sum = sum_after self.old.sum cycles waits.now } }
     {
-        self.sum.add(waits);
+        self.sum.add(cycles, waits);
     }
 }
 
-/// Counts steps with their waits, by address and all together.
-pub fn count_by_place<A: Allocator + Clone>(
+/// Counts steps with their cycles and waits, by key and all together. There is a key and there are waits for each step.
+pub fn count_by_key<A: Allocator + Clone>(
     alloc: A,
+    keys: &[u64],
     steps: &[Step],
     waits: &[Waits],
 ) -> Result<Tally<A>, AllocError>
+    requires few { length steps.now ≤ 262144 }
+    requires keys { (key : Step → ℕ) × (keys.now ≡ map key steps.now) }
     requires pairs { length waits.now ≡ length steps.now }
-    requires few { length steps.now < 2 ^ 28 }
     requires waits { All (AreWithin (2 ^ 35)) waits.now }
-    ensures { IfOk result (IsTally (zip steps.now waits.now)) }
+    ensures counted { IfOk result (λ tally. (key : Step → ℕ) → keys.now ≡ map key steps.now
+        → IsTally key (visits_by 1 steps.now waits.now) tally) }
+    ensures bound { IfOk result (λ tally. tally.all.cycles ≤ 2 ^ 62) }
 {
-    let mut places = BTreeMap::new(alloc);
+    let mut groups = BTreeMap::new(alloc);
     let mut all = Sum::none();
     for (index, step) in steps.iter().enumerate() {
         let waits = &waits[index];
-        all.add(waits);
-        places
-            .entry(step.pc)?
-            .or_insert(Place::new(*step))
-            .add(waits);
+        let cycles = cycles_of(index, waits);
+        all.add(cycles, waits);
+        groups
+            .entry(keys[index])?
+            .or_insert(Group::new(*step))
+            .add(cycles, waits);
     }
-    Ok(Tally { places, all })
+    Ok(Tally { groups, all })
 }

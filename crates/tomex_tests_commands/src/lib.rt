@@ -4,11 +4,15 @@
 #[cfg(test)]
 mod animate;
 #[cfg(test)]
+mod by_function;
+#[cfg(test)]
 mod commands;
 #[cfg(test)]
 mod compiled;
 #[cfg(test)]
 mod elf_images;
+#[cfg(test)]
+mod executables;
 #[cfg(test)]
 mod explain;
 #[cfg(test)]

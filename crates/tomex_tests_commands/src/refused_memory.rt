@@ -2,7 +2,9 @@
 //! other memory.
 
 use super::fronts::{DROPPED_PICTURE, DROPPED_TABLE};
+use crate::by_function::{LOOPS, OF_GNU, PLACES_OF_GNU};
 use crate::commands::{PRODUCT_END, outcome_of, text_of, words_of};
+use crate::executables::BY_GNU;
 use crate::konata::PRODUCT_LOG;
 use crate::pipeline::ON_ONE_STATION;
 use crate::surveys::{TWELVE, TWELVE_PICTURE, TWELVE_PRICES, TWELVE_ROWS, WORTH_FOUR};
@@ -125,6 +127,27 @@ fn of_what_a_program_does(rt: HostRuntime) -> Result<(), Fail> {
         ("mul.bin", PRODUCT.as_slice()),
     ];
     each_is_granted(&rt, files.as_slice(), OF_PRODUCT.as_slice())
+}
+
+/// The same of a program with symbols.
+static OF_LOOPS: [(&str, &str, u64); 2] = [
+    // As by place, with the symbols, the functions of the steps, the calls and the rows.
+    ("tomex stalls study 0 p --by-function", OF_GNU, 15),
+    // The same without calls and rows.
+    (
+        "tomex stalls study 0 p --by-pc --by-function",
+        PLACES_OF_GNU,
+        14,
+    ),
+];
+
+#[test]
+fn of_functions(rt: HostRuntime) -> Result<(), Fail> {
+    let files = [
+        ("study", LOOPS.as_bytes()),
+        ("loops.elf", BY_GNU.as_slice()),
+    ];
+    each_is_granted(&rt, files.as_slice(), OF_LOOPS.as_slice())
 }
 
 #[test]

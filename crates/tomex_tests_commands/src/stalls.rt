@@ -11,7 +11,8 @@ const ON_TWO_STATIONS: &str = "part,count,peak,stalls\n\
     alu,2,2,0\nmul,1,1,0\ndiv,1,0,0\nload,1,0,0\nstore,1,0,0\nbru,1,0,0\n\
     alu_units,1,1,0\nmul_units,1,1,0\ndiv_units,1,0,0\nmem_units,1,0,0\nbru_units,1,0,0\n\
     buses,1,1,0\nwidth,1,1,3\n\
-    branch,-,-,0\noperand,-,-,1\naddress,-,-,0\nmemory,-,-,0\ndrain,-,-,4\ntotal,-,-,8\n";
+    branch,-,-,0\noperand,-,-,1\naddress,-,-,0\nmemory,-,-,0\ndrain,-,-,4\ntotal,-,-,8\n\
+    floor,1,-,8\nfloor,2,-,7\nfloor,3,-,7\nfloor,4,-,7\n";
 
 /// Lines, and their results.
 static ASKED: [Asked; 7] = [

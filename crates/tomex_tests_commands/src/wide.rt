@@ -24,7 +24,8 @@ const STALLS: &str = "part,count,peak,stalls\n\
     alu,2,2,0\nmul,1,1,0\ndiv,1,0,0\nload,1,0,0\nstore,1,0,0\nbru,1,0,0\n\
     alu_units,2,2,0\nmul_units,1,1,0\ndiv_units,1,0,0\nmem_units,1,0,0\nbru_units,1,0,0\n\
     buses,2,2,0\nwidth,2,2,1\n\
-    branch,-,-,0\noperand,-,-,1\naddress,-,-,0\nmemory,-,-,0\ndrain,-,-,5\ntotal,-,-,7\n";
+    branch,-,-,0\noperand,-,-,1\naddress,-,-,0\nmemory,-,-,0\ndrain,-,-,5\ntotal,-,-,7\n\
+    floor,1,-,8\nfloor,2,-,7\nfloor,3,-,7\nfloor,4,-,7\n";
 
 static ASKED: [Asked; 3] = [
     ("tomex times study 0 mul", (0, TIMES, "")),

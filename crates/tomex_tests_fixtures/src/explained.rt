@@ -6,6 +6,7 @@ bad window
 too long
 no such row
 no such program
+no symbols
 no such step
 picture too large
 table too large

@@ -61,7 +61,10 @@ fn told_of_a_program(alloc: Global, line: &Line) -> Result<String, AllocError> {
                 config,
                 program,
             } = stalls.run;
-            format!(in alloc; "stalls {study} {config} {program} {}", stalls.by_pc)
+            format!(in alloc;
+                "stalls {study} {config} {program} {} {}",
+                stalls.by_pc, stalls.by_function
+            )
         }
         Line::Pipeline(pipeline) => {
             let OneRun {
@@ -122,7 +125,7 @@ fn told(alloc: Global, line: &str) -> Result<String, AllocError> {
 }
 
 /// Lines, and the beginnings of their results.
-static READ: [(&str, &str); 63] = [
+static READ: [(&str, &str); 65] = [
     ("run mul.bin", "run mul.bin 0 65536 262144"),
     (
         "run a --base 4294967292 --size 4 --limit 1",
@@ -130,11 +133,19 @@ static READ: [(&str, &str); 63] = [
     ),
     ("times study 0 a", "times study 0 a"),
     ("times study 16383 -- -a", "times study 16383 -a"),
-    ("stalls study 0 a", "stalls study 0 a false"),
-    ("stalls study 0 a --by-pc", "stalls study 0 a true"),
+    ("stalls study 0 a", "stalls study 0 a false false"),
+    ("stalls study 0 a --by-pc", "stalls study 0 a true false"),
     (
         "stalls --by-pc study 16383 -- -a",
-        "stalls study 16383 -a true",
+        "stalls study 16383 -a true false",
+    ),
+    (
+        "stalls study 0 a --by-function",
+        "stalls study 0 a false true",
+    ),
+    (
+        "stalls --by-function study --by-pc 16383 -- -a",
+        "stalls study 16383 -a true true",
     ),
     ("stalls --help", "help Prints, for each part"),
     ("stalls -h", "help Prints which parts"),
@@ -256,7 +267,7 @@ fn help_is_whole(rt: HostRuntime) -> Result<(), Fail> {
     Ok(())
 }
 
-static REFUSED: [&str; 37] = [
+static REFUSED: [&str; 39] = [
     "run a --base 4294967293",
     "run a --base -4",
     "run a --base 0x10",
@@ -274,6 +285,8 @@ static REFUSED: [&str; 37] = [
     "stalls study 0",
     "stalls study 0 a --by-pc 1",
     "stalls study 0 a --by-pc --by-pc",
+    "stalls study 0 a --by-function=1",
+    "stalls study 0 a --by-function --by-function",
     "pipeline study 16384 a",
     "pipeline study 0",
     "pipeline study 0 a --from 0",

@@ -105,12 +105,13 @@ fn studies(rt: HostRuntime) -> Result<(), Fail> {
 }
 
 /// Refusals by commands themselves, as the definition of reports has them.
-static COMMANDS: [(&str, &str); 16] = [
+static COMMANDS: [(&str, &str); 17] = [
     ("tomex: bad window", "bad window"),
     ("too long", "too long"),
     ("tomex: program a: too long", "too long"),
     ("tomex: no such row", "no such row"),
     ("tomex: no such program", "no such program"),
+    ("tomex: no symbols", "no symbols"),
     ("tomex: no such step", "no such step"),
     ("tomex: picture too large", "picture too large"),
     ("tomex: table too large", "table too large"),

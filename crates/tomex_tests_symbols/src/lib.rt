@@ -3,6 +3,8 @@
 #![tactic(auto)]
 
 #[cfg(test)]
+mod by_function;
+#[cfg(test)]
 mod files;
 #[cfg(test)]
 mod functions;

@@ -1,6 +1,6 @@
 //! The study that a command is about.
 ghost use Rattle.std.specs.Prelude.{IfOk, IfErr, map};
-ghost use Rattle.tomex_command.specs.StudyFiles.{AreSources, IsStudyIn, IsStudyFailure};
+ghost use Rattle.tomex_command.specs.StudyFiles.{AreSources, IsStudyIn, IsStudyFailure, IsStudyWith};
 
 use super::reading::{read, read_all};
 use crate::failure::Failure;
@@ -13,6 +13,13 @@ use tomex_study::Study;
 #[derive(Drop)]
 pub struct Sources<A: Allocator> {
     pub study: Vec<u8, A>,
+    pub files: Vec<Vec<u8, A>, A>,
+}
+
+/// A study, and the bytes of its programs' files, in the order of the programs.
+#[derive(Drop)]
+pub struct Studied<A: Allocator> {
+    pub study: Study<A>,
     pub files: Vec<Vec<u8, A>, A>,
 }
 
@@ -50,4 +57,29 @@ pub fn study_in<F: Files, A: Allocator + Clone>(
     let sources = sources_in(alloc.clone()?, heap, files, name)?;
     let (study, contents) = (sources.study.as_slice(), sources.files.as_slice());
     Ok(read_study(alloc, heap, study, contents)?)
+}
+
+/// The study of a file, and the files that it names.
+pub fn studied_in<F: Files, A: Allocator + Clone>(
+    alloc: A,
+    heap: Global,
+    files: &F,
+    name: &str,
+) -> Result<Studied<A>, Failure>
+    ensures study { IfOk result
+        (λ studied. IsStudyWith (F.file files.now) name.now studied.study
+        (map (λ bytes. bytes.items) studied.files.items)) }
+    ensures failure { IfErr result (λ failure. IsStudyFailure (F.file files.now) name.now failure) }
+{
+    let sources = sources_in(alloc.clone()?, heap, files, name)?;
+    let study = read_study(
+        alloc,
+        heap,
+        sources.study.as_slice(),
+        sources.files.as_slice(),
+    )?;
+    Ok(Studied {
+        study,
+        files: sources.files,
+    })
 }

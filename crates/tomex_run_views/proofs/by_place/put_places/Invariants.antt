@@ -13,5 +13,5 @@ invariant-loop-place g l = record {
   ready : IsReady l.writer;
   text : written (λ v. v.items) l.writer ++ flat_map (λ place. record_text (place_fields place)) l.place-iterator
       ≡ written (λ v. v.items) l.fn.writer
-      ++ flat_map (λ place. record_text (place_fields place)) (values l.tally.places);
+      ++ flat_map (λ place. record_text (place_fields place)) (values l.tally.groups);
 }

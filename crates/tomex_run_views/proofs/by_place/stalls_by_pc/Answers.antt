@@ -1,24 +1,15 @@
--- The waits are small, and what was counted is the report of the run's visits.
-use Rattle.std.proofs.Common.{◌≤◌, ◌^◌, ◌*◌, arith, subst, List}
-use Rattle.std.specs.Prelude.{IfOk, length}
-use Rattle.std.proofs.lemmas.List.Elements.{All-weaker}
-use Rattle.tomex_timing.specs.Waiting.{AreWithin}
-use Rattle.tomex_run_views.specs.ByPlace.{IsReport, Visit}
-use Rattle.tomex_run_views.proofs.Reports.{report_of, visits_are, wider}
+-- What was counted by address is the report by place.
+use Rattle.std.proofs.Common.{◌∙◌, subst, List}
+use Rattle.std.specs.Prelude.{IfOk}
+use Rattle.tomex_steps.specs.declared.step.Step.{Step}
+use Rattle.tomex_run_views.specs.ByPlace.{IsReportByPlace, pc_of}
+use Rattle.tomex_run_views.proofs.Reports.{report_of}
 use Rattle.tomex_run_views.proofs.by_place.stalls_by_pc.Goals as goal
-
-pub count_by_place-requires-clause-waits : goal.count_by_place-requires-clause-waits
-count_by_place-requires-clause-waits g c =
-    let few : 67 * length c.steps-steps.result.now ≤ 2 ^ 35 = omega (arith, c.steps-steps.ensures.few) in
-    rw c.as_slice.ensures.value
-    (All-weaker (AreWithin (67 * length c.steps-steps.result.now)) (AreWithin (2 ^ 35))
-    (λ w h. wider (67 * length c.steps-steps.result.now) (2 ^ 35) w few h)
-    c.in_ok-waits.waits.items c.in_ok-waits.ensures.bound)
 
 pub returns : goal.returns
 returns g c =
-    let visits = visits_are c.args.config.now _ c.steps-steps.result.now _ c.as_slice.result.now
-    c.steps-steps.ensures.steps c.in_ok-waits.ensures.exact c.as_slice.ensures.value in
-    subst (λ (vs : List Visit). IfOk c.text_of_tally.result (λ text. IsReport vs text.items)) visits
-    (report_of c.text_of_tally.result _ c.in_ok-tally.tally c.in_ok-tally.ensures c.text_of_tally.ensures.text
-    c.text_of_tally.ensures.rising)
+    subst (λ (ss : List Step). IfOk c.text_of_counted.result (λ text. IsReportByPlace c.args.config.now ss text.items))
+    c.steps-steps.ensures.steps
+    (report_of c.text_of_counted.result c.args.config.now c.steps-steps.result.now _
+    (c.in_ok-counted.ensures.counted pc_of (c.as_slice.ensures.value ∙ c.in_ok-addresses.ensures))
+    c.text_of_counted.ensures.text c.text_of_counted.ensures.rising)

@@ -1,4 +1,4 @@
--- A command with its last argument.
+-- The arguments, one after the other.
 use Rattle.std.proofs.Common.{ap}
 use Rattle.std.proofs.lemmas.Result.{IfOk-weaker}
 use Rattle.clap.specs.Words.{App}
@@ -7,5 +7,6 @@ use Rattle.tomex_command_line.proofs.line.stalls.grammar.Goals as goal
 
 pub returns : goal.returns
 returns c =
-    let last = taken _ _ _ _ _ c.taking.ensures c.on_one_run-command.ensures c.flag.ensures.rule in
-    IfOk-weaker c.taking.result _ _ (λ made is. ap (λ (a : App). a.top) is) last
+    let four = taken _ _ _ _ _ c.taking-command.ensures c.on_one_run-command.ensures c.flag.ensures.rule in
+    let five = taken _ _ _ _ _ c.taking.ensures four c.flag-2.ensures.rule in
+    IfOk-weaker c.taking.result _ _ (λ made is. ap (λ (a : App). a.top) is) five

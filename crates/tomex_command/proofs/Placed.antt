@@ -1,0 +1,85 @@
+-- The place of a program of a study, and its file.
+use Rattle.std.proofs.Common.{◌≡◌, ◌<◌, ◌≤◌, ◌∙◌, ap, arith, ℕ, Bool, true, false, cond, List, [], ◌∷◌, length}
+use Rattle.std.proofs.Common.{Some, None, Err, map, refl, subst, sym}
+use Rattle.std.specs.Prelude.{nat_lt, slice_get, Result}
+use Rattle.std.specs.List.{find, position, position_or_len}
+use Rattle.std.specs.Str.{bytes_eq}
+use Rattle.std.proofs.lemmas.Bool.{leb-true}
+use Rattle.std.proofs.lemmas.List.{length-map}
+use Rattle.std.proofs.lemmas.List.Folds.{find_at}
+use Rattle.std.proofs.lemmas.Option.{slice_get_past}
+use Rattle.tomex_config.specs.Configuration.{Configuration}
+use Rattle.tomex_study.specs.Program.{Workload}
+use Rattle.tomex_study.specs.Study.{DesignSpace}
+use Rattle.tomex_study_reader.specs.Study.{AreProgramsOf}
+use Rattle.tomex_document.specs.Program.{ProgramEntry}
+use Rattle.tomex_streams.specs.Files.{Told}
+use Rattle.tomex_command.specs.Chosen.{IsUnchosen}
+use Rattle.tomex_command.specs.StudyFiles.{IsStudyWith}
+use Rattle.tomex_command.specs.declared.failure.Failure.{Failure}
+use Rattle.tomex_command.specs.declared.failure.Failure.TheVariants.{NoSuchProgram}
+
+module _ {X : Type 0} (p : X → Bool) (xs : List X) where
+  -- what is found stands at the first place
+  pub found_at : (n : ℕ) → position p xs ≡ Some n → find p xs ≡ slice_get xs n
+  found_at n is = find_at p xs ∙ ap (λ (k : ℕ). slice_get xs k) (go (nat_lt (position_or_len p xs) (length xs)) is)
+    where
+      go : (b : Bool) → cond b (Some (position_or_len p xs)) None ≡ Some n → position_or_len p xs ≡ n
+      go true e = cc
+      go false e = absurd (cc)
+
+  pub place_inside : (n : ℕ) → position p xs ≡ Some n → n < length xs
+  place_inside n is = go (nat_lt (position_or_len p xs) (length xs)) refl is
+    where
+      go : (b : Bool) → nat_lt (position_or_len p xs) (length xs) ≡ b
+          → cond b (Some (position_or_len p xs)) None ≡ Some n → n < length xs
+      go true less e =
+          let k : position_or_len p xs ≡ n = cc in
+          let low : position_or_len p xs < length xs = leb-true _ _ less in
+          omega (arith, low, k)
+      go false less e = absurd (cc)
+
+  -- if there is no place, none is found
+  none_found : position p xs ≡ None → find p xs ≡ None
+  none_found is =
+      find_at p xs ∙ slice_get_past xs (position_or_len p xs)
+      (go (nat_lt (position_or_len p xs) (length xs)) refl is)
+    where
+      go : (b : Bool) → nat_lt (position_or_len p xs) (length xs) ≡ b
+          → cond b (Some (position_or_len p xs)) None ≡ None → length xs ≤ position_or_len p xs
+      go true less e = absurd (cc)
+      go false less e = grind (arith)
+
+-- there are as many files as programs
+as_many_files : (entries : List ProgramEntry) (files : List (List ℕ)) (programs : List Workload)
+    → AreProgramsOf entries files programs → length files ≡ length programs
+as_many_files [] [] [] are = refl
+as_many_files (e ∷ es) (f ∷ fs) (p ∷ ps) are = let rest = as_many_files es fs ps are.1 in omega (arith, rest)
+as_many_files [] [] (p ∷ ps) are = absurd are
+as_many_files [] (f ∷ fs) ps are = absurd are
+as_many_files (e ∷ es) [] ps are = absurd are
+as_many_files (e ∷ es) (f ∷ fs) [] are = absurd are
+
+-- the answer if there is no place
+abbrev no_place : Failure → Result ℕ Failure
+no_place failure = Err failure
+
+-- then there is the configuration and no program of that name
+pub without_program : (study : DesignSpace) (number : ℕ) (name : List ℕ) (config : Configuration)
+    (failure same : Failure)
+    → slice_get study.rows number ≡ Some config → position (λ p. bytes_eq p.name name) study.programs ≡ None
+    → failure ≡ same → no_place same ≡ no_place NoSuchProgram → IsUnchosen study number name failure
+without_program study number name config failure same config_is none is err =
+    let there : failure ≡ NoSuchProgram = cc in
+    subst (λ (f : Failure). IsUnchosen study number name f) (sym there) (record {
+      config = config;
+      config_is = config_is;
+      program_is = none_found (λ p. bytes_eq p.name name) study.programs none;
+    })
+
+-- so it is of a study that was read with its files
+pub as_many_in : {Y : Type 0} (file : List ℕ → Told) (name : List ℕ) (study : DesignSpace) (f : Y → List ℕ)
+    (files : List Y) → IsStudyWith file name study (map f files) → length files ≡ length study.programs
+as_many_in file name study f files is =
+    sym (length-map files f) ∙ as_many_files is.stands.document.programs (map f files) study.programs
+    is.stands.programs

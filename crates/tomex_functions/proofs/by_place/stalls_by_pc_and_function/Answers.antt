@@ -1,0 +1,24 @@
+-- The report of the places, if the file has symbols.
+use Rattle.std.proofs.Common.{◌≡◌, ◌∙◌, sym, length, rules}
+use Rattle.std.specs.Vec.{vec_len}
+use Rattle.tomex_run_views.specs.ByPlace.{pc_of}
+use Rattle.tomex_functions.proofs.Listings.{addresses_are}
+use Rattle.tomex_functions.proofs.Texts.{no_symbols, report_by_place}
+use Rattle.tomex_functions.proofs.by_place.stalls_by_pc_and_function.Goals as goal
+
+pub returns-clause-text : goal.returns-clause-text
+returns-clause-text g c =
+    let symbols = c.in_ok-symbols.symbols.items in
+    let counted = c.in_ok-counted.ensures.counted pc_of (c.as_slice.ensures.value ∙ c.in_ok-addresses.ensures) in
+    let ordered = c.in_ok-text_of_counted.ensures.rising in
+    let has = addresses_are pc_of c.args.config.now c.steps-steps.result.now c.in_ok-counted.counted.tally counted.tally
+    ordered in
+    report_by_place c.args.file.now symbols c.args.config.now c.steps-steps.result.now _ c.in_ok-counted.counted _
+    c.in_ok-symbols.ensures.value c.steps-steps.ensures.steps counted ordered
+    (c.in_ok-text_of_counted.ensures.text symbols c.steps-steps.result.now c.in_ok-index.ensures has)
+
+pub returns-then-is_empty-clause-none : goal.returns-then-is_empty-clause-none
+returns-then-is_empty-clause-none g c = λ e.
+    let len : length c.in_ok-symbols.symbols.items ≡ vec_len c.in_ok-symbols.symbols = search rules in
+    no_symbols c.in_ok-symbols.symbols c.args.file.now len (sym c.is_empty.ensures ∙ c.if-is_empty.true)
+    c.in_ok-symbols.ensures.value

@@ -1,0 +1,102 @@
+-- What is kept of a run's functions while its steps are counted.
+use Rattle.std.specs.Prelude.{◌≡◌, ℕ, zero, suc, ◌<◌, List, [], ◌∷◌, ◌++◌, Option, Some, None, All, codes, length, map}
+use Rattle.std.specs.Prelude.{slice_index_or, IsPermutation, unwrap_or}
+use Rattle.std.specs.List.{flat_map}
+use Rattle.std.specs.List.Sorted.{IsNonDecreasing}
+use Rattle.std.specs.BTreeMap.{get, values}
+use Rattle.std.specs.Fmt.{decimal}
+use Rattle.std.specs.declared.cmp.Reverse.{Reverse}
+use Rattle.std.specs.Ordering.{nat_cmp}
+use Rattle.tomex_steps.specs.declared.step.Step.{Step}
+use Rattle.tomex_symbols.specs.Functions.{function_at}
+use Rattle.tomex_symbols.specs.declared.symbol.Symbol.{Symbol}
+use Rattle.tomex_rvdec.specs.Text.{instr_text}
+use Rattle.tomex_rvexec.specs.Texts.{hex8}
+use Rattle.tomex_config.specs.Configuration.{Configuration}
+use Rattle.tomex_timing.specs.Needs.{drain}
+use Rattle.tomex_timing.specs.Search.{history}
+use Rattle.tomex_csv_text.specs.Csv.{record_text}
+use Rattle.tomex_run_views.specs.declared.counted.Counted.{Counted}
+use Rattle.tomex_run_views.specs.declared.tally.Group.{Group}
+use Rattle.tomex_run_views.specs.ByPlace.{pc_of, sum_columns, visits_in}
+use Rattle.tomex_run_views.specs.Tally.{fields_of_sum, only_drain, sum_of, with_drain}
+use Rattle.tomex_functions.specs.declared.index.Index.{Index}
+use Rattle.tomex_functions.specs.declared.calls.Calls.{Calls}
+use Rattle.tomex_functions.specs.declared.rows.Listing.{Listing}
+use Rattle.tomex_functions.specs.declared.rows.Row.{Row}
+use Rattle.tomex_functions.specs.ByFunction.{AreRows, row_fields}
+use Rattle.tomex_functions.specs.Calls.{calls_in, calls_of}
+use Rattle.tomex_functions.specs.Functions.{function_key, function_of}
+use Rattle.tomex_functions.specs.ShownNames.{name_field}
+
+-- the addresses of a run's steps, in order, and their functions
+pub record IsIndexOf {A : Type 0} (symbols : List Symbol) (steps : List Step) (index : Index A) : Type 0 where
+  pub order : IsNonDecreasing index.addresses.items
+  pub those : IsPermutation (map pc_of steps) index.addresses.items
+  pub functions : index.functions.items ≡ map (function_at symbols) index.addresses.items
+
+-- a step of the run stands at the address
+abbrev pub HasAddress : ℕ → List Step → Type 0
+HasAddress pc steps = (i : ℕ) × (i < length steps) × (slice_index_or (map pc_of steps) i 0 ≡ pc)
+
+-- the step before the one at an index, the first one coming after a given one, if any
+abbrev pub before_at : Option Step → ℕ → List Step → Option Step
+before_at before zero steps = before
+before_at before (suc i) [] = before
+before_at before (suc i) (s ∷ steps) = before_at (Some s) i steps
+
+-- how often each function is called, by its key, and how often any is
+pub record AreCalls {A : Type 0} (symbols : List Symbol) (steps : List Step) (calls : Calls A) : Type 0 where
+  pub by_key : (k : ℕ) → unwrap_or (get nat_cmp calls.by_key k) 0 ≡ calls_of symbols k (calls_in symbols steps)
+  pub all : calls.all ≡ length (calls_in symbols steps)
+
+-- the row of what was counted of a function's steps
+abbrev pub row_of_group : List Symbol → List Step → Group → Row
+row_of_group symbols calls group = record {
+  function = function_of symbols group.first;
+  calls = calls_of symbols (function_key symbols group.first) calls;
+  sum = group.sum;
+}
+
+-- the functions of a run on a configuration
+pub record IsListing {A : Type 0} (symbols : List Symbol) (config : Configuration) (steps : List Step)
+    (listing : Listing A) : Type 0 where
+  pub rows : AreRows symbols (calls_in symbols steps) (visits_in config steps) listing.rows.items
+  pub last : listing.drain ≡ only_drain (drain (history config steps))
+  pub all : listing.total ≡ with_drain (drain (history config steps)) (sum_of (visits_in config steps))
+  pub calls : listing.calls ≡ length (calls_in symbols steps)
+
+-- the fields of all steps
+abbrev pub total_fields : {A : Type 0} → Listing A → List (List ℕ)
+total_fields listing = codes "total" ∷ codes "-" ∷ decimal listing.calls ∷ fields_of_sum listing.total
+
+-- their report
+abbrev pub report_of_listing : {A : Type 0} → List ℕ → Listing A → List ℕ
+report_of_listing file listing =
+    record_text (codes "pc" ∷ codes "function" ∷ codes "calls" ∷ sum_columns)
+    ++ (flat_map (λ row. record_text (row_fields file row)) listing.rows.items
+    ++ (record_text (codes "drain" ∷ codes "-" ∷ codes "0" ∷ fields_of_sum listing.drain)
+    ++ record_text (total_fields listing)))
+
+-- and that of what was counted by address
+abbrev pub with_function : List ℕ → Group → Option Symbol → List (List ℕ)
+with_function file place function =
+    hex8 place.first.pc ∷ instr_text place.first.instr ∷ name_field file function ∷ fields_of_sum place.sum
+
+abbrev pub place_fields : List ℕ → List Symbol → Group → List (List ℕ)
+place_fields file symbols place = with_function file place (function_of symbols place.first)
+
+abbrev pub report_of_counted : {A : Type 0} → List ℕ → List Symbol → Counted A → List ℕ
+report_of_counted file symbols counted =
+    record_text (codes "pc" ∷ codes "instr" ∷ codes "function" ∷ sum_columns)
+    ++ (flat_map (λ place. record_text (place_fields file symbols place)) (values counted.tally.groups)
+    ++ (record_text (codes "drain" ∷ codes "-" ∷ codes "-" ∷ fields_of_sum (only_drain counted.drain))
+    ++ record_text (codes "total" ∷ codes "-" ∷ codes "-" ∷ fields_of_sum (with_drain counted.drain counted.tally.all))))
+
+-- what rows are ordered by: is there no function, the cycles, the greatest first, the address, and the number
+abbrev pub key_with : ℕ → Option Symbol → ℕ × Reverse ℕ × ℕ × ℕ
+key_with cycles (Some f) = (0, record { 0 = cycles }, f.address, f.number)
+key_with cycles None = (1, record { 0 = cycles }, 0, 0)
+
+abbrev pub sort_key : Row → ℕ × Reverse ℕ × ℕ × ℕ
+sort_key row = key_with row.sum.cycles row.function
