@@ -1,5 +1,5 @@
 -- The program and its file are found at one place, which is inside both lists.
-use Rattle.std.proofs.Common.{◌≡◌, ◌≤◌, ◌<◌, ◌∙◌, ap, arith, sym, ℕ, Bool, List, length, Some, None, Option, map}
+use Rattle.std.proofs.Common.{◌<◌, ◌∙◌, ap, arith, sym, ℕ, Bool, List, length, Some}
 use Rattle.std.specs.Prelude.{option_copied}
 use Rattle.std.specs.Option.{option_map}
 use Rattle.std.specs.Str.{bytes_eq}
