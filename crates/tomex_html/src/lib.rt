@@ -11,7 +11,7 @@ mod names;
 mod page;
 mod tables;
 
-pub use laws::{marks_are_differences, names_are_text};
+pub use laws::{ids_are_apart, marks_are_differences, names_are_text};
 pub use links::{Links, push_links};
 pub use names::push_name;
 pub use page::{push_page_end, push_page_start};
