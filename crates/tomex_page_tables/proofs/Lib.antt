@@ -3,3 +3,4 @@ mod Chosen
 mod Firsts
 mod PriceLines
 mod Programs
+mod Signed

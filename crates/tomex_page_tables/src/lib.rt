@@ -18,7 +18,7 @@ mod tables;
 pub use asked::{push_lists_table, push_programs_table};
 pub use changed::push_changes_table;
 pub use front::push_front_table;
-pub use laws::costs_of_parts_add_up;
+pub use laws::{costs_of_parts_add_up, differences_add_up};
 pub use parts::{push_against, push_parts_table};
 pub use shown::{MOST_ROWS, ShownRow, row_of, shown_of};
 pub use stays::{PriceBook, push_prices_table};
