@@ -16,7 +16,7 @@ all_values P f a (suc n) each =
     (all_values P f (a + 1) n (λ k below. each k (omega (arith, below))))
 
 -- each place is within the front
-place_within : (n k : ℕ) → 0 < n → k < 64 → chosen_place n k < n
+pub place_within : (n k : ℕ) → 0 < n → k < 64 → chosen_place n k < n
 place_within n k some few = grind arith
 
 all_cond : (front other : List FrontRow) (b : Bool) → All (Contains front) front
