@@ -1,6 +1,6 @@
 -- What a run's views list, and how often a word stands in them.
-use Rattle.std.proofs.Common.{ℕ, ◌+◌, ◌-◌, ◌<◌, ◌≤◌, ◌≡◌, ◌∙◌, ap, subst, sym, Bool, true, false, cond, arith, refl}
-use Rattle.std.proofs.Common.{inl, inr, Option, Some, None, List, [], ◌∷◌, ◌++◌, length, max, reverse}
+use Rattle.std.proofs.Common.{ℕ, ◌+◌, ◌-◌, ◌<◌, ◌≤◌, ◌≡◌, ◌∙◌, ap, subst, sym, true, false, arith, refl}
+use Rattle.std.proofs.Common.{inl, inr, None, List, [], ◌∷◌, ◌++◌, length, max, reverse}
 use Rattle.std.specs.Prelude.{All, codes, count_by, nat_le, sum_by}
 use Rattle.std.specs.List.{Contains, filter, flat_map, range_with_len}
 use Rattle.std.specs.Str.{bytes_eq}
@@ -10,22 +10,21 @@ use Rattle.std.proofs.lemmas.List.Elements.{All-contains, All-weaker, Contains-a
 use Rattle.std.proofs.lemmas.List.Sums.{sum_by-cons}
 use Rattle.tomex_steps.specs.declared.step.Step.{Step}
 use Rattle.tomex_config.specs.Configuration.{Configuration, IsWithinLimits}
-use Rattle.tomex_timing.specs.History.{greatest_end, last_issue}
+use Rattle.tomex_timing.specs.History.{last_issue}
 use Rattle.tomex_timing.specs.Needs.{stalls_by, waits_in}
-use Rattle.tomex_timing.specs.Recurrence.{AreTimed}
 use Rattle.tomex_timing.specs.Search.{history, times_in, times_of, total_of}
 use Rattle.tomex_timing.specs.declared.part.Waits.{Waits}
 use Rattle.tomex_timing.specs.declared.times.Done.{Done}
 use Rattle.tomex_timing.specs.declared.times.Times.{Times}
 use Rattle.tomex_timing.proofs.Accounts.{kind_stalls, station_stalls}
-use Rattle.tomex_timing.proofs.Histories.{are_timed, history_more, length-times_in, total_is}
+use Rattle.tomex_timing.proofs.Histories.{are_timed, history_more, length-times_in}
 use Rattle.tomex_timing.proofs.WaitLists.{length-waits_in, waits_add_up}
 use Rattle.tomex_html.specs.Html.{table_end}
 use Rattle.tomex_snapshots.specs.Entries.{entries_from, entries_of, is_there}
 use Rattle.tomex_snapshots.specs.declared.entries.Entry.{Entry}
 use Rattle.tomex_snapshots.specs.declared.entries.Span.{Span}
 use Rattle.tomex_frames.specs.Cells.{doing_in, doing_text}
-use Rattle.tomex_frames.specs.Laws.{IsOn, NextIsListed, NothingIsLost, RowsAreOfSteps, ShowStalls, ShowsWaits}
+use Rattle.tomex_frames.specs.Laws.{IsOn, NextIsListed, NothingIsLost, RowsAreOfSteps, ShowsWaits}
 use Rattle.tomex_frames.specs.Laws.{StepsShowTheirWaits, ViewsShowStalls, WaitsComeBeforeIssues, cycles_with}
 use Rattle.tomex_frames.specs.Laws.{rows_of, rows_with, says}
 use Rattle.tomex_frames.specs.Constants.{status_head}
