@@ -20,7 +20,7 @@ use Rattle.tomex_page_tables.specs.Shown.{chosen, chosen_place, no_row, row_of, 
 use Rattle.tomex_page_tables.specs.declared.shown.ShownRow.{ShownRow}
 use Rattle.tomex_page.specs.Laws.{AreApart, IsShown, LeadsOn, LinkedRowsAreShown, LinksLeadToViews, SectionsAreViews}
 use Rattle.tomex_page.specs.Laws.{ViewsAreApart, ViewsAreOfRows, views_of}
-use Rattle.tomex_page.specs.Page.{number_before, number_of, row_section, row_sections, view_at, view_of}
+use Rattle.tomex_page.specs.Page.{number_before, number_of, row_section, view_at, view_of}
 use Rattle.tomex_page.proofs.ShownRows.{place_within}
 
 pub sections_are_views : SectionsAreViews

@@ -1,6 +1,6 @@
 -- The rows that are shown are rows of the front.
-use Rattle.std.proofs.Common.{◌≡◌, ◌∙◌, ap, cond, arith, sym, subst, ℕ, zero, suc, ◌+◌, ◌-◌, ◌*◌, ◌/◌, ◌<◌, ◌≤◌, Bool}
-use Rattle.std.proofs.Common.{true, false, refl, List, [], ◌∷◌, length, map, All}
+use Rattle.std.proofs.Common.{◌≡◌, cond, arith, ℕ, zero, suc, ◌+◌, ◌<◌, Bool}
+use Rattle.std.proofs.Common.{true, false, refl, List, length, map, All}
 use Rattle.std.specs.Prelude.{nat_le}
 use Rattle.std.specs.List.{Contains, range_with_len}
 use Rattle.std.proofs.lemmas.Bool.{leb-false}

@@ -1,5 +1,5 @@
 -- The lines of prices, of which the ranges were found out for all rows that are shown.
-use Rattle.std.proofs.Common.{◌≡◌, ◌∙◌, ap, ap₂, refl, arith, ℕ, ◌<◌, List, [], ◌∷◌, ◌++◌, get_or, length, map, All}
+use Rattle.std.proofs.Common.{◌≡◌, ap, ap₂, refl, arith, ℕ, ◌<◌, List, [], ◌∷◌, ◌++◌, get_or, length, map, All}
 use Rattle.std.specs.List.{flat_map}
 use Rattle.std.proofs.lemmas.List.{get_or-map, length-map}
 use Rattle.std.proofs.lemmas.List.Elements.{All-cons, All-nil}

@@ -1,5 +1,5 @@
 -- One piece after the other; all changes lead to rows of the study.
-use Rattle.std.proofs.Common.{◌≡◌, ◌∙◌, ◌<◌, ap, subst, sym, List, length, take, All}
+use Rattle.std.proofs.Common.{◌∙◌, ◌<◌, ap, subst, sym, length, take, All}
 use Rattle.std.proofs.lemmas.List.Elements.{All-get_or, All-take}
 use Rattle.std.proofs.lemmas.Result.{on_ok_weaker}
 use Rattle.tomex_pareto.specs.declared.front_row.FrontRow.{FrontRow}

@@ -1,14 +1,13 @@
 -- One piece after the other; each line is that of the row at the place.
-use Rattle.std.proofs.Common.{◌≡◌, ◌∙◌, ◌++◌, ◌<◌, ap, subst, sym, List, ℕ, length, All}
+use Rattle.std.proofs.Common.{◌∙◌, ◌++◌, ◌<◌, ap, subst, sym, List, ℕ, length, All}
 use Rattle.std.specs.Prelude.{string_bytes}
 use Rattle.std.specs.List.{flat_map}
 use Rattle.std.proofs.lemmas.List.{get_or_default}
 use Rattle.std.proofs.lemmas.List.Elements.{All-get_or}
 use Rattle.std.proofs.lemmas.Result.{on_ok_weaker}
-use Rattle.tomex_pareto.specs.declared.front_row.FrontRow.{FrontRow}
 use Rattle.tomex_prices.specs.Percent.{percent_of}
 use Rattle.tomex_front_views.proofs.Pieces.{six_pieces}
-use Rattle.tomex_page_rows.specs.Stays.{PriceRanges, off_text, prices_table, range_row_at, shown_prices}
+use Rattle.tomex_page_rows.specs.Stays.{PriceRanges, prices_table, range_row_at, shown_prices}
 use Rattle.tomex_page_tables.specs.Shown.{no_row}
 use Rattle.tomex_page_rows.proofs.PriceLines.{lines_at, ranges_long}
 use Rattle.tomex_page_rows.proofs.stays.push_prices_table.Goals as goal
