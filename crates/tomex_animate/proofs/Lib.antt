@@ -1,3 +1,4 @@
 pub mod Whole
 pub mod Pages
 pub mod Runs
+pub mod Linked

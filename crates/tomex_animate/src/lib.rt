@@ -10,5 +10,5 @@ mod stretch;
 mod view;
 
 pub use animation_error::AnimationError;
-pub use laws::views_are_tables;
+pub use laws::{links_lead_to_views, views_are_tables};
 pub use page::animation;

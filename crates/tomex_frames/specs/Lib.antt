@@ -3,3 +3,4 @@ pub mod Events
 pub mod Cells
 pub mod Status
 pub mod Stations
+pub mod Laws

@@ -1,2 +1,3 @@
+mod Ids
 pub mod Plain
 mod Rows

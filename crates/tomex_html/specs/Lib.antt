@@ -1,3 +1,4 @@
 pub mod Constants
 pub mod Html
+pub mod Tables
 pub mod Laws

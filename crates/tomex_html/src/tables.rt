@@ -1,9 +1,12 @@
-//! Cells of tables.
+//! Cells and rows of tables.
 
-ghost use Rattle.std.specs.Prelude.{◌≡◌, ◌++◌, OnOk, string_bytes};
-ghost use Rattle.tomex_html.specs.Html.{cell_start, changed_cell, is_new, table_end};
+ghost use Rattle.std.specs.Prelude.{◌≡◌, ◌++◌, [], OnOk, string_bytes};
+ghost use Rattle.std.specs.List.{flat_map};
+ghost use Rattle.tomex_html.specs.Html.{cell_start, changed_cell, is_new, table_end, td};
+ghost use Rattle.tomex_html.specs.Tables.{number_cell, row_start};
 
 use std::alloc::{AllocError, Allocator};
+use std::fmt::Write;
 
 /// The start of a cell, which is marked if its content is new.
 pub fn cell_start(new: bool) -> &'static str
@@ -31,6 +34,40 @@ pub fn push_changed_cell<A: Allocator>(
     text.push_str(cell_start(is_new(was, now)))?;
     text.push_str(now)?;
     text.push_str("</td>")
+}
+
+/// Adds the start of a row, up to its cells.
+#[tactic(auto, unfolding(crate::specs::Tables::row_start))]
+pub fn push_row_start<A: Allocator>(text: &mut String<A>, head: &str) -> Result<(), AllocError>
+    ensures { OnOk result (string_bytes text.new ≡ string_bytes text.old ++ row_start head.now) }
+{
+    write!(text, "<tr><th scope=\"row\">{head}</th>")
+}
+
+/// Adds a cell with a number.
+#[tactic(auto, unfolding(crate::specs::Tables::number_cell))]
+pub fn push_number<A: Allocator>(text: &mut String<A>, number: u64) -> Result<(), AllocError>
+    ensures { OnOk result (string_bytes text.new ≡ string_bytes text.old ++ number_cell number) }
+{
+    write!(text, "<td>{number}</td>")
+}
+
+/// Adds a cell for each number.
+pub fn push_numbers<A: Allocator>(text: &mut String<A>, numbers: &[u64]) -> Result<(), AllocError>
+    ensures { OnOk result (string_bytes text.new
+        ≡ string_bytes text.old ++ flat_map number_cell numbers.now) }
+{
+    for number in numbers {
+        push_number(text, *number)?;
+    }
+    Ok(())
+}
+
+/// Adds an empty cell.
+pub fn push_empty<A: Allocator>(text: &mut String<A>) -> Result<(), AllocError>
+    ensures { OnOk result (string_bytes text.new ≡ string_bytes text.old ++ td []) }
+{
+    text.push_str("<td></td>")
 }
 
 /// Adds the end of a table.

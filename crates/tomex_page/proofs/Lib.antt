@@ -1,3 +1,5 @@
 -- Lemmas of this crate.
+mod Cycles
+mod Linked
 mod NeedsOf
 mod ShownRows

@@ -1,6 +1,6 @@
 -- The rows that are shown are rows of the front.
-use Rattle.std.proofs.Common.{◌≡◌, ◌∙◌, ap, cond, arith, sym, subst, ℕ, zero, suc, ◌+◌, ◌-◌, ◌*◌, ◌/◌, ◌<◌, ◌≤◌, Bool}
-use Rattle.std.proofs.Common.{true, false, refl, List, [], ◌∷◌, length, map, All}
+use Rattle.std.proofs.Common.{◌≡◌, cond, arith, ℕ, zero, suc, ◌+◌, ◌<◌, Bool}
+use Rattle.std.proofs.Common.{true, false, refl, List, length, map, All}
 use Rattle.std.specs.Prelude.{nat_le}
 use Rattle.std.specs.List.{Contains, range_with_len}
 use Rattle.std.proofs.lemmas.Bool.{leb-false}
@@ -16,7 +16,7 @@ all_values P f a (suc n) each =
     (all_values P f (a + 1) n (λ k below. each k (omega (arith, below))))
 
 -- each place is within the front
-place_within : (n k : ℕ) → 0 < n → k < 64 → chosen_place n k < n
+pub place_within : (n k : ℕ) → 0 < n → k < 64 → chosen_place n k < n
 place_within n k some few = grind arith
 
 all_cond : (front other : List FrontRow) (b : Bool) → All (Contains front) front

@@ -4,3 +4,4 @@ pub mod Runs
 pub mod Stalls
 pub mod Charts
 pub mod Page
+pub mod Laws

@@ -12,15 +12,15 @@ use Rattle.tomex_study.specs.Program.{Workload}
 use Rattle.tomex_study.specs.Study.{DesignSpace}
 use Rattle.tomex_front_views.specs.LinkedPlot.{linked_picture_of}
 use Rattle.tomex_page_tables.specs.Asked.{lists_table, programs_table, steps_of}
-use Rattle.tomex_page_tables.specs.Changed.{changes_table}
+use Rattle.tomex_page_rows.specs.Changed.{changes_table}
 use Rattle.tomex_page.specs.Charts.{chart_of, first_steps}
 use Rattle.tomex_page.specs.Constants.{page_css, page_help}
 use Rattle.tomex_page_tables.specs.Front.{front_table}
-use Rattle.tomex_page_tables.specs.Parts.{against, parts_table}
+use Rattle.tomex_page_rows.specs.Parts.{against, parts_table}
 use Rattle.tomex_page.specs.Runs.{needs_on}
 use Rattle.tomex_page_tables.specs.Shown.{most_rows, no_row, row_of, shown_of}
 use Rattle.tomex_page.specs.Stalls.{stalls_table}
-use Rattle.tomex_page_tables.specs.Stays.{prices_table}
+use Rattle.tomex_page_rows.specs.Stays.{prices_table}
 use Rattle.tomex_page.specs.declared.section.View.{View}
 use Rattle.tomex_page_tables.specs.declared.shown.ShownRow.{ShownRow}
 

@@ -1,5 +1,5 @@
 -- A program's run on a configuration, as pages show it.
-use Rattle.std.specs.Prelude.{ℕ, List, map}
+use Rattle.std.specs.Prelude.{List, map}
 use Rattle.tomex_config.specs.Configuration.{Configuration}
 use Rattle.tomex_config.specs.Cost.{all_pools}
 use Rattle.tomex_study.specs.Program.{Workload}

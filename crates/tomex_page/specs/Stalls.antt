@@ -10,7 +10,7 @@ use Rattle.tomex_timing.specs.declared.needs.Needs.{Needs}
 use Rattle.tomex_timing.specs.declared.part.Part.{Part}
 use Rattle.tomex_timing.specs.declared.part.Part.TheVariants.{Stations, Units, Buses, Width}
 use Rattle.tomex_run_views.specs.StallsReport.{name_of_part}
-use Rattle.tomex_page_tables.specs.Pieces.{number_cell, table_head, table_row}
+use Rattle.tomex_html.specs.Tables.{number_cell, table_head, table_row}
 
 -- a line above some others
 unfoldable pub group : List ℕ → List ℕ

@@ -6,10 +6,12 @@
 
 mod charts;
 mod constants;
+mod laws;
 mod overview;
 mod page;
 mod runs;
 mod section;
 mod stalls;
 
+pub use laws::{cycles_add_up, links_lead_to_views};
 pub use page::study_page;

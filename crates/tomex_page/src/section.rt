@@ -6,7 +6,7 @@ ghost use Rattle.tomex_page.specs.Page.{number_before, row_section, row_sections
 ghost use Rattle.tomex_page.specs.Page.{section_start};
 ghost use Rattle.tomex_page.specs.Page.{section_tables, view_of};
 ghost use Rattle.tomex_page_tables.specs.Shown.{no_row};
-ghost use Rattle.tomex_page_tables.specs.Stays.{AreFound};
+ghost use Rattle.tomex_page_rows.specs.Stays.{AreFound};
 ghost use Rattle.tomex_row_runs.specs.StudyFront.{all_rows};
 
 use crate::runs::push_runs;
@@ -14,10 +14,10 @@ use std::alloc::{AllocError, Allocator, Global};
 use std::fmt::Write;
 use tomex_config::Config;
 use tomex_html::{Links, push_links};
-use tomex_page_tables::{
-    PriceBook, ShownRow, push_against, push_changes_table, push_parts_table, push_prices_table,
-    row_of,
+use tomex_page_rows::{
+    PriceBook, push_against, push_changes_table, push_parts_table, push_prices_table,
 };
+use tomex_page_tables::{ShownRow, row_of};
 use tomex_pareto::FrontRow;
 use tomex_study::Study;
 

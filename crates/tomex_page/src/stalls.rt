@@ -2,7 +2,7 @@
 
 ghost use Rattle.std.specs.Prelude.{◌≡◌, ◌++◌, IfOk, OnOk, string_bytes};
 ghost use Rattle.std.specs.List.{flat_map};
-ghost use Rattle.tomex_page_tables.specs.Pieces.{row_start};
+ghost use Rattle.tomex_html.specs.Tables.{row_start};
 ghost use Rattle.tomex_page.specs.Stalls.{after_issue, bar, before_issue, cause_cells, cause_row, cycle_cells};
 ghost use Rattle.tomex_page.specs.Stalls.{filled, group, part_cells};
 ghost use Rattle.tomex_page.specs.Stalls.{pool_parts, share, stall_row, stalls_caption, stalls_table, unit_parts};
@@ -11,8 +11,7 @@ ghost use Rattle.tomex_run_views.specs.StallsReport.{name_of_part};
 use std::alloc::{AllocError, Allocator, Global};
 use std::fmt::Write;
 use tomex_config::Config;
-use tomex_html::push_table_end;
-use tomex_page_tables::{push_empty, push_number, push_row_start, push_table_head};
+use tomex_html::{push_empty, push_number, push_row_start, push_table_end, push_table_head};
 use tomex_run_views::push_name_of_part;
 use tomex_rvdec::{PoolId, UnitId};
 use tomex_timing::{Needs, Part};
@@ -119,7 +118,7 @@ fn push_cause_cells<A: Allocator>(
 }
 
 /// Adds the line of something that is no part.
-#[tactic(auto, unfolding(crate::specs::Stalls::cause_row, tomex_page_tables::specs::Pieces::table_row))]
+#[tactic(auto, unfolding(crate::specs::Stalls::cause_row, tomex_html::specs::Tables::table_row))]
 fn push_cause<A: Allocator>(
     text: &mut String<A>,
     needs: &Needs,
@@ -135,7 +134,7 @@ fn push_cause<A: Allocator>(
 }
 
 /// Adds the start of a part's line.
-#[tactic(auto, unfolding(tomex_page_tables::specs::Pieces::row_start))]
+#[tactic(auto, unfolding(tomex_html::specs::Tables::row_start))]
 fn push_part_start<A: Allocator>(text: &mut String<A>, part: Part) -> Result<(), AllocError>
     ensures { OnOk result (string_bytes text.new
         ≡ string_bytes text.old ++ row_start (name_of_part part)) }
@@ -161,7 +160,7 @@ fn push_part_cells<A: Allocator>(
     push_cycles(text, need.stalls, needs.total)
 }
 
-#[tactic(auto, unfolding(crate::specs::Stalls::stall_row, tomex_page_tables::specs::Pieces::table_row))]
+#[tactic(auto, unfolding(crate::specs::Stalls::stall_row, tomex_html::specs::Tables::table_row))]
 fn push_part<A: Allocator>(
     text: &mut String<A>,
     config: &Config,

@@ -1,5 +1,5 @@
 -- Lemmas of this crate.
 mod Chosen
 mod Firsts
-mod PriceLines
 mod Programs
+mod Signed

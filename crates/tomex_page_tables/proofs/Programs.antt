@@ -12,7 +12,7 @@ use Rattle.std.proofs.Common.{get_or}
 use Rattle.std.specs.List.{flat_map}
 use Rattle.tomex_pareto.specs.declared.front_row.FrontRow.{FrontRow}
 use Rattle.tomex_page_tables.specs.Front.{own_programs, total_cell}
-use Rattle.tomex_page_tables.specs.Pieces.{number_cell}
+use Rattle.tomex_html.specs.Tables.{number_cell}
 use Rattle.tomex_page_tables.specs.Shown.{row_of}
 
 own_of_several : (s : DesignSpace) → 1 < length s.programs → s.programs ≡ own_programs s

@@ -17,7 +17,8 @@ use Rattle.tomex_timing.specs.declared.part.Part.{Part}
 use Rattle.tomex_timing.specs.declared.part.Part.TheVariants.{Stations, Units, Buses, Width}
 use Rattle.tomex_worth.specs.Changes.{same_entry}
 use Rattle.tomex_worth.specs.Worth.{entry_text, name_of_list}
-use Rattle.tomex_page_tables.specs.Pieces.{number_cell, some, table_head, table_row}
+use Rattle.tomex_html.specs.Tables.{number_cell, table_head, table_row}
+use Rattle.tomex_page_tables.specs.Pieces.{some}
 use Rattle.tomex_page_tables.specs.declared.choices.Facet.{Facet}
 use Rattle.tomex_page_tables.specs.declared.choices.Facet.TheVariants.{Choice, Cost}
 

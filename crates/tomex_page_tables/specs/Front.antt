@@ -12,7 +12,7 @@ use Rattle.tomex_front_views.specs.FrontTable.{all_settings, differs, name_of_se
 use Rattle.tomex_front_views.specs.LinkedPlot.{link_to}
 use Rattle.tomex_front_views.specs.declared.table.heading.Setting.{Setting}
 use Rattle.tomex_worth.specs.Differences.{percent, signed}
-use Rattle.tomex_page_tables.specs.Pieces.{column_head, head_end, number_cell, table_row, table_start}
+use Rattle.tomex_html.specs.Tables.{column_head, head_end, number_cell, table_row, table_start}
 use Rattle.tomex_page_tables.specs.Shown.{row_of}
 use Rattle.tomex_page_tables.specs.declared.shown.ShownRow.{ShownRow}
 

@@ -3,7 +3,4 @@ pub mod Pieces
 pub mod Shown
 pub mod Asked
 pub mod Front
-pub mod Parts
-pub mod Changed
-pub mod Stays
 pub mod Laws

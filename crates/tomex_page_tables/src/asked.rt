@@ -5,15 +5,14 @@ ghost use Rattle.std.specs.List.{flat_map};
 ghost use Rattle.tomex_html.specs.Html.{td};
 ghost use Rattle.tomex_page_tables.specs.Asked.{end_text, list_cells, list_row, lists_table, program_row};
 ghost use Rattle.tomex_page_tables.specs.Asked.{programs_table};
-ghost use Rattle.tomex_page_tables.specs.Pieces.{number_cell, row_start};
+ghost use Rattle.tomex_html.specs.Tables.{number_cell, row_start};
 ghost use Rattle.tomex_timing.specs.Needs.{all_parts};
 ghost use Rattle.tomex_worth.specs.Worth.{name_of_list};
 
 use crate::choices::{Facet, push_entries, push_prices};
-use crate::tables::{push_number, push_row_start, push_table_head};
 use std::alloc::{AllocError, Allocator, Global};
 use std::fmt::Write;
-use tomex_html::push_table_end;
+use tomex_html::{push_number, push_row_start, push_table_end, push_table_head};
 use tomex_rvexec::Step;
 use tomex_study::{Program, Study};
 use tomex_timing::Part;
@@ -47,7 +46,7 @@ fn push_program_cells<A: Allocator>(
     push_number(text, u64::from(weight))
 }
 
-#[tactic(auto, unfolding(crate::specs::Asked::program_row, crate::specs::Pieces::table_row))]
+#[tactic(auto, unfolding(crate::specs::Asked::program_row, tomex_html::specs::Tables::table_row))]
 fn push_program_row<A: Allocator, B: Allocator>(
     text: &mut String<A>,
     program: &Program<B>,
@@ -89,7 +88,7 @@ pub fn push_programs_table<A: Allocator, B: Allocator>(
 }
 
 /// Adds the start of a row for a part's list.
-#[tactic(auto, unfolding(crate::specs::Pieces::row_start))]
+#[tactic(auto, unfolding(tomex_html::specs::Tables::row_start))]
 pub fn push_list_start<A: Allocator>(text: &mut String<A>, part: Part) -> Result<(), AllocError>
     ensures { OnOk result (string_bytes text.new
         ≡ string_bytes text.old ++ row_start (name_of_list part)) }
@@ -116,7 +115,7 @@ fn push_list_cells<A: Allocator, B: Allocator>(
     text.push_str("</td>")
 }
 
-#[tactic(auto, unfolding(crate::specs::Asked::list_row, crate::specs::Pieces::table_row))]
+#[tactic(auto, unfolding(crate::specs::Asked::list_row, tomex_html::specs::Tables::table_row))]
 fn push_list_row<A: Allocator, B: Allocator>(
     text: &mut String<A>,
     heap: Global,

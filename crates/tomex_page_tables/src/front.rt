@@ -7,18 +7,19 @@ ghost use Rattle.tomex_html.specs.Html.{td};
 ghost use Rattle.tomex_page_tables.specs.Front.{front_cells, front_row, front_rows, front_table, more_cost};
 ghost use Rattle.tomex_page_tables.specs.Front.{more_cycles};
 ghost use Rattle.tomex_page_tables.specs.Front.{more_percent, own_cells, settings_of};
-ghost use Rattle.tomex_page_tables.specs.Pieces.{row_start};
+ghost use Rattle.tomex_html.specs.Tables.{row_start};
 ghost use Rattle.tomex_page_tables.specs.Shown.{row_of};
 ghost use Rattle.tomex_survey.specs.Totals.{totals_of};
 ghost use Rattle.tomex_worth.specs.Differences.{percent, signed};
 
 use crate::settings::{own_totals, push_front_heads, push_setting_cells, settings_of};
 use crate::shown::{ShownRow, row_of};
-use crate::tables::{push_empty, push_head_end, push_number, push_numbers, push_table_start};
 use std::alloc::{AllocError, Allocator, Global};
 use std::fmt::Write;
 use tomex_front_views::{Setting, push_link_start};
-use tomex_html::push_table_end;
+use tomex_html::{
+    push_empty, push_head_end, push_number, push_numbers, push_table_end, push_table_start,
+};
 use tomex_pareto::FrontRow;
 use tomex_study::Study;
 use tomex_survey::Survey;
@@ -153,7 +154,7 @@ fn push_front_cells<A: Allocator, B: Allocator>(
     push_numbers(text, own_totals(study, survey, row.row))
 }
 
-#[tactic(auto, unfolding(crate::specs::Front::front_row, crate::specs::Pieces::table_row))]
+#[tactic(auto, unfolding(crate::specs::Front::front_row, tomex_html::specs::Tables::table_row))]
 fn push_front_row<A: Allocator, B: Allocator>(
     text: &mut String<A>,
     study: &Study<B>,

@@ -6,16 +6,15 @@ ghost use Rattle.std.specs.List.{flat_map};
 ghost use Rattle.tomex_cycle.specs.Run.{total};
 ghost use Rattle.tomex_front_views.specs.FrontTable.{all_settings, config_of, name_of_setting};
 ghost use Rattle.tomex_page_tables.specs.Front.{column_heads, own_programs, setting_cell, settings_of, sets_anew};
-ghost use Rattle.tomex_page_tables.specs.Pieces.{column_head};
+ghost use Rattle.tomex_html.specs.Tables.{column_head};
 ghost use Rattle.tomex_survey.specs.Totals.{totals_of};
 ghost use Rattle.tomex_worth.specs.Changes.{config_at};
 
 use crate::shown::ShownRow;
-use crate::tables::{push_column_head, push_column_heads};
 use std::alloc::{AllocError, Allocator, Global};
 use std::fmt::Write;
 use tomex_front_views::Setting;
-use tomex_html::cell_start;
+use tomex_html::{cell_start, push_column_head, push_column_heads};
 use tomex_study::{Program, Study};
 use tomex_survey::Survey;
 
@@ -111,7 +110,7 @@ pub fn own_totals<'s, A: Allocator>(
 }
 
 /// Adds the name of a setting's column.
-#[tactic(auto, unfolding(crate::specs::Pieces::column_head))]
+#[tactic(auto, unfolding(tomex_html::specs::Tables::column_head))]
 fn push_setting_head<A: Allocator>(text: &mut String<A>, setting: Setting) -> Result<(), AllocError>
     ensures { OnOk result (string_bytes text.new
         ≡ string_bytes text.old ++ column_head (name_of_setting setting)) }

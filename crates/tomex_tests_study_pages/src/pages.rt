@@ -18,6 +18,7 @@ use tomex_tests_fixtures::programs::PRODUCT;
 use tomex_workers::OpenGate;
 
 mod one_row;
+mod refused_memory;
 
 use one_row::ONE_ROW;
 

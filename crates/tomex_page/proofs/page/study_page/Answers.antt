@@ -1,5 +1,5 @@
 -- The rows that are shown are rows of the front, and those of the definition.
-use Rattle.std.proofs.Common.{◌≡◌, ◌∙◌, ◌++◌, ◌<◌, ap, ap₂, subst, sym, List, ℕ, length, All}
+use Rattle.std.proofs.Common.{◌∙◌, ◌++◌, ◌<◌, ap, ap₂, subst, sym, List, ℕ, length, All}
 use Rattle.std.specs.List.{Contains}
 use Rattle.tomex_pareto.specs.declared.front_row.FrontRow.{FrontRow}
 use Rattle.tomex_row_runs.proofs.StudyFronts.{study_rows}

@@ -1,7 +1,7 @@
 -- One piece after the other.
 use Rattle.std.proofs.lemmas.Result.{on_ok_weaker}
 use Rattle.tomex_front_views.proofs.Pieces.{three_pieces}
-use Rattle.tomex_page_tables.specs.Pieces.{row_start}
+use Rattle.tomex_html.specs.Tables.{row_start}
 use Rattle.tomex_page_tables.proofs.asked.push_list_start.Goals as goal
 
 pub returns : goal.returns

@@ -1,10 +1,10 @@
 -- One piece after the other; the totals are those of the programs on the row.
-use Rattle.std.proofs.Common.{◌≡◌, ◌∙◌, ap, List, ℕ}
+use Rattle.std.proofs.Common.{◌≡◌, ◌∙◌, ap}
 use Rattle.std.specs.List.{flat_map}
 use Rattle.std.proofs.lemmas.Result.{on_ok_weaker}
 use Rattle.tomex_front_views.proofs.Pieces.{three_pieces}
 use Rattle.tomex_page_tables.specs.Front.{front_cells, own_programs, total_cell}
-use Rattle.tomex_page_tables.specs.Pieces.{number_cell}
+use Rattle.tomex_html.specs.Tables.{number_cell}
 use Rattle.tomex_page_tables.specs.Shown.{row_of}
 use Rattle.tomex_page_tables.proofs.Programs.{cells_of_totals}
 use Rattle.tomex_page_tables.proofs.front.push_front_cells.Goals as goal

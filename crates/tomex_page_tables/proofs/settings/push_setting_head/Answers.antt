@@ -1,7 +1,7 @@
 -- One piece after the other.
 use Rattle.std.proofs.lemmas.Result.{on_ok_weaker}
 use Rattle.tomex_front_views.proofs.Pieces.{three_pieces}
-use Rattle.tomex_page_tables.specs.Pieces.{column_head}
+use Rattle.tomex_html.specs.Tables.{column_head}
 use Rattle.tomex_page_tables.proofs.settings.push_setting_head.Goals as goal
 
 pub returns : goal.returns

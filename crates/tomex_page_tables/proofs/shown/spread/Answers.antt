@@ -1,7 +1,4 @@
 -- One more row.
-use Rattle.std.proofs.Common.{◌∙◌, ap, ◌++◌, List, map, ℕ}
-use Rattle.std.specs.List.{range_with_len}
-use Rattle.tomex_pareto.specs.declared.front_row.FrontRow.{FrontRow}
 use Rattle.tomex_page_tables.specs.Shown.{chosen}
 use Rattle.tomex_page_tables.proofs.Chosen.{values_at_last, value_more}
 use Rattle.tomex_page_tables.proofs.shown.spread.Goals as goal

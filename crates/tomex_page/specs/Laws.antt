@@ -1,0 +1,74 @@
+-- Laws of the page.
+use Rattle.std.specs.Prelude.{◌≡◌, ◌≢◌, ◌<◌, ℕ, ◌+◌, ◌-◌, List, [], ◌∷◌, length, map, slice_index_or, sum_by, All}
+use Rattle.std.specs.Prelude.{Option, Some, None, true}
+use Rattle.std.specs.List.{Contains, flat_map}
+use Rattle.std.specs.Option.{ForSome}
+use Rattle.tomex_config.specs.Configuration.{Configuration, IsWithinLimits}
+use Rattle.tomex_html.specs.declared.links.Links.{Links}
+use Rattle.tomex_pareto.specs.declared.front_row.FrontRow.{FrontRow}
+use Rattle.tomex_row_runs.specs.StudyFront.{front_of_study}
+use Rattle.tomex_study.specs.Program.{Workload}
+use Rattle.tomex_study.specs.Study.{DesignSpace}
+use Rattle.tomex_front_views.specs.LinkedPlot.{is_shown}
+use Rattle.tomex_timing.specs.Needs.{need_of}
+use Rattle.tomex_timing.specs.declared.needs.Needs.{Needs}
+use Rattle.tomex_timing.specs.declared.part.Part.TheVariants.{Width}
+use Rattle.tomex_page_tables.specs.Asked.{steps_of}
+use Rattle.tomex_page_tables.specs.Shown.{no_row, row_of, shown_of}
+use Rattle.tomex_page_tables.specs.declared.shown.ShownRow.{ShownRow}
+use Rattle.tomex_page.specs.Page.{row_section, row_sections, view_at, view_of}
+use Rattle.tomex_page.specs.Runs.{needs_on}
+use Rattle.tomex_page.specs.Stalls.{pool_parts}
+use Rattle.tomex_page.specs.declared.section.View.{View}
+
+-- what the lines of `before_issue` have: for a branch, the width, each pool and the drain
+abbrev pub cycles_before_issue : Needs → ℕ
+cycles_before_issue needs =
+    needs.branch + (need_of needs Width).stalls + sum_by (λ part. (need_of needs part).stalls) pool_parts
+    + (needs.total - needs.last_issue)
+
+-- these and 1 are all cycles of a run that has steps
+abbrev pub CyclesAddUp : Type 0
+CyclesAddUp = (config : Configuration) (p : Workload) → IsWithinLimits config → 0 < length (steps_of p)
+    → cycles_before_issue (needs_on config p) + 1 ≡ (needs_on config p).total
+
+-- the views of the rows after one, if there is one
+abbrev pub views_of : DesignSpace → Option ShownRow → List FrontRow → List View
+views_of s before [] = []
+views_of s before (r ∷ rows) = view_at s before r rows ∷ views_of s (Some (row_of s r)) rows
+
+-- the sections of a page are a view for each row that is shown, in their order
+abbrev pub SectionsAreViews : Type 0
+SectionsAreViews = (s : DesignSpace) (shown rows : List FrontRow) (before : Option ShownRow)
+    → row_sections s shown before rows ≡ flat_map (row_section s shown) (views_of s before rows)
+
+abbrev pub ViewsAreOfRows : Type 0
+ViewsAreOfRows = (s : DesignSpace) (before : Option ShownRow) (rows : List FrontRow)
+    → map (λ v. v.here.row) (views_of s before rows) ≡ rows
+
+-- a row of this number is shown
+abbrev pub IsShown : List FrontRow → ℕ → Type 0
+IsShown shown n = (r : FrontRow) × Contains shown r × (r.row ≡ n)
+
+-- what the picture and the tables link to
+abbrev pub LinkedRowsAreShown : Type 0
+LinkedRowsAreShown = (shown : List FrontRow) (n : ℕ) → is_shown shown n ≡ true → IsShown shown n
+
+-- each link of a view leads to the view of a row that is shown
+pub record LeadsOn (shown : List FrontRow) (l : Links) : Type 0 where
+  pub first : IsShown shown l.first
+  pub before : ForSome l.before (λ n. IsShown shown n)
+  pub after : ForSome l.after (λ n. IsShown shown n)
+  pub last : IsShown shown l.last
+
+abbrev pub LinksLeadToViews : Type 0
+LinksLeadToViews = (s : DesignSpace) (shown : List FrontRow)
+    → All (λ v. LeadsOn shown (view_of shown v)) (views_of s None shown)
+
+-- no two of these rows have one number
+abbrev pub AreApart : List FrontRow → Type 0
+AreApart rows = (j k : ℕ) → j < k → k < length rows
+    → (slice_index_or rows j no_row).row ≢ (slice_index_or rows k no_row).row
+
+abbrev pub ViewsAreApart : Type 0
+ViewsAreApart = (s : DesignSpace) → AreApart (shown_of (front_of_study s))

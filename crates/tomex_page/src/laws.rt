@@ -1,0 +1,19 @@
+//! Laws of the page. These functions do nothing: their contracts are the laws.
+
+ghost use Rattle.tomex_page.specs.Laws.{CyclesAddUp, LinkedRowsAreShown, LinksLeadToViews, SectionsAreViews};
+ghost use Rattle.tomex_page.specs.Laws.{ViewsAreApart, ViewsAreOfRows};
+
+/// The first lines of a program's stalls, up to the drain, are together with 1 all cycles of its run.
+pub fn cycles_add_up()
+    ensures { CyclesAddUp }
+{}
+
+/// A page has a view for each row that is shown, no two of these rows have one number, and the links of a view, of the
+/// picture and of the tables lead to views.
+pub fn links_lead_to_views()
+    ensures sections { SectionsAreViews }
+    ensures rows { ViewsAreOfRows }
+    ensures links { LinksLeadToViews }
+    ensures shown { LinkedRowsAreShown }
+    ensures apart { ViewsAreApart }
+{}

@@ -1,0 +1,4 @@
+-- The tables of a row of the front.
+pub mod Parts
+pub mod Changed
+pub mod Stays

@@ -1,0 +1,175 @@
+//! The gain from changing one part.
+
+ghost use Rattle.std.specs.Prelude.{◌≡◌, ◌<◌, ◌++◌, length, All, OnOk, string_bytes};
+ghost use Rattle.std.specs.List.{flat_map};
+ghost use Rattle.tomex_html.specs.Html.{td};
+ghost use Rattle.tomex_page_rows.specs.Changed.{change_row, changes_table, gain_cells, row_text, to_cells};
+ghost use Rattle.tomex_row_runs.specs.StudyFront.{all_rows};
+ghost use Rattle.tomex_worth.specs.Worth.{rate_text};
+
+use crate::parts::push_entry_cell;
+use std::alloc::{AllocError, Allocator, Global};
+use std::fmt::Write;
+use tomex_front_views::is_shown;
+use tomex_html::{push_table_end, push_table_head};
+use tomex_page_tables::{
+    first_lines, push_list_start, push_more, push_percent_cell, push_row_link, push_signed_cell,
+};
+use tomex_pareto::FrontRow;
+use tomex_study::Study;
+use tomex_worth::{Change, changes_of, push_rate};
+
+/// Adds a row's number, which is a link if the row is shown.
+#[tactic(auto, unfolding(crate::specs::Changed::row_text))]
+fn push_row_text<A: Allocator>(
+    text: &mut String<A>,
+    shown: &[FrontRow],
+    row: usize,
+) -> Result<(), AllocError>
+    ensures { OnOk result (string_bytes text.new
+        ≡ string_bytes text.old ++ row_text shown.now row) }
+{
+    if is_shown(shown, row) {
+        push_row_link(text, row)
+    } else {
+        write!(text, "{row}")
+    }
+}
+
+/// Adds a cell with a row's number, which is a link if the row is shown.
+fn push_row_cell<A: Allocator>(
+    text: &mut String<A>,
+    shown: &[FrontRow],
+    row: usize,
+) -> Result<(), AllocError>
+    ensures { OnOk result (string_bytes text.new
+        ≡ string_bytes text.old ++ td (row_text shown.now row)) }
+{
+    text.push_str("<td>")?;
+    push_row_text(text, shown, row)?;
+    text.push_str("</td>")
+}
+
+/// Adds a cell with the cycles for 1 of cost between two rows.
+fn push_rate_cell<A: Allocator>(
+    text: &mut String<A>,
+    own: FrontRow,
+    other: FrontRow,
+) -> Result<(), AllocError>
+    ensures { OnOk result (string_bytes text.new
+        ≡ string_bytes text.old ++ td (rate_text own other)) }
+{
+    text.push_str("<td>")?;
+    push_rate(text, own, other)?;
+    text.push_str("</td>")
+}
+
+/// Adds what a change leads to: the other entry, and the other row.
+#[tactic(auto, unfolding(crate::specs::Changed::to_cells))]
+fn push_to_cells<A: Allocator, B: Allocator>(
+    text: &mut String<A>,
+    study: &Study<B>,
+    shown: &[FrontRow],
+    change: Change,
+) -> Result<(), AllocError>
+    requires { change.row.row < length study.now.rows }
+    ensures { OnOk result (string_bytes text.new
+        ≡ string_bytes text.old ++ to_cells study.now shown.now change) }
+{
+    let number = change.row.row;
+    push_entry_cell(text, false, &study.rows()[number], change.part)?;
+    push_row_cell(text, shown, number)
+}
+
+/// Adds by how much the other row's cost and cycles are greater, and the cycles for 1 of cost.
+#[tactic(auto, unfolding(crate::specs::Changed::gain_cells))]
+fn push_gain_cells<A: Allocator>(
+    text: &mut String<A>,
+    own: FrontRow,
+    other: FrontRow,
+) -> Result<(), AllocError>
+    ensures { OnOk result (string_bytes text.new
+        ≡ string_bytes text.old ++ gain_cells own other) }
+{
+    push_signed_cell(text, own.cost, other.cost)?;
+    push_signed_cell(text, own.cycles, other.cycles)?;
+    push_percent_cell(text, own.cycles, other.cycles)?;
+    push_rate_cell(text, own, other)
+}
+
+/// Adds the cells of a change.
+fn push_change_cells<A: Allocator, B: Allocator>(
+    text: &mut String<A>,
+    study: &Study<B>,
+    shown: &[FrontRow],
+    own: FrontRow,
+    change: Change,
+) -> Result<(), AllocError>
+    requires { change.row.row < length study.now.rows }
+    ensures { OnOk result (string_bytes text.new ≡ string_bytes text.old
+        ++ (to_cells study.now shown.now change ++ gain_cells own change.row)) }
+{
+    push_to_cells(text, study, shown, change)?;
+    push_gain_cells(text, own, change.row)
+}
+
+#[tactic(auto, unfolding(crate::specs::Changed::change_row, tomex_html::specs::Tables::table_row))]
+fn push_change_row<A: Allocator, B: Allocator>(
+    text: &mut String<A>,
+    study: &Study<B>,
+    shown: &[FrontRow],
+    own: FrontRow,
+    change: Change,
+) -> Result<(), AllocError>
+    requires { change.row.row < length study.now.rows }
+    ensures { OnOk result (string_bytes text.new
+        ≡ string_bytes text.old ++ change_row study.now shown.now own change) }
+{
+    push_list_start(text, change.part)?;
+    push_change_cells(text, study, shown, own, change)?;
+    text.push_str("</tr>\n")
+}
+
+fn push_change_rows<A: Allocator, B: Allocator>(
+    text: &mut String<A>,
+    study: &Study<B>,
+    shown: &[FrontRow],
+    own: FrontRow,
+    changes: &[Change],
+) -> Result<(), AllocError>
+    requires { All (λ c. c.row.row < length study.now.rows) changes.now }
+    ensures { OnOk result (string_bytes text.new ≡ string_bytes text.old
+        ++ flat_map (change_row study.now shown.now own) changes.now) }
+{
+    for change in changes {
+        push_change_row(text, study, shown, own, *change)?;
+    }
+    Ok(())
+}
+
+/// Adds the table of the gains from changing one part of a row.
+#[tactic(auto, unfolding(crate::specs::Changed::changes_table))]
+pub fn push_changes_table<A: Allocator, B: Allocator>(
+    text: &mut String<A>,
+    heap: Global,
+    study: &Study<B>,
+    rows: &[FrontRow],
+    shown: &[FrontRow],
+    own: FrontRow,
+) -> Result<(), AllocError>
+    requires own { own.row < length study.now.rows }
+    requires rows { rows.now ≡ all_rows study.now }
+    ensures { OnOk result (string_bytes text.new
+        ≡ string_bytes text.old ++ changes_table study.now shown.now own) }
+{
+    study.keeps_limits();
+    let changes = changes_of(heap, study, rows, own)?;
+    let lines = changes.as_slice();
+    let names = ["Part", "To", "Row", "Cost", "Cycles", "%", "Rate"];
+    text.push_str("<div>")?;
+    push_table_head(text, " class=\"a\"", "With one part changed", &names)?;
+    push_change_rows(text, study, shown, own, first_lines(lines))?;
+    push_table_end(text)?;
+    push_more(text, "worth", lines.len())?;
+    write!(text, "</div>\n")
+}

@@ -1,0 +1,278 @@
+//! The prices with which a row stays on the front.
+
+ghost use Rattle.std.specs.Prelude.{◌≡◌, ◌<◌, ◌++◌, length, map, slice_index_or, All, IfOk, OnOk, string_bytes};
+ghost use Rattle.tomex_page_tables.specs.Shown.{no_row};
+ghost use Rattle.std.specs.List.{Contains, flat_map};
+ghost use Rattle.tomex_page_rows.specs.Stays.{AreFound, off_text, prices_table, range_row, range_row_at, ranges_of};
+ghost use Rattle.tomex_page_rows.specs.Stays.{up_to, whatever};
+ghost use Rattle.tomex_html.specs.Html.{td};
+ghost use Rattle.tomex_html.specs.Tables.{number_cell, row_start};
+ghost use Rattle.tomex_prices.specs.Interval.{range_text};
+ghost use Rattle.tomex_prices.specs.Price.{name_of_price};
+ghost use Rattle.tomex_prices.specs.Studies.{interval_of};
+ghost use Rattle.tomex_row_runs.specs.StudyFront.{all_rows, front_of_study};
+
+use std::alloc::{AllocError, Allocator, Global};
+use std::fmt::Write;
+use std::marker::Model;
+use tomex_html::{push_number, push_table_end, push_table_head};
+use tomex_page_tables::{first_lines, push_more};
+use tomex_pareto::FrontRow;
+use tomex_prices::{Price, PriceRange, interval_of, percent, prices, relevant_prices, rows_with};
+use tomex_study::Study;
+
+/// A price, its stated value, and the range in which each row that is shown stays on the front.
+#[derive(Drop)]
+pub struct Ranges {
+    price: Price,
+    stated: u64,
+    ranges: Vec<PriceRange>,
+}
+
+impl Model for Ranges {
+    ghost use Rattle.tomex_page_rows.specs.Stays.{PriceRanges};
+
+    ghost Value = { PriceRanges };
+
+    ghost view = { λ r. record { price = r.price; stated = r.stated; ranges = r.ranges.items } };
+}
+
+/// The prices of a study, with results computed only once for all rows that are shown.
+#[derive(Drop)]
+pub struct PriceBook {
+    /// All prices.
+    all: Vec<Price>,
+    /// The number of prices that some rows pay more often than others.
+    relevant: usize,
+    /// The results for the first of these.
+    ranges: Vec<Ranges>,
+}
+
+impl Model for PriceBook {
+    ghost use Rattle.tomex_page_rows.specs.Stays.{PricesFound};
+
+    ghost Value = { PricesFound };
+
+    ghost view = { λ b. record { prices = b.all.items; relevant = b.relevant; ranges = b.ranges.items } };
+}
+
+/// The range of a price in which each row that is shown stays on the front.
+fn ranges_of<A: Allocator>(
+    heap: Global,
+    study: &Study<A>,
+    rows: &[FrontRow],
+    shown: &[FrontRow],
+    price: Price,
+) -> Result<Ranges, AllocError>
+    requires rows { rows.now ≡ all_rows study.now }
+    requires shown { All (Contains (front_of_study study.now)) shown.now }
+    ensures { IfOk result (λ r. r ≡ ranges_of study.now shown.now price) }
+{
+    let apart = rows_with(heap, study, rows, price)?;
+    let mut ranges = Vec::with_capacity(heap, shown.len())?;
+    for row in shown {
+        ranges.push(interval_of(study, price, apart.as_slice(), *row))?;
+    }
+    Ok(Ranges {
+        price,
+        stated: price.stated(&study.prices()),
+        ranges,
+    })
+}
+
+/// The same for several prices.
+fn all_ranges<A: Allocator>(
+    heap: Global,
+    study: &Study<A>,
+    rows: &[FrontRow],
+    shown: &[FrontRow],
+    prices: &[Price],
+) -> Result<Vec<Ranges>, AllocError>
+    requires rows { rows.now ≡ all_rows study.now }
+    requires shown { All (Contains (front_of_study study.now)) shown.now }
+    ensures { IfOk result (λ v. v.items ≡ map (ranges_of study.now shown.now) prices.now) }
+{
+    let mut all = Vec::with_capacity(heap, prices.len())?;
+    for price in prices {
+        all.push(ranges_of(heap, study, rows, shown, *price)?)?;
+    }
+    Ok(all)
+}
+
+impl PriceBook {
+    /// The prices of a study. `rows` are all rows of it, `shown` those of its front that are shown.
+    #[tactic(auto, unfolding(crate::specs::Stays::shown_prices))]
+    pub fn new<A: Allocator>(
+        heap: Global,
+        study: &Study<A>,
+        rows: &[FrontRow],
+        shown: &[FrontRow],
+    ) -> Result<PriceBook, AllocError>
+        requires rows { rows.now ≡ all_rows study.now }
+        requires shown { All (Contains (front_of_study study.now)) shown.now }
+        ensures { IfOk result
+            (λ b. AreFound study.now shown.now b) }
+    {
+        let all = prices(heap, study)?;
+        let relevant = relevant_prices(heap, study)?;
+        let some = first_lines(relevant.as_slice());
+        let ranges = all_ranges(heap, study, rows, shown, some)?;
+        Ok(PriceBook {
+            all,
+            relevant: relevant.len(),
+            ranges,
+        })
+    }
+
+    fn all(&self) -> &[Price]
+        ensures value { result.now ≡ self.now.prices }
+    {
+        self.all.as_slice()
+    }
+
+    /// The number of prices that some rows pay more often than others.
+    fn relevant(&self) -> usize
+        ensures value { result ≡ self.now.relevant }
+    {
+        self.relevant
+    }
+
+    /// The results for the first of these.
+    fn ranges(&self) -> &[Ranges]
+        ensures value { result.now ≡ self.now.ranges }
+    {
+        self.ranges.as_slice()
+    }
+}
+
+/// Adds the start of a row for a price.
+#[tactic(auto, unfolding(tomex_html::specs::Tables::row_start))]
+fn push_price_start<A: Allocator>(text: &mut String<A>, price: Price) -> Result<(), AllocError>
+    ensures { OnOk result (string_bytes text.new
+        ≡ string_bytes text.old ++ row_start (name_of_price price)) }
+{
+    write!(text, "<tr><th scope=\"row\">{price}</th>")
+}
+
+/// Adds a cell with a range of prices.
+fn push_range_cell<A: Allocator>(text: &mut String<A>, range: PriceRange) -> Result<(), AllocError>
+    ensures { OnOk result (string_bytes text.new ≡ string_bytes text.old ++ td (range_text range)) }
+{
+    write!(text, "<td>{range}</td>")
+}
+
+/// Adds a price's stated value, and a range.
+fn push_range_cells<A: Allocator>(
+    text: &mut String<A>,
+    now: u64,
+    range: PriceRange,
+) -> Result<(), AllocError>
+    ensures { OnOk result (string_bytes text.new
+        ≡ string_bytes text.old ++ (number_cell now ++ td (range_text range))) }
+{
+    push_number(text, now)?;
+    push_range_cell(text, range)
+}
+
+#[tactic(auto, unfolding(crate::specs::Stays::range_row, tomex_html::specs::Tables::table_row))]
+fn push_range_row<A: Allocator>(
+    text: &mut String<A>,
+    price: Price,
+    now: u64,
+    range: PriceRange,
+) -> Result<(), AllocError>
+    ensures { OnOk result (string_bytes text.new
+        ≡ string_bytes text.old ++ range_row price now range) }
+{
+    push_price_start(text, price)?;
+    push_range_cells(text, now, range)?;
+    text.push_str("</tr>\n")
+}
+
+/// Adds the line of a price for the row that is shown at a place.
+#[tactic(auto, unfolding(crate::specs::Stays::range_row_at))]
+fn push_range_row_at<A: Allocator>(
+    text: &mut String<A>,
+    place: usize,
+    ranges: &Ranges,
+) -> Result<(), AllocError>
+    requires { place < length ranges.now.ranges }
+    ensures { OnOk result (string_bytes text.new
+        ≡ string_bytes text.old ++ range_row_at place ranges.now) }
+{
+    push_range_row(text, ranges.price, ranges.stated, ranges.ranges[place])
+}
+
+fn push_range_rows<A: Allocator>(
+    text: &mut String<A>,
+    place: usize,
+    all: &[Ranges],
+) -> Result<(), AllocError>
+    requires { All (λ r. place < length r.ranges) all.now }
+    ensures { OnOk result (string_bytes text.new
+        ≡ string_bytes text.old ++ flat_map (range_row_at place) all.now) }
+{
+    for ranges in all {
+        push_range_row_at(text, place, ranges)?;
+    }
+    Ok(())
+}
+
+/// Adds by how many percent all prices may be off.
+#[tactic(auto, unfolding(crate::specs::Stays::up_to))]
+fn push_up_to<A: Allocator>(text: &mut String<A>, percent: u64) -> Result<(), AllocError>
+    ensures { OnOk result (string_bytes text.new ≡ string_bytes text.old ++ up_to percent) }
+{
+    write!(
+        text,
+        "<p>It stays if every price is off by up to {percent}%.</p></div>\n"
+    )
+}
+
+/// Adds that prices don't matter.
+#[tactic(auto, unfolding(crate::specs::Stays::whatever))]
+fn push_whatever<A: Allocator>(text: &mut String<A>) -> Result<(), AllocError>
+    ensures { OnOk result (string_bytes text.new ≡ string_bytes text.old ++ whatever) }
+{
+    text.push_str("<p>It stays whatever the prices are.</p></div>\n")
+}
+
+/// Adds by how many percent all prices may be off at once.
+#[tactic(auto, unfolding(crate::specs::Stays::off_text))]
+fn push_off<A: Allocator>(text: &mut String<A>, percent: u64) -> Result<(), AllocError>
+    ensures { OnOk result (string_bytes text.new ≡ string_bytes text.old ++ off_text percent) }
+{
+    if percent < 100 {
+        push_up_to(text, percent)
+    } else {
+        push_whatever(text)
+    }
+}
+
+/// Adds the table of the prices with which the row that is shown at a place stays on the front.
+///
+/// `rows` are all rows of the study, `book` has its prices.
+#[tactic(auto, unfolding(crate::specs::Stays::prices_table))]
+pub fn push_prices_table<A: Allocator, B: Allocator>(
+    text: &mut String<A>,
+    study: &Study<B>,
+    rows: &[FrontRow],
+    book: &PriceBook,
+    shown: &[FrontRow],
+    place: usize,
+) -> Result<(), AllocError>
+    requires rows { rows.now ≡ all_rows study.now }
+    requires book { AreFound study.now shown.now book.now }
+    requires place { place < length shown.now }
+    requires within { All (λ r. r.row < length study.now.rows) shown.now }
+    ensures { OnOk result (string_bytes text.new ≡ string_bytes text.old
+        ++ prices_table study.now (slice_index_or shown.now place no_row)) }
+{
+    let names = ["Price", "Now", "Stays"];
+    text.push_str("<div>")?;
+    push_table_head(text, " class=\"a\"", "Prices with which it stays", &names)?;
+    push_range_rows(text, place, book.ranges())?;
+    push_table_end(text)?;
+    push_more(text, "prices", book.relevant())?;
+    push_off(text, percent(study, book.all(), rows, shown[place]))
+}
