@@ -10,7 +10,7 @@ use Rattle.std.proofs.lemmas.Option.{get_or_from_slice_get, slice_get_read, slic
 use Rattle.tomex_image.specs.Image.{Loaded}
 use Rattle.tomex_rvexec.specs.Machine.{State, Outcome, Goes, Ends, Faults, step_of, coming_of}
 use Rattle.tomex_rvexec.specs.Run.{start_of, EndsWithin}
-use Rattle.tomex_rvexec.specs.Trace.{steps_from, onto, after}
+use Rattle.tomex_rvexec.specs.Trace.{steps_from, onto, steps_after}
 use Rattle.tomex_steps.specs.declared.step.Step.{Step}
 use Rattle.tomex_rvexec.proofs.FlowEnds.{ends_within_more, same_steps}
 use Rattle.tomex_config.specs.Configuration.{Configuration, IsWithinLimits}
@@ -28,7 +28,7 @@ length_onto None xs = omega arith
 length_onto (Some x) xs = omega arith
 
 length_after : (n : ℕ) (o : Outcome) (next : State → List Step) → ((s : State) → length (next s) ≤ n)
-    → length (after o next) ≤ n
+    → length (steps_after o next) ≤ n
 length_after n (Goes s) next h = h s
 length_after n (Ends k) next h = omega arith
 length_after n (Faults k) next h = omega arith
@@ -36,7 +36,7 @@ length_after n (Faults k) next h = omega arith
 length_steps : (n : ℕ) (s : State) → length (steps_from n s) ≤ n
 length_steps zero s = omega arith
 length_steps (suc n) s =
-    let a = length_onto (coming_of s) (after (step_of s) (steps_from n)) in
+    let a = length_onto (coming_of s) (steps_after (step_of s) (steps_from n)) in
     let b = length_after n (step_of s) (steps_from n) (length_steps n) in
     omega arith
 
