@@ -11,7 +11,7 @@ use Rattle.tomex_steps.specs.Steps.{is_number}
 use Rattle.tomex_cycle.proofs.AddressChosen.{or_else}
 use Rattle.tomex_cycle.specs.Ends.{EndsIn, Hears, after_ends, sends_of, sent_below}
 use Rattle.tomex_tags.specs.Contents.{hears}
-use Rattle.tomex_tags.specs.Operands.{heard, only, taken}
+use Rattle.tomex_tags.specs.Operands.{field_after, only, value_or_tag}
 use Rattle.tomex_tags.specs.Places.{place_at, place_of_tag}
 use Rattle.tomex_tags.specs.Pools.{Pools}
 use Rattle.tomex_tags.specs.declared.register_status.RegStatus.{RegStatus}
@@ -34,47 +34,47 @@ pub record AreEndedBelow (picked : ℕ) (n : ℕ) (old new : Pools) : Type 0 whe
 -- A register that hears a value, or not.
 
 pub heard_yes : (from value v : ℕ) (tag : Option Tag) → is_number (place_at tag) from ≡ true
-    → heard (only from (Some value)) (field_from v tag) ≡ Value value
+    → field_after (only from (Some value)) (field_from v tag) ≡ Value value
 heard_yes from value v None e = absurd (cc)
 heard_yes from value v (Some tag) e =
     let f : place_of_tag tag ≡ from = eqb-true _ _ e in
     rw (eq-eqb from (place_of_tag tag) (sym f)) refl
 
 pub heard_no : (from value v : ℕ) (tag : Option Tag) → is_number (place_at tag) from ≡ false
-    → heard (only from (Some value)) (field_from v tag) ≡ field_from v tag
+    → field_after (only from (Some value)) (field_from v tag) ≡ field_from v tag
 heard_no from value v None e = refl
 heard_no from value v (Some tag) e = rw (ne_eqb from (place_of_tag tag) (λ z. eqb-false _ _ e (sym z))) refl
 
 -- One end after others.
 
 then_by : (g : ℕ → Option ℕ) (p : ℕ) (f k : Option ℕ) (tag : Tag) → p ≡ place_of_tag tag → k ≡ or_else f (g p)
-    → heard g (taken f tag) ≡ taken k tag
+    → field_after g (value_or_tag f tag) ≡ value_or_tag k tag
 then_by g p None k tag at e = rw (e, at) refl
 then_by g p (Some v) k tag at e = rw e refl
 
 heard_then : (f g k : ℕ → Option ℕ) (field : Field) → ((y : ℕ) → k y ≡ or_else (f y) (g y))
-    → heard g (heard f field) ≡ heard k field
+    → field_after g (field_after f field) ≡ field_after k field
 heard_then f g k (Value v) e = refl
 heard_then f g k Unread e = refl
 heard_then f g k (Waits tag) e =
     then_by g (place_of_tag tag) (f (place_of_tag tag)) (k (place_of_tag tag)) tag refl (e (place_of_tag tag))
 
-heard_same : (f k : ℕ → Option ℕ) (field : Field) → ((y : ℕ) → k y ≡ f y) → heard f field ≡ heard k field
+heard_same : (f k : ℕ → Option ℕ) (field : Field) → ((y : ℕ) → k y ≡ f y) → field_after f field ≡ field_after k field
 heard_same f k (Value v) e = refl
 heard_same f k Unread e = refl
-heard_same f k (Waits tag) e = ap (λ o. taken o tag) (sym (e (place_of_tag tag)))
+heard_same f k (Waits tag) e = ap (λ o. value_or_tag o tag) (sym (e (place_of_tag tag)))
 
 hears_then : (f g k : ℕ → Option ℕ) (s : Station) → ((y : ℕ) → k y ≡ or_else (f y) (g y))
     → hears g (hears f s) ≡ hears k s
 hears_then f g k s e =
-    let a : Field → Station = λ x. record s { j = x; k = heard g (heard f s.k) } in
-    let b : Field → Station = λ x. record s { j = heard k s.j; k = x } in
+    let a : Field → Station = λ x. record s { j = x; k = field_after g (field_after f s.k) } in
+    let b : Field → Station = λ x. record s { j = field_after k s.j; k = x } in
     ap a (heard_then f g k s.j e) ∙ ap b (heard_then f g k s.k e)
 
 hears_same : (f k : ℕ → Option ℕ) (s : Station) → ((y : ℕ) → k y ≡ f y) → hears f s ≡ hears k s
 hears_same f k s e =
-    let a : Field → Station = λ x. record s { j = x; k = heard f s.k } in
-    let b : Field → Station = λ x. record s { j = heard k s.j; k = x } in
+    let a : Field → Station = λ x. record s { j = x; k = field_after f s.k } in
+    let b : Field → Station = λ x. record s { j = field_after k s.j; k = x } in
     ap a (heard_same f k s.j e) ∙ ap b (heard_same f k s.k e)
 
 ends_then : (a b : Bool) (f g k : ℕ → Option ℕ) (o : Option Station) → ((y : ℕ) → k y ≡ or_else (f y) (g y))
@@ -189,7 +189,8 @@ hear_yes picked n old s first r new l e so before made count status =
     record {
       count = m.count;
       status = m.status;
-      fields = λ q k. m.fields q k ∙ (ap (heard (only n (sends_of (slice_index_or s.slots n None)))) (b.fields q k)
+      fields = λ q k. m.fields q k
+          ∙ (ap (field_after (only n (sends_of (slice_index_or s.slots n None)))) (b.fields q k)
           ∙ heard_then (sent_below old.slots picked n) (only n (sends_of (slice_index_or s.slots n None)))
           (sent_below old.slots picked (n + 1)) (reg_field first.values first.tags q)
           (λ y. sent_yes old.slots picked n y (sends_of (slice_index_or s.slots n None)) e sent));

@@ -12,7 +12,7 @@ use Rattle.tomex_timing.specs.declared.tables.Tag.{Tag}
 use Rattle.tomex_steps.specs.Steps.{is_number}
 use Rattle.tomex_cycle.specs.Ends.{EndsIn, Hears, after_ends, sends_of, sent_below, AreEnded, AreNamed, HaveReceived}
 use Rattle.tomex_tags.specs.Contents.{hears}
-use Rattle.tomex_tags.specs.Operands.{heard, only, taken}
+use Rattle.tomex_tags.specs.Operands.{field_after, only, value_or_tag}
 use Rattle.tomex_tags.specs.Places.{place_at, place_of_tag}
 use Rattle.tomex_tags.specs.Pools.{Pools, HaveHeard}
 use Rattle.tomex_tags.specs.declared.register_status.RegStatus.{RegStatus}
@@ -20,7 +20,7 @@ use Rattle.tomex_tags.specs.declared.station.Station.{Station}
 use Rattle.tomex_sets.specs.Sets.{has, IsWithout}
 use Rattle.tomex_sets.proofs.Members.{AreFrom, all_left, least_from, least_in, left_from, none_after, none_between}
 use Rattle.tomex_sets.proofs.Members.{skip_to}
-use Rattle.tomex_tags.specs.Registers.{names, received}
+use Rattle.tomex_tags.specs.Registers.{names, registers_after}
 use Rattle.tomex_rvdec.specs.Operands.{dest_of}
 use Rattle.tomex_cycle.specs.Starts.{AreLow}
 use Rattle.tomex_cycle.proofs.EndsInTurn.{reg_field, AreEndedBelow, heard_yes, heard_no, apply_yes, apply_no, hear_yes}
@@ -28,19 +28,19 @@ use Rattle.tomex_cycle.proofs.EndsInTurn.{hear_no}
 
 -- A place ends.
 
-none_heard : (p : ℕ) (f : Field) → heard (only p None) f ≡ f
+none_heard : (p : ℕ) (f : Field) → field_after (only p None) f ≡ f
 none_heard p (Value v) = refl
 none_heard p Unread = refl
 none_heard p (Waits tag) = by_place (p == place_of_tag tag)
   where
-    by_place : (b : Bool) → taken (if b then None else None) tag ≡ Waits tag
+    by_place : (b : Bool) → value_or_tag (if b then None else None) tag ≡ Waits tag
     by_place true = refl
     by_place false = refl
 
 none_hears : (p : ℕ) (o : Option Station) → option_map (hears (only p None)) o ≡ o
 none_hears p None = refl
 none_hears p (Some s) =
-    let a : Field → Station = λ x. record s { j = x; k = heard (only p None) s.k } in
+    let a : Field → Station = λ x. record s { j = x; k = field_after (only p None) s.k } in
     let b : Field → Station = λ x. record s { k = x } in
     ap (λ (z : Station). Some z) (ap a (none_heard p s.j) ∙ ap b (none_heard p s.k))
 
@@ -108,7 +108,7 @@ pub hears_silent : (p : ℕ) (o : Option Station) (s : Station) (rg : RegStatus)
 hears_silent p o s rg e dest = rw (e, dest) (none_received p rg)
 
 received_hears : (p r v : ℕ) (rg : RegStatus) → r < 32 → ((q : ℕ) → q < 32 → names rg q p ≡ true → q ≡ r)
-    → Hears (only p (Some v)) rg (received rg r p v)
+    → Hears (only p (Some v)) rg (registers_after rg r p v)
 received_hears p r v rg l named count status = elim (cases_Bool (names rg r p)) [
   | inr e ↦ rw e (record {
     count = count;
@@ -138,7 +138,7 @@ received_hears p r v rg l named count status = elim (cases_Bool (names rg r p)) 
 ]
 
 pub hears_sending : (p r : ℕ) (slots : List (Option Station)) (s : Station) (rg new : RegStatus)
-    → slice_index_or slots p None ≡ Some s → dest_of s.instr ≡ Some r → r < 32 → new ≡ received rg r p s.value
+    → slice_index_or slots p None ≡ Some s → dest_of s.instr ≡ Some r → r < 32 → new ≡ registers_after rg r p s.value
     → AreNamed slots rg → Hears (only p (sends_of (slice_index_or slots p None))) rg new
 hears_sending p r slots s rg new here dest l made named =
     rw (here, dest, made) (received_hears p r s.value rg l (λ q k e. let f : dest_of s.instr ≡ Some q =
@@ -147,16 +147,16 @@ hears_sending p r slots s rg new here dest l made named =
     one_register : (o : Option ℕ) (q r : ℕ) → o ≡ Some q → o ≡ Some r → q ≡ r
     one_register o q r e f = cc
 
-none_sent : (sent : ℕ → Option ℕ) (f : Field) → ((y : ℕ) → sent y ≡ None) → f ≡ heard sent f
+none_sent : (sent : ℕ → Option ℕ) (f : Field) → ((y : ℕ) → sent y ≡ None) → f ≡ field_after sent f
 none_sent sent (Value v) none = refl
 none_sent sent Unread none = refl
-none_sent sent (Waits tag) none = sym (ap (λ o. taken o tag) (none (place_of_tag tag)))
+none_sent sent (Waits tag) none = sym (ap (λ o. value_or_tag o tag) (none (place_of_tag tag)))
 
 none_ended : (sent : ℕ → Option ℕ) (o : Option Station) → ((y : ℕ) → sent y ≡ None) → o ≡ after_ends false sent o
 none_ended sent None none = refl
 none_ended sent (Some s) none =
     let a : Field → Station = λ x. record s { j = x } in
-    let b : Field → Station = λ x. record s { j = heard sent s.j; k = x } in
+    let b : Field → Station = λ x. record s { j = field_after sent s.j; k = x } in
     ap (λ (z : Station). Some z) (ap a (none_sent sent s.j none) ∙ ap b (none_sent sent s.k none))
 
 some_none : (s : Station) (o : Option Station) → o ≡ Some s → o ≡ None → ⊥
@@ -171,7 +171,7 @@ wait_sets xs x s count e = elim (cases_Bool (nat_lt x 96)) [
       absurd (some_none s (slice_index_or xs x None) e none)
 ]
 
-same_tag : (o : Option ℕ) (u t : Tag) (x : ℕ) → Waits t ≡ taken o u → is_number (place_at (Some t)) x ≡ true
+same_tag : (o : Option ℕ) (u t : Tag) (x : ℕ) → Waits t ≡ value_or_tag o u → is_number (place_at (Some t)) x ≡ true
     → is_number (place_at (Some u)) x ≡ true
 same_tag None u t x e f = let g : t ≡ u = cc in rw (← g) f
 same_tag (Some v) u t x e f = absurd (cc)
@@ -196,7 +196,8 @@ named_still picked k old s first r named so count heard_ q x l e station here =
     stood false sent None s e = absurd (cc)
     stood false sent (Some z) s e = let f : hears sent z ≡ s = cc in (z, refl, ap (λ (y : Station). y.instr) (sym f))
 
-    named_by : (sent : ℕ → Option ℕ) (a b : ℕ) (p q : Option Tag) (x : ℕ) → field_from b q ≡ heard sent (field_from a p)
+    named_by : (sent : ℕ → Option ℕ) (a b : ℕ) (p q : Option Tag) (x : ℕ)
+        → field_from b q ≡ field_after sent (field_from a p)
         → is_number (place_at q) x ≡ true → is_number (place_at p) x ≡ true
     named_by sent a b p None x e f = absurd (cc)
     named_by sent a b None (Some t) x e f = absurd (cc)

@@ -17,22 +17,22 @@ use Rattle.tomex_cycle.specs.Phases.{MakesEnds}
 use Rattle.tomex_cycle.specs.declared.finishes.Finishes.{Finishes}
 use Rattle.tomex_cycle.proofs.EndsFetch.{made_ends}
 use Rattle.tomex_tags.specs.Contents.{hears}
-use Rattle.tomex_tags.specs.Operands.{heard, taken}
+use Rattle.tomex_tags.specs.Operands.{field_after, value_or_tag}
 use Rattle.tomex_tags.specs.Places.{place_of_tag}
 use Rattle.tomex_tags.specs.Pools.{AreBusy, Pools}
 use Rattle.tomex_tags.specs.declared.register_status.RegStatus.{RegStatus}
 use Rattle.tomex_tags.specs.declared.station.Station.{Station}
 
-heard_none : (sent : ℕ → Option ℕ) (f : Field) → ((y : ℕ) → sent y ≡ None) → f ≡ heard sent f
+heard_none : (sent : ℕ → Option ℕ) (f : Field) → ((y : ℕ) → sent y ≡ None) → f ≡ field_after sent f
 heard_none sent (Value v) none = refl
 heard_none sent Unread none = refl
-heard_none sent (Waits tag) none = sym (ap (λ (o : Option ℕ). taken o tag) (none (place_of_tag tag)))
+heard_none sent (Waits tag) none = sym (ap (λ (o : Option ℕ). value_or_tag o tag) (none (place_of_tag tag)))
 
 hears_none : (sent : ℕ → Option ℕ) (o : Option Station) → ((y : ℕ) → sent y ≡ None) → o ≡ option_map (hears sent) o
 hears_none sent None none = refl
 hears_none sent (Some s) none =
     let f : Field → Station = λ x. record s { j = x } in
-    let g : Field → Station = λ x. record s { j = heard sent s.j; k = x } in
+    let g : Field → Station = λ x. record s { j = field_after sent s.j; k = x } in
     ap (λ (z : Station). Some z) (ap f (heard_none sent s.j none) ∙ ap g (heard_none sent s.k none))
 
 none_sent : (slots : List (Option Station)) (n y : ℕ) → sent_below slots 0 n y ≡ None

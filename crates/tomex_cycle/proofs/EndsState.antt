@@ -30,7 +30,7 @@ use Rattle.tomex_cycle.proofs.EndsPass.{ends_in, idle_ends}
 use Rattle.tomex_cycle.proofs.Fields.{heard_is, issued_part, silent, timed_part}
 use Rattle.tomex_cycle.proofs.Totals.{reach}
 use Rattle.tomex_tags.specs.Contents.{hears}
-use Rattle.tomex_tags.specs.Operands.{heard}
+use Rattle.tomex_tags.specs.Operands.{field_after}
 use Rattle.tomex_tags.specs.declared.register_status.RegStatus.{RegStatus}
 use Rattle.tomex_tags.specs.declared.station.Station.{Station}
 use Rattle.tomex_sets.specs.Sets.{has}
@@ -136,7 +136,7 @@ k_cases x = elim (k_reads (form_of x.instr.op) x.instr.rs1 x.instr.rs2) [
 field_hears : (i : Loaded) (config : Configuration) (t u v r : ℕ) (newer older : List Done) (o : Option Operand)
     → IsWithinLimits config → AreTimed config (newer ++ older) → AreIssuedBy u (newer ++ older) → u ≡ t + 1
     → v ≡ register_after i (steps_in older) r → (o ≡ None) ⊎ (o ≡ Some (operand v r))
-    → heard (sent_at i u (newer ++ older)) (field_of t older o) ≡ field_of u older o
+    → field_after (sent_at i u (newer ++ older)) (field_of t older o) ≡ field_of u older o
 field_hears i config t u v r newer older o good timed issued e value (inl none) = rw none refl
 field_hears i config t u v r newer older o good timed issued e value (inr some) =
     rw some (heard_is i config t u newer older (operand v r) good timed issued e value)
@@ -147,11 +147,11 @@ station_hears : (i : Loaded) (config : Configuration) (t u : ℕ) (newer : List 
     → station_of i (clocks u u u) d older ≡ hears (sent_at i u ((newer ++ (d ∷ [])) ++ older))
     (station_of i (clocks u u t) d older)
 station_hears i config t u newer d older good timed issued e follows =
-    let j : heard (sent_at i u ((newer ++ (d ∷ [])) ++ older)) (field_of t older (j_of d.step))
+    let j : field_after (sent_at i u ((newer ++ (d ∷ [])) ++ older)) (field_of t older (j_of d.step))
     ≡ field_of u older (j_of d.step) =
     field_hears i config t u d.step.vj d.step.instr.rs1 (newer ++ (d ∷ [])) older (j_of d.step) good timed issued e
     follows.vj (j_cases d.step) in
-    let k : heard (sent_at i u ((newer ++ (d ∷ [])) ++ older)) (field_of t older (k_of d.step))
+    let k : field_after (sent_at i u ((newer ++ (d ∷ [])) ++ older)) (field_of t older (k_of d.step))
     ≡ field_of u older (k_of d.step) =
     field_hears i config t u d.step.vk d.step.instr.rs2 (newer ++ (d ∷ [])) older (k_of d.step) good timed issued e
     follows.vk (k_cases d.step) in
@@ -160,7 +160,7 @@ station_hears i config t u newer d older good timed issued e follows =
       k = field_of u older (k_of d.step);
     } in
     let b : Field → Station = λ x. record (station_of i (clocks u u t) d older) {
-      j = heard (sent_at i u ((newer ++ (d ∷ [])) ++ older)) (field_of t older (j_of d.step));
+      j = field_after (sent_at i u ((newer ++ (d ∷ [])) ++ older)) (field_of t older (j_of d.step));
       k = x;
     } in
     ap a (sym j) ∙ ap b (sym k)
@@ -223,7 +223,7 @@ field_by : (a b : ℕ) (p q : Option Tag) → p ≡ q → (q ≡ None → a ≡ 
 field_by a b p None e v = rw (e, v refl) refl
 field_by a b p (Some q) e v = rw e refl
 
-heard_alike : (f k : ℕ → Option ℕ) (field : Field) → ((y : ℕ) → k y ≡ f y) → heard f field ≡ heard k field
+heard_alike : (f k : ℕ → Option ℕ) (field : Field) → ((y : ℕ) → k y ≡ f y) → field_after f field ≡ field_after k field
 heard_alike f k (Value v) e = refl
 heard_alike f k Unread e = refl
 heard_alike f k (Waits tag) e = rw (e _) refl
@@ -237,7 +237,7 @@ registers_at i config t u h sent old new good timed issued e shown same made =
     ≡ field_from (register_after i (steps_in h) r) (producer u h r) = λ r l.
     made.fields r l ∙ (heard_alike sent (sent_at i u h)
     (field_from (slice_index old.values r) (slice_index_or old.tags r None)) same
-    ∙ (ap (heard (sent_at i u h)) (field_by (slice_index old.values r) (register_after i (steps_in h) r)
+    ∙ (ap (field_after (sent_at i u h)) (field_by (slice_index old.values r) (register_after i (steps_in h) r)
     (slice_index_or old.tags r None) (producer t h r) (shown.tags r l) (shown.values r l))
     ∙ heard_is i config t u [] h (operand (register_after i (steps_in h) r) r) good timed issued e refl)) in
     record {

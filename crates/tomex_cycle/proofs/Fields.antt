@@ -25,7 +25,7 @@ use Rattle.tomex_cycle.specs.Run.{AreIssuedBy, steps_in}
 use Rattle.tomex_cycle.specs.Views.{holds_place, place_of, sent_at}
 use Rattle.tomex_cycle.proofs.Places.{is_vacant, vacant}
 use Rattle.tomex_cycle.proofs.Totals.{place_there, reach}
-use Rattle.tomex_tags.specs.Operands.{heard, is_there}
+use Rattle.tomex_tags.specs.Operands.{field_after, is_there}
 use Rattle.tomex_tags.specs.Places.{place_at, place_of_tag}
 
 -- the tag of a step that hasn't ended
@@ -109,7 +109,7 @@ sent_newer i config t u x (n ∷ newer) h good timed issued e held = elim (cases
 -- what a broadcast makes of an operand that waits for w
 heard_one : (v u t : ℕ) (tag : Tag) (w : ℕ) (sent : ℕ → Option ℕ) (b : Bool)
     → sent (place_of_tag tag) ≡ (if b then Some v else None)
-    → heard sent (Waits tag) ≡ field_from v (if b then None else Some tag)
+    → field_after sent (Waits tag) ≡ field_from v (if b then None else Some tag)
 heard_one v u t tag w sent true e = rw e refl
 heard_one v u t tag w sent false e = rw e refl
 
@@ -209,7 +209,7 @@ place_is w tag t e l = rw (e, lt-ltb t w.at.end l, eq-eqb (place_of_tag tag) (pl
 heard_from : (i : Loaded) (config : Configuration) (t u v : ℕ) (newer : List Done) (w : Done) (older : List Done)
     → IsWithinLimits config → AreTimed config (newer ++ (w ∷ older)) → AreIssuedBy u (newer ++ (w ∷ older)) → u ≡ t + 1
     → is_some (step_dest w.step) ≡ true → v ≡ result_of w.step (byte_after i (steps_in older))
-    → heard (sent_at i u (newer ++ (w ∷ older))) (field_from v (unsent_tag t w)) ≡ field_from v (unsent_tag u w)
+    → field_after (sent_at i u (newer ++ (w ∷ older))) (field_from v (unsent_tag t w)) ≡ field_from v (unsent_tag u w)
 heard_from i config t u v newer w older good timed issued e dest value = elim (cases_Bool (nat_lt t w.at.end)) [
   | inr l ↦
       let k : w.at.end ≤ t = ltb-false _ _ l in
@@ -237,12 +237,12 @@ heard_from i config t u v newer w older good timed issued e dest value = elim (c
 heard_by : (i : Loaded) (config : Configuration) (t u : ℕ) (newer older : List Done) (o : Operand)
     → IsWithinLimits config → AreTimed config (newer ++ older) → AreIssuedBy u (newer ++ older) → u ≡ t + 1
     → o.value ≡ register_after i (steps_in older) o.register → Writer i o.register older
-    → heard (sent_at i u (newer ++ older)) (field_of t older (Some o)) ≡ field_of u older (Some o)
+    → field_after (sent_at i u (newer ++ older)) (field_of t older (Some o)) ≡ field_of u older (Some o)
 heard_by i config t u newer older o good timed issued e value (nobody none) = rw (none t, none u) refl
 heard_by i config t u newer older o good timed issued e value (writes between w behind split dest from result) =
     let whole : newer ++ older ≡ (newer ++ between) ++ (w ∷ behind) =
     ap (λ xs. newer ++ xs) split ∙ sym (append_assoc newer between (w ∷ behind)) in
-    let one : heard (sent_at i u ((newer ++ between) ++ (w ∷ behind))) (field_from o.value (unsent_tag t w))
+    let one : field_after (sent_at i u ((newer ++ between) ++ (w ∷ behind))) (field_from o.value (unsent_tag t w))
     ≡ field_from o.value (unsent_tag u w)
     = heard_from i config t u o.value (newer ++ between) w behind good (rw (← whole) timed) (rw (← whole) issued) e dest
     (value ∙ result) in
@@ -252,6 +252,6 @@ heard_by i config t u newer older o good timed issued e value (writes between w 
 pub heard_is : (i : Loaded) (config : Configuration) (t u : ℕ) (newer older : List Done) (o : Operand)
     → IsWithinLimits config → AreTimed config (newer ++ older) → AreIssuedBy u (newer ++ older) → u ≡ t + 1
     → o.value ≡ register_after i (steps_in older) o.register
-    → heard (sent_at i u (newer ++ older)) (field_of t older (Some o)) ≡ field_of u older (Some o)
+    → field_after (sent_at i u (newer ++ older)) (field_of t older (Some o)) ≡ field_of u older (Some o)
 heard_is i config t u newer older o good timed issued e value =
     heard_by i config t u newer older o good timed issued e value (writer_is i o.register older)

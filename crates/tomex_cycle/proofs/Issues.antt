@@ -39,7 +39,7 @@ use Rattle.tomex_cycle.proofs.AddressChosen.{address_is}
 use Rattle.tomex_cycle.proofs.Cycles.{can_start_later}
 use Rattle.tomex_cycle.proofs.Totals.{reach}
 use Rattle.tomex_tags.specs.Places.{place_at}
-use Rattle.tomex_tags.specs.Contents.{issued}
+use Rattle.tomex_tags.specs.Contents.{new_station}
 use Rattle.tomex_tags.specs.Pools.{Pools}
 use Rattle.tomex_tags.specs.Registers.{operand_in, tags_with}
 use Rattle.tomex_tags.specs.declared.register_status.RegStatus.{RegStatus}
@@ -137,12 +137,12 @@ made_from : (instr : Instruction) (pc : ℕ) (j k : Field) (start u finish value
       address = address;
       finish = if nat_le start u then Some finish else None;
       value = if nat_le start u then value else 0;
-    }) (issued instr pc j k)
+    }) (new_station instr pc j k)
 made_from instr pc j k start u finish value address l e = rw (lt-leb start u l, e) refl
 
 pub station_made : (i : Loaded) (config : Configuration) (t u : ℕ) (d : Done) (h : List Done) (p : PoolId)
     → IsTimed config h d.step d.at → d.at.issue ≡ u → step_pool d.step ≡ Some p
-    → station_of i (clocks u u t) d h ≡ issued d.step.instr d.step.pc (field_of t h (j_of d.step))
+    → station_of i (clocks u u t) d h ≡ new_station d.step.instr d.step.pc (field_of t h (j_of d.step))
     (field_of t h (k_of d.step))
 station_made i config t u d h p timed at pool =
     let after : d.at.issue < d.at.start = starts_after config d h p timed pool in

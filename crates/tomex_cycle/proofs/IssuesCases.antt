@@ -41,7 +41,7 @@ use Rattle.tomex_cycle.proofs.IssuesTest.{IsComing, can_is, coming, is_waiting, 
 use Rattle.tomex_cycle.proofs.Issues.{fetch_made, read_j, read_k, registers_same, registers_with, station_made}
 use Rattle.tomex_cycle.proofs.Issues.{stations_same, stations_with, tag_made, yet_after}
 use Rattle.tomex_tags.specs.Places.{place_at}
-use Rattle.tomex_tags.specs.Contents.{issued}
+use Rattle.tomex_tags.specs.Contents.{new_station}
 use Rattle.tomex_tags.specs.Pools.{Pools, is_open}
 use Rattle.tomex_tags.specs.Registers.{operand_in, tags_with}
 use Rattle.tomex_tags.specs.declared.register_status.RegStatus.{RegStatus}
@@ -222,7 +222,7 @@ pub some_case : (i : Loaded) (config : Configuration) (count : ℕ) (st new : Po
     → j ≡ operand_in rg (sources_of instr).j → k ≡ operand_in rg (sources_of instr).k
     → IfSome (sources_of instr).j (λ r. r < 32) → IfSome (sources_of instr).k (λ r. r < 32)
     → IfSome (dest_of instr) (λ r. r < 32)
-    → new.slots ≡ slice_set st.slots (16 * place_of_pool p + number) (Some (issued instr pc j k))
+    → new.slots ≡ slice_set st.slots (16 * place_of_pool p + number) (Some (new_station instr pc j k))
     → new.issue_numbers ≡ slice_set st.issue_numbers (16 * place_of_pool p + number) count
     → status.values ≡ rg.values → status.tags ≡ tags_with rg.tags (dest_of instr) (record { pool = p; number = number })
     → ((x : Step) → x.instr ≡ instr → x.pc ≡ pc → from ≡ fetch_after x (is_branch x) (end_of x))
@@ -248,7 +248,7 @@ some_case i config count st new rg status ft from pc instr p most number j k at 
     rw (← x.1.instr_is) at j_is ∙ read_j i t h rg x.0 old.status x.1.come.follows (rw x.1.instr_is j_low) in
     let b : k ≡ field_of t h (k_of x.0) =
     rw (← x.1.instr_is) at k_is ∙ read_k i t h rg x.0 old.status x.1.come.follows (rw x.1.instr_is k_low) in
-    let made : issued instr pc j k ≡ station_of i (clocks u u t) d h =
+    let made : new_station instr pc j k ≡ station_of i (clocks u u t) d h =
     station_same instr x.0.instr pc x.0.pc j _ k _ (sym x.1.instr_is) pc_is a b
     ∙ sym (station_made i config t u d h p x.1.timed.0 issue here) in
     let f : from ≡ fetch_of i t (d ∷ h) =
@@ -267,5 +267,5 @@ some_case i config count st new rg status ft from pc instr p most number j k at 
     )
   where
     station_same : (a b : Instruction) (pc q : ℕ) (j l k m : Field) → a ≡ b → pc ≡ q → j ≡ l → k ≡ m
-        → issued a pc j k ≡ issued b q l m
+        → new_station a pc j k ≡ new_station b q l m
     station_same a b pc q j l k m e f g h = rw (e, f, g, h) refl

@@ -1,5 +1,5 @@
 use Rattle.tomex_tags.proofs.Serving.{are_addressed}
-use Rattle.tomex_tags.proofs.pools.Pools.addressed.Goals as goal
+use Rattle.tomex_tags.proofs.pools.Pools.places_with_address.Goals as goal
 
 pub returns-clause-set : goal.returns-clause-set
 returns-clause-set c = rw (← c.self.view_is)

@@ -1,6 +1,6 @@
 use Rattle.std.proofs.Common.{◌≡◌, ◌<◌, ℕ, None, slice_index_or, length}
 use Rattle.tomex_tags.specs.Contents.{shown_at}
-use Rattle.tomex_tags.proofs.pools.Pools.shown.Given as goal
+use Rattle.tomex_tags.proofs.pools.Pools.busy_entries.Given as goal
 
 abbrev pub invariant-loop-place : goal.invariant-loop-place
 invariant-loop-place l = record {
