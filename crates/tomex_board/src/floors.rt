@@ -10,7 +10,7 @@ use std::collections::BTreeSet;
 pub(crate) const BANDS: usize = 64;
 
 /// The keys of a set as a list.
-fn listed<A: Allocator>(alloc: A, rising: &BTreeSet<u64, A>) -> Result<Vec<u64, A>, AllocError>
+fn list_of<A: Allocator>(alloc: A, rising: &BTreeSet<u64, A>) -> Result<Vec<u64, A>, AllocError>
     ensures { IfOk result (λ v. v.items ≡ rising.now.keys) }
 {
     rising.iter().copied().collect(alloc)
@@ -24,7 +24,7 @@ fn distinct_costs<A: Allocator + Clone>(alloc: A, costs: &[u64]) -> Result<Vec<u
     for cost in costs {
         rising.insert(*cost)?;
     }
-    listed(alloc, &rising)
+    list_of(alloc, &rising)
 }
 
 /// The `k`th of 64 costs that are evenly spread among rising ones.

@@ -2,7 +2,7 @@
 use Rattle.std.proofs.Common.{◌≡◌, ◌≤◌, ◌<◌, length, rules, arith}
 use Rattle.std.specs.Vec.Iter.{into_iter_items}
 use Rattle.tomex_lanes.proofs.Seating.{none_dealt, can_split, next_dealt, all_dealt}
-use Rattle.tomex_lanes.proofs.worker.seated.Goals as goal
+use Rattle.tomex_lanes.proofs.worker.seat_workers.Goals as goal
 
 pub loop-init : goal.loop-init
 loop-init g c =

@@ -1,8 +1,8 @@
 use Rattle.std.proofs.Common.{rules}
 use Rattle.tomex_lanes.proofs.Steps.{begins}
 use Rattle.tomex_lanes.proofs.Dealing.{rows_of-here, rows_of-else}
-use Rattle.tomex_lanes.proofs.owner.filled.Goals as goal
-use Rattle.tomex_lanes.proofs.owner.filled.Goals.{then-row-workers+in_ok-add, else-row-workers}
+use Rattle.tomex_lanes.proofs.owner.owner_with_rows.Goals as goal
+use Rattle.tomex_lanes.proofs.owner.owner_with_rows.Goals.{then-row-workers+in_ok-add, else-row-workers}
 
 pub fifo_as-requires : goal.fifo_as-requires
 fifo_as-requires g c = begins
