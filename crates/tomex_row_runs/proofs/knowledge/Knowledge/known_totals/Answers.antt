@@ -4,7 +4,7 @@ use Rattle.std.proofs.lemmas.Option.{slice_get_read}
 use Rattle.tomex_plateaus.specs.Kept.{Kept}
 use Rattle.tomex_row_runs.specs.Knowledge.{IsKnowledge, KnowledgeOf}
 use Rattle.tomex_row_runs.proofs.Knowing.{all_looked_up, as_many, list_total, none_known, one_known, one_looked_up}
-use Rattle.tomex_row_runs.proofs.knowledge.Knowledge.known.Goals as goal
+use Rattle.tomex_row_runs.proofs.knowledge.Knowledge.known_totals.Goals as goal
 
 pub loop-place-init : goal.loop-place-init
 loop-place-init g c = record { known = refl; totals = none_known c.args.self.now.programs c.args.config.now }

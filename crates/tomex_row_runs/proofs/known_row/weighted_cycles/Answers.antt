@@ -2,7 +2,7 @@
 use Rattle.std.proofs.Common.{◌≡◌, ◌<◌, arith, length, refl}
 use Rattle.tomex_row_runs.proofs.Looking.{all_counted, none_counted, one_counted, part_small}
 use Rattle.tomex_row_runs.proofs.Totals.{as_many_totals}
-use Rattle.tomex_row_runs.proofs.known_row.weighed.Goals as goal
+use Rattle.tomex_row_runs.proofs.known_row.weighted_cycles.Goals as goal
 
 pub loop-place-init : goal.loop-place-init
 loop-place-init g c = none_counted c.args.programs.now c.args.totals.now c.args.made
