@@ -2,9 +2,9 @@
 use Rattle.std.proofs.Common.{◌≡◌, ◌++◌, ◌∷◌, drop, map}
 use Rattle.std.specs.Prelude.{string_bytes}
 use Rattle.std.specs.List.{flat_map}
-use Rattle.tomex_texts.specs.FrontReport.{joined}
-use Rattle.tomex_texts.proofs.end_texts.joined.Given as goal
+use Rattle.tomex_texts.specs.FrontReport.{join_texts}
+use Rattle.tomex_texts.proofs.end_texts.join_texts.Given as goal
 
 abbrev pub invariant-loop-next : goal.invariant-loop-next
 invariant-loop-next l = string_bytes l.text ++ flat_map (λ y. 32 ∷ y) (map string_bytes (drop l.next-index l.rest))
-    ≡ joined (map string_bytes l.texts)
+    ≡ join_texts (map string_bytes l.texts)
