@@ -15,11 +15,11 @@ status_of (Usage text) = 2
 status_of Memory = 3
 
 -- the fault that reports an error of a kind, with its text
-abbrev pub explained_by : ErrorKind → String Global → LineFault
-explained_by OutOfMemory said = Memory
-explained_by DisplayHelp said = Help said
-explained_by DisplayVersion said = Help said
-explained_by _ said = Usage said
+abbrev pub fault_by_kind : ErrorKind → String Global → LineFault
+fault_by_kind OutOfMemory said = Memory
+fault_by_kind DisplayHelp said = Help said
+fault_by_kind DisplayVersion said = Help said
+fault_by_kind _ said = Usage said
 
 -- the fault reports the parser's error: help and the version as help; out of memory isn't a refused line; there may
 -- be no memory for the text itself

@@ -10,12 +10,12 @@ abbrev pub IsWord : List Row → Text → List ℕ → Type 0
 IsWord rows name word = first_of name rows ≡ Some word
 
 -- words, with a space between each two
-abbrev pub spaced : List Text → Text
-spaced = join_by (λ (word : Text). word) (codes " ")
+abbrev pub words_text : List Text → Text
+words_text = join_by (λ (word : Text). word) (codes " ")
 
 -- all words that were found for an argument
 abbrev pub AreWords : List Row → Text → Option Text → Type 0
-AreWords rows name words = words ≡ option_map spaced (all_of name rows)
+AreWords rows name words = words ≡ option_map words_text (all_of name rows)
 
 -- the number that was found for an argument, or its default: in decimal, and within these bounds
 abbrev pub IsNumber : List Row → Text → ℕ → ℕ → ℕ → Type 0

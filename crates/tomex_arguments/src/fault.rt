@@ -1,6 +1,6 @@
 //! A command line that asks for no command, and the reason.
 ghost use Rattle.std.specs.Prelude.{◌≡◌, IfOk, OnErr};
-ghost use Rattle.tomex_arguments.specs.Faults.{IsRefusal, StandsFor, explained_by, status_of};
+ghost use Rattle.tomex_arguments.specs.Faults.{IsRefusal, StandsFor, fault_by_kind, status_of};
 ghost use Rattle.tomex_arguments.specs.declared.fault.LineFault.TheVariants.{Memory, Usage};
 
 use clap::error::ErrorKind;
@@ -50,7 +50,7 @@ pub(crate) fn mistake(text: Result<String, AllocError>) -> LineFault
 }
 
 /// The refusal of a line because of this part of it.
-pub fn refused(alloc: Global, name: &str) -> LineFault
+pub fn refusal_of(alloc: Global, name: &str) -> LineFault
     ensures { IsRefusal result }
 {
     mistake(format!(in alloc; "error: {name} missing or out of range\n"))
@@ -58,8 +58,8 @@ pub fn refused(alloc: Global, name: &str) -> LineFault
 
 /// The fault that reports an error of this kind, with its text. Out of memory only if that is its
 /// kind, or if there was no memory for the text.
-fn explained(kind: ErrorKind, text: Result<String, AllocError>) -> LineFault
-    ensures said { IfOk text (λ said. result ≡ explained_by kind said) }
+fn fault_by_kind(kind: ErrorKind, text: Result<String, AllocError>) -> LineFault
+    ensures said { IfOk text (λ said. result ≡ fault_by_kind kind said) }
     ensures unsaid { OnErr text (result ≡ Memory) }
 {
     let Ok(said) = text else {
@@ -77,5 +77,5 @@ fn explained(kind: ErrorKind, text: Result<String, AllocError>) -> LineFault
 pub fn fault_of(alloc: Global, error: &clap::Error) -> LineFault
     ensures { StandsFor error.now result }
 {
-    explained(error.kind(), format!(in alloc; "{error}"))
+    fault_by_kind(error.kind(), format!(in alloc; "{error}"))
 }

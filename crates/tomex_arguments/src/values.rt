@@ -5,7 +5,7 @@ ghost use Rattle.clap.specs.Words.{found_of};
 ghost use Rattle.clap.specs.Walk.{rows_of};
 ghost use Rattle.tomex_arguments.specs.Values.{AreWords, IsFlag, IsNumber, IsWord};
 
-use crate::fault::{LineFault, refused};
+use crate::fault::{LineFault, refusal_of};
 use clap::ArgMatches;
 use std::alloc::{AllocError, Global};
 
@@ -31,7 +31,7 @@ pub fn number_of(
 {
     match matches.get_one::<u32>(name) {
         Some(number) if bounds.least <= number && number <= bounds.greatest => Ok(number),
-        _ => Err(refused(alloc, name)),
+        _ => Err(refusal_of(alloc, name)),
     }
 }
 
@@ -47,7 +47,7 @@ pub fn word_of<'a>(
 {
     match matches.get_str(name) {
         Some(text) => Ok(text),
-        None => Err(refused(alloc, name)),
+        None => Err(refusal_of(alloc, name)),
     }
 }
 

@@ -2,6 +2,7 @@
 
 ghost use Rattle.std.specs.Prelude.{ℕ, ◌≡◌, ◌≤◌, ◌<◌, ◌*◌, ◌/◌, length, slice_get, slice_index, IfOk, IfSome, IfNone};
 ghost use Rattle.tomex_board.specs.Bands.{distinct_costs, floors_among, floors_of, IsBandOf};
+ghost use Rattle.tomex_board.specs.Plans.{most_rows};
 
 use std::alloc::{AllocError, Allocator};
 use std::collections::BTreeSet;
@@ -10,7 +11,7 @@ use std::collections::BTreeSet;
 pub(crate) const BANDS: usize = 64;
 
 /// The keys of a set as a list.
-fn listed<A: Allocator>(alloc: A, rising: &BTreeSet<u64, A>) -> Result<Vec<u64, A>, AllocError>
+fn list_of<A: Allocator>(alloc: A, rising: &BTreeSet<u64, A>) -> Result<Vec<u64, A>, AllocError>
     ensures { IfOk result (λ v. v.items ≡ rising.now.keys) }
 {
     rising.iter().copied().collect(alloc)
@@ -24,12 +25,12 @@ fn distinct_costs<A: Allocator + Clone>(alloc: A, costs: &[u64]) -> Result<Vec<u
     for cost in costs {
         rising.insert(*cost)?;
     }
-    listed(alloc, &rising)
+    list_of(alloc, &rising)
 }
 
 /// The `k`th of 64 costs that are evenly spread among rising ones.
 fn spread(rising: &[u64], k: usize) -> u64
-    requires many { (64 < length rising.now) × (length rising.now ≤ 16384) }
+    requires many { (64 < length rising.now) × (length rising.now ≤ most_rows) }
     requires band { k < 64 }
     ensures { result ≡ slice_index rising.now (k * length rising.now / 64) }
 {
@@ -39,7 +40,7 @@ fn spread(rising: &[u64], k: usize) -> u64
 /// The floor of band `k`, given the distinct costs in rising order: every cost if there are at most
 /// 64, else 64 evenly spread ones. `None` if there is no such band.
 pub fn floor(costs: &[u64], k: usize) -> Option<u64>
-    requires few { length costs.now ≤ 16384 }
+    requires few { length costs.now ≤ most_rows }
     ensures { result ≡ slice_get (floors_among costs.now) k }
 {
     if k >= costs.len() || k >= BANDS {
@@ -56,7 +57,7 @@ pub(crate) fn floors_of<A: Allocator + Clone>(
     alloc: A,
     costs: &[u64],
 ) -> Result<Vec<u64, A>, AllocError>
-    requires few { length costs.now ≤ 16384 }
+    requires few { length costs.now ≤ most_rows }
     ensures { IfOk result (λ v. v.items ≡ floors_of costs.now) }
 {
     let rising = distinct_costs(alloc.clone()?, costs)?;

@@ -7,7 +7,7 @@ use Rattle.std.proofs.lemmas.List.{get_or_append_left, get_or-append_right, get_
 use Rattle.std.proofs.lemmas.List.{get_or-set_other, get_or-replicate, length-drop, length-set}
 use Rattle.std.proofs.lemmas.Nat.Bits.{bit_at_above}
 use Rattle.tomex_sets.specs.Sets.{has, IsWith, IsWithout}
-use Rattle.tomex_bus.specs.Wheel.{is_due, turned, IsRing, IsEmpty, IsClearTo, IsNext, HasPassed, HasPut, HasGiven}
+use Rattle.tomex_bus.specs.Wheel.{is_due, ring_from, IsRing, IsEmpty, IsClearTo, IsNext, HasPassed, HasPut, HasGiven}
 use Rattle.tomex_bus.specs.Wheel.{AreDue}
 use Rattle.tomex_sets.proofs.Bits.{none_in, has_none, shifted}
 
@@ -21,10 +21,10 @@ fresh_ring sets e = record {
 }
 
 -- the set of a cycle ahead is that many places after the head, around the ring
-turned_at : (sets : List ℕ) (head ahead i : ℕ) → length sets ≡ 64 → head < 64 → ahead < 64 → i ≡ (head + ahead) % 64
-    → slice_index (turned sets head) ahead ≡ slice_index sets i
-unfolding turned
-turned_at sets head ahead i count inside l e =
+ring_at : (sets : List ℕ) (head ahead i : ℕ) → length sets ≡ 64 → head < 64 → ahead < 64 → i ≡ (head + ahead) % 64
+    → slice_index (ring_from sets head) ahead ≡ slice_index sets i
+unfolding ring_from
+ring_at sets head ahead i count inside l e =
     let behind : length (drop head sets) ≡ 64 - head = length-drop head sets ∙ ap (λ n. n - head) count in
     elim (cases_Bool (nat_lt (head + ahead) 64)) [
       | inl k ↦
@@ -41,18 +41,18 @@ turned_at sets head ahead i count inside l e =
 
 -- the cycle ahead of a place of the ring
 due_at : (sets : List ℕ) (filled head ahead i x : ℕ) → IsRing sets filled head → ahead < 64 → i ≡ (head + ahead) % 64
-    → is_due (turned sets head) ahead x ≡ has (slice_index sets i) x
+    → is_due (ring_from sets head) ahead x ≡ has (slice_index sets i) x
 due_at sets filled head ahead i x ring l e =
-    rw (lt-ltb ahead 64 l) (ap (λ (s : ℕ). has s x) (turned_at sets head ahead i ring.count ring.inside l e))
+    rw (lt-ltb ahead 64 l) (ap (λ (s : ℕ). has s x) (ring_at sets head ahead i ring.count ring.inside l e))
 
 due_past : (pairs : List ℕ) (ahead x : ℕ) → 64 ≤ ahead → is_due pairs ahead x ≡ false
 due_past pairs ahead x far = rw (le-ltb ahead 64 far) refl
 
-pub fresh_empty : (sets : List ℕ) → sets ≡ replicate 64 0 → IsEmpty (turned sets 0)
+pub fresh_empty : (sets : List ℕ) → sets ≡ replicate 64 0 → IsEmpty (ring_from sets 0)
 fresh_empty sets e ahead number =
     let ring = fresh_ring sets e in
     elim (cases_Bool (nat_lt ahead 64)) [
-      | inr l ↦ due_past (turned sets 0) ahead number (ltb-false _ _ l)
+      | inr l ↦ due_past (ring_from sets 0) ahead number (ltb-false _ _ l)
       | inl l ↦
           let low : ahead < 64 = ltb-true _ _ l in
           due_at sets 0 0 ahead ahead number ring low (omega arith)
@@ -60,30 +60,30 @@ fresh_empty sets e ahead number =
     ]
 
 passed : (sets : List ℕ) (filled old head cycles : ℕ) → IsRing sets filled old → head ≡ (old + cycles % 64) % 64
-    → IsClearTo (turned sets old) cycles → HasPassed cycles (turned sets old) (turned sets head)
+    → IsClearTo (ring_from sets old) cycles → HasPassed cycles (ring_from sets old) (ring_from sets head)
 passed sets filled old head cycles ring e clear a x =
     let inside : old < 64 = ring.inside in
     let after : IsRing sets filled head =
     record { count = ring.count; inside = omega arith; low = ring.low; some = ring.some; none = ring.none } in
     elim (cases_Bool (nat_lt a 64)) [
       | inr l ↦ let high : 64 ≤ a = ltb-false _ _ l in
-          due_past (turned sets head) a x high ∙ sym (due_past (turned sets old) (a + cycles) x (omega arith))
+          due_past (ring_from sets head) a x high ∙ sym (due_past (ring_from sets old) (a + cycles) x (omega arith))
       | inl l ↦
           let low : a < 64 = ltb-true _ _ l in
-          let new : is_due (turned sets head) a x ≡ has (slice_index sets ((head + a) % 64)) x =
+          let new : is_due (ring_from sets head) a x ≡ has (slice_index sets ((head + a) % 64)) x =
           due_at sets filled head a ((head + a) % 64) x after low refl in
           let b : (a + cycles) % 64 < 64 = omega arith in
-          let was : is_due (turned sets old) ((a + cycles) % 64) x ≡ has (slice_index sets ((head + a) % 64)) x =
+          let was : is_due (ring_from sets old) ((a + cycles) % 64) x ≡ has (slice_index sets ((head + a) % 64)) x =
           due_at sets filled old ((a + cycles) % 64) ((head + a) % 64) x ring b (omega arith) in
           elim (cases_Bool (nat_lt (a + cycles) 64)) [
             | inl m ↦
                 let near : a + cycles < 64 = ltb-true _ _ m in
                 let same : (a + cycles) % 64 ≡ a + cycles = omega arith in
-                new ∙ (sym was ∙ ap (λ (k : ℕ). is_due (turned sets old) k x) same)
+                new ∙ (sym was ∙ ap (λ (k : ℕ). is_due (ring_from sets old) k x) same)
             | inr m ↦
                 let far : 64 ≤ a + cycles = ltb-false _ _ m in
                 new ∙ (sym was ∙ (clear ((a + cycles) % 64) x (omega arith)
-                ∙ sym (due_past (turned sets old) (a + cycles) x far)))
+                ∙ sym (due_past (ring_from sets old) (a + cycles) x far)))
           ]
     ]
 
@@ -126,8 +126,8 @@ same_place head a ahead inside l m e = omega arith
 -- a set that is written at the place of a cycle ahead
 set_at : (sets : List ℕ) (filled more head ahead set a x : ℕ) → IsRing sets filled head
     → IsRing (slice_set sets ((head + ahead) % 64) set) more head → ahead < 64 → a < 64
-    → is_due (turned (slice_set sets ((head + ahead) % 64) set) head) a x
-    ≡ (if a == ahead then has set x else is_due (turned sets head) a x)
+    → is_due (ring_from (slice_set sets ((head + ahead) % 64) set) head) a x
+    ≡ (if a == ahead then has set x else is_due (ring_from sets head) a x)
 set_at sets filled more head ahead set a x ring after l m =
     let count : length sets ≡ 64 = ring.count in
     let inside : head < 64 = ring.inside in
@@ -144,25 +144,25 @@ set_at sets filled more head ahead set a x ring after l m =
           ∙ (sym (due_at sets filled head a ((head + a) % 64) x ring m refl) ∙ sym (rw k refl)))
     ]
 
-pub put_pairs : (w : List ℕ) (sets : List ℕ) (filled more head ahead set number : ℕ) → turned sets head ≡ w
+pub put_pairs : (w : List ℕ) (sets : List ℕ) (filled more head ahead set number : ℕ) → ring_from sets head ≡ w
     → IsRing sets filled head → IsRing (slice_set sets ((head + ahead) % 64) set) more head → ahead ≤ 63
     → IsWith (slice_index sets ((head + ahead) % 64)) number set
-    → HasPut ahead number w (turned (slice_set sets ((head + ahead) % 64) set) head)
+    → HasPut ahead number w (ring_from (slice_set sets ((head + ahead) % 64) set) head)
 put_pairs w sets filled more head ahead set number e ring after l with =
-    subst (λ (v : List ℕ). HasPut ahead number v (turned (slice_set sets ((head + ahead) % 64) set) head)) e
+    subst (λ (v : List ℕ). HasPut ahead number v (ring_from (slice_set sets ((head + ahead) % 64) set) head)) e
     (λ a x. elim (cases_Bool (nat_lt a 64)) [
       | inr m ↦
           let far : 64 ≤ a = ltb-false _ _ m in
           let other : (a == ahead) ≡ false = not_equal a ahead (λ z. absurd (omega arith)) in
-          due_past (turned (slice_set sets ((head + ahead) % 64) set) head) a x far
-          ∙ sym (rw (due_past (turned sets head) a x far, other) refl)
+          due_past (ring_from (slice_set sets ((head + ahead) % 64) set) head) a x far
+          ∙ sym (rw (due_past (ring_from sets head) a x far, other) refl)
       | inl m ↦
           let low : a < 64 = ltb-true _ _ m in
           set_at sets filled more head ahead set a x ring after (omega arith) low ∙ elim (cases_Bool (a == ahead)) [
-            | inr k ↦ rw k (sym (or_none (is_due (turned sets head) a x)))
+            | inr k ↦ rw k (sym (or_none (is_due (ring_from sets head) a x)))
             | inl k ↦
                 let same : a ≡ ahead = eqb-true a ahead k in
-                let was : is_due (turned sets head) a x ≡ has (slice_index sets ((head + ahead) % 64)) x =
+                let was : is_due (ring_from sets head) a x ≡ has (slice_index sets ((head + ahead) % 64)) x =
                 due_at sets filled head a ((head + ahead) % 64) x ring low (ap (λ (n : ℕ). (head + n) % 64) (sym same))
                 in
                 rw (k, was) (elim (cases_Bool (x == number)) [
@@ -215,9 +215,9 @@ emptied_ring sets filled head more ring without =
 
 -- nothing is due between the head and the next place with members
 before_next : (sets : List ℕ) (filled head n : ℕ) → IsRing sets filled head
-    → ((a : ℕ) → a < n → a < 64 → has filled ((head + a) % 64) ≡ false) → IsClearTo (turned sets head) n
+    → ((a : ℕ) → a < n → a < 64 → has filled ((head + a) % 64) ≡ false) → IsClearTo (ring_from sets head) n
 before_next sets filled head n ring none a x l = elim (cases_Bool (nat_lt a 64)) [
-  | inr m ↦ due_past (turned sets head) a x (ltb-false _ _ m)
+  | inr m ↦ due_past (ring_from sets head) a x (ltb-false _ _ m)
   | inl m ↦
       let low : a < 64 = ltb-true _ _ m in
       let place : (head + a) % 64 < 64 = omega arith in
@@ -225,7 +225,7 @@ before_next sets filled head n ring none a x l = elim (cases_Bool (nat_lt a 64))
 ]
 
 next_at : (sets : List ℕ) (filled head n : ℕ) → IsRing sets filled head → n < 64 → has filled ((head + n) % 64) ≡ true
-    → ((a : ℕ) → a < n → a < 64 → has filled ((head + a) % 64) ≡ false) → IsNext (turned sets head) (Some n)
+    → ((a : ℕ) → a < n → a < 64 → has filled ((head + a) % 64) ≡ false) → IsNext (ring_from sets head) (Some n)
 next_at sets filled head n ring small some none =
     let place : (head + n) % 64 < 64 = omega arith in
     let one = ring.some ((head + n) % 64) place some in (
@@ -237,7 +237,7 @@ next_at sets filled head n ring small some none =
 -- the next is in a place after the head
 pub next_later : (sets : List ℕ) (filled head n : ℕ) → IsRing sets filled head → filled < 2 ^ 64
     → has (filled / 2 ^ head) n ≡ true → ((i : ℕ) → i < n → has (filled / 2 ^ head) i ≡ false)
-    → IsNext (turned sets head) (Some n)
+    → IsNext (ring_from sets head) (Some n)
 next_later sets filled head n ring fits some none =
     let inside : head < 64 = ring.inside in
     let here : has filled (head + n) ≡ true = sym (shifted filled head n) ∙ some in
@@ -253,7 +253,8 @@ next_later sets filled head n ring fits some none =
 
 -- or before it
 pub next_round : (sets : List ℕ) (filled head n : ℕ) → IsRing sets filled head → filled / 2 ^ head ≡ 0 → n < 64
-    → has filled n ≡ true → ((i : ℕ) → i < n → has filled i ≡ false) → IsNext (turned sets head) (Some (64 - head + n))
+    → has filled n ≡ true → ((i : ℕ) → i < n → has filled i ≡ false)
+    → IsNext (ring_from sets head) (Some (64 - head + n))
 next_round sets filled head n ring none low some least =
     let inside : head < 64 = ring.inside in
     let above : (a : ℕ) → has filled (head + a) ≡ false = λ a. sym (shifted filled head a)
@@ -277,31 +278,31 @@ next_round sets filled head n ring none low some least =
 
 -- The same for a wheel as contracts see it.
 
-pub passed_on : (w : List ℕ) (sets : List ℕ) (filled head from cycles : ℕ) → turned sets head ≡ w
+pub passed_on : (w : List ℕ) (sets : List ℕ) (filled head from cycles : ℕ) → ring_from sets head ≡ w
     → IsRing sets filled head → from ≡ head → IsClearTo w cycles
-    → HasPassed cycles w (turned sets ((from + cycles % 64) % 64))
+    → HasPassed cycles w (ring_from sets ((from + cycles % 64) % 64))
 passed_on w sets filled head from cycles e ring f clear =
-    subst (λ (v : List ℕ). IsClearTo v cycles → HasPassed cycles v (turned sets ((from + cycles % 64) % 64))) e
+    subst (λ (v : List ℕ). IsClearTo v cycles → HasPassed cycles v (ring_from sets ((from + cycles % 64) % 64))) e
     (passed sets filled head ((from + cycles % 64) % 64) cycles ring (ap (λ (k : ℕ). (k + cycles % 64) % 64) f))
     clear
 
-pub later_is : (w : List ℕ) (sets : List ℕ) (filled head n : ℕ) → turned sets head ≡ w → IsRing sets filled head
+pub later_is : (w : List ℕ) (sets : List ℕ) (filled head n : ℕ) → ring_from sets head ≡ w → IsRing sets filled head
     → filled < 2 ^ 64 → has (filled / 2 ^ head) n ≡ true → ((i : ℕ) → i < n → has (filled / 2 ^ head) i ≡ false)
     → IsNext w (Some n)
 later_is w sets filled head n e ring fits some least =
     subst (λ (v : List ℕ). IsNext v (Some n)) e (next_later sets filled head n ring fits some least)
 
-pub round_is : (w : List ℕ) (sets : List ℕ) (filled head n : ℕ) → turned sets head ≡ w → IsRing sets filled head
+pub round_is : (w : List ℕ) (sets : List ℕ) (filled head n : ℕ) → ring_from sets head ≡ w → IsRing sets filled head
     → filled / 2 ^ head ≡ 0 → n < 64 → has filled n ≡ true → ((i : ℕ) → i < n → has filled i ≡ false)
     → IsNext w (Some (64 - head + n))
 round_is w sets filled head n e ring none low some least =
     subst (λ (v : List ℕ). IsNext v (Some (64 - head + n))) e (next_round sets filled head n ring none low some least)
 
 -- none if no place has members
-pub none_due : (w : List ℕ) (sets : List ℕ) (filled head : ℕ) → turned sets head ≡ w → IsRing sets filled head
+pub none_due : (w : List ℕ) (sets : List ℕ) (filled head : ℕ) → ring_from sets head ≡ w → IsRing sets filled head
     → filled ≡ 0 → IsEmpty w
 none_due w sets filled head e ring empty = subst (λ (v : List ℕ). IsEmpty v) e (λ a x. elim (cases_Bool (nat_lt a 64)) [
-  | inr m ↦ due_past (turned sets head) a x (ltb-false _ _ m)
+  | inr m ↦ due_past (ring_from sets head) a x (ltb-false _ _ m)
   | inl m ↦
       let place : (head + a) % 64 < 64 = omega arith in
       due_at sets filled head a ((head + a) % 64) x ring (ltb-true _ _ m) refl
@@ -310,19 +311,20 @@ none_due w sets filled head e ring empty = subst (λ (v : List ℕ). IsEmpty v) 
 ])
 
 -- the numbers that are due are at the head
-pub due_first : (w : List ℕ) (sets : List ℕ) (filled head due : ℕ) → turned sets head ≡ w → IsRing sets filled head
+pub due_first : (w : List ℕ) (sets : List ℕ) (filled head due : ℕ) → ring_from sets head ≡ w → IsRing sets filled head
     → due ≡ slice_index sets head → AreDue w due
 due_first w sets filled head due e ring is = subst (λ (v : List ℕ). AreDue v due) e (λ x.
     let inside : head < 64 = ring.inside in
     ap (λ (s : ℕ). has s x) is ∙ sym (due_at sets filled head 0 head x ring (omega arith) (omega arith)))
 
 -- and are taken out
-pub given : (w : List ℕ) (sets : List ℕ) (filled more head : ℕ) → turned sets head ≡ w → IsRing sets filled head
-    → IsRing (slice_set sets head 0) more head → HasGiven w (turned (slice_set sets head 0) head)
+pub given : (w : List ℕ) (sets : List ℕ) (filled more head : ℕ) → ring_from sets head ≡ w → IsRing sets filled head
+    → IsRing (slice_set sets head 0) more head → HasGiven w (ring_from (slice_set sets head 0) head)
 given w sets filled more head e ring after =
     let inside : head < 64 = ring.inside in
     let count : length sets ≡ 64 = ring.count in
-    subst (λ (v : List ℕ). HasGiven v (turned (slice_set sets head 0) head)) e (λ a x. elim (cases_Bool (nat_lt 0 a)) [
+    subst (λ (v : List ℕ). HasGiven v (ring_from (slice_set sets head 0) head)) e
+    (λ a x. elim (cases_Bool (nat_lt 0 a)) [
       | inr z ↦
           let first : a ≡ 0 = let l = ltb-false _ _ z in omega arith in
           rw z (due_at (slice_set sets head 0) more head a head x after (omega arith) (omega arith)
@@ -330,8 +332,8 @@ given w sets filled more head e ring after =
       | inl z ↦
           let later : 0 < a = ltb-true _ _ z in
           rw z (elim (cases_Bool (nat_lt a 64)) [
-            | inr m ↦ due_past (turned (slice_set sets head 0) head) a x (ltb-false _ _ m)
-                ∙ sym (due_past (turned sets head) a x (ltb-false _ _ m))
+            | inr m ↦ due_past (ring_from (slice_set sets head 0) head) a x (ltb-false _ _ m)
+                ∙ sym (due_past (ring_from sets head) a x (ltb-false _ _ m))
             | inl m ↦
                 let low : a < 64 = ltb-true _ _ m in
                 let apart : (head + a) % 64 ≢ head = λ same. absurd (omega arith) in
@@ -342,11 +344,11 @@ given w sets filled more head e ring after =
     ])
 
 -- nothing is taken out if nothing is due
-pub none_given : (w : List ℕ) (sets : List ℕ) (filled head : ℕ) → turned sets head ≡ w → IsRing sets filled head
-    → slice_index sets head ≡ 0 → HasGiven w (turned sets head)
+pub none_given : (w : List ℕ) (sets : List ℕ) (filled head : ℕ) → ring_from sets head ≡ w → IsRing sets filled head
+    → slice_index sets head ≡ 0 → HasGiven w (ring_from sets head)
 none_given w sets filled head e ring none =
     let inside : head < 64 = ring.inside in
-    subst (λ (v : List ℕ). HasGiven v (turned sets head)) e (λ a x. elim (cases_Bool (nat_lt 0 a)) [
+    subst (λ (v : List ℕ). HasGiven v (ring_from sets head)) e (λ a x. elim (cases_Bool (nat_lt 0 a)) [
       | inl z ↦ rw z refl
       | inr z ↦
           let first : a ≡ 0 = let l = ltb-false _ _ z in omega arith in

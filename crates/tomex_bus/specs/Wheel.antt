@@ -42,8 +42,8 @@ abbrev pub HasGiven : List ℕ → List ℕ → Type 0
 HasGiven old new = (a x : ℕ) → is_due new a x ≡ (nat_lt 0 a && is_due old a x)
 
 -- a ring of sets, turned so that the one in the place `head` comes first
-unfoldable pub turned : List ℕ → ℕ → List ℕ
-turned sets head = drop head sets ++ take head sets
+unfoldable pub ring_from : List ℕ → ℕ → List ℕ
+ring_from sets head = drop head sets ++ take head sets
 
 -- a ring of 64 sets, and the places at which its sets have members
 pub record IsRing (sets : List ℕ) (filled head : ℕ) : Type 0 where

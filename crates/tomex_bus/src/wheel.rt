@@ -22,11 +22,11 @@ pub struct Wheel {
 
 impl Model for Wheel {
     ghost use Rattle.std.specs.Prelude.{ℕ, List};
-    ghost use Rattle.tomex_bus.specs.Wheel.{IsRing, turned};
+    ghost use Rattle.tomex_bus.specs.Wheel.{IsRing, ring_from};
 
     ghost Value = { List ℕ };
 
-    ghost view = { λ w. turned w.sets w.head };
+    ghost view = { λ w. ring_from w.sets w.head };
 
     ghost invariant = { λ w. IsRing w.sets w.filled w.head };
 }

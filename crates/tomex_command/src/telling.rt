@@ -7,7 +7,7 @@ ghost use Rattle.tomex_command.specs.Telling.{IsTextOf, IsLineOf, IsFailureTold,
 use crate::failure::Failure;
 use std::alloc::{AllocError, Global};
 use tomex_arguments::LineFault;
-use tomex_streams::{Sink, shown, write_all_of};
+use tomex_streams::{Sink, shown_name, write_all_of};
 
 /// Writes a text as far as the sink takes it.
 fn write_text<W: Sink>(sink: &mut W, text: &[u8])
@@ -66,7 +66,7 @@ fn text_of(heap: Global, failure: &Failure) -> Result<String, AllocError>
         Failure::TableTooLarge => String::from_str(heap, "table too large"),
         Failure::NoSuchRefusal => String::from_str(heap, "no such refusal"),
         Failure::CannotRead(name) => {
-            let name = shown(heap, name.as_str())?;
+            let name = shown_name(heap, name.as_str())?;
             format!(in heap; "cannot read {name}")
         }
         Failure::CannotWrite => String::from_str(heap, "cannot write"),

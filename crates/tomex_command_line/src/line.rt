@@ -41,7 +41,7 @@ use stalls::StallsLine;
 use std::alloc::{AllocError, Global};
 use studied::{OneRun, one_run_of};
 use tables::TablesLine;
-use tomex_arguments::{LineFault, fault_of, refused};
+use tomex_arguments::{LineFault, fault_of, refusal_of};
 use worth::WorthLine;
 
 /// A request, as read from the command line.
@@ -152,7 +152,7 @@ fn line_of<'a>(alloc: Global, matches: &ArgMatches<'a>) -> Result<Line<'a>, Line
         Some(("prices", inner)) => Ok(Line::Prices(explore::line_of(alloc, inner)?)),
         Some(("page", inner)) => Ok(Line::Page(explore::line_of(alloc, inner)?)),
         Some(("explain", inner)) => Ok(Line::Explain(explain::line_of(alloc, inner)?)),
-        _ => Err(refused(alloc, "command")),
+        _ => Err(refusal_of(alloc, "command")),
     }
 }
 

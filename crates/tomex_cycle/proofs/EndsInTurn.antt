@@ -3,7 +3,8 @@ use Rattle.std.proofs.Common.{ℕ, ◌+◌, ◌<◌, ◌≡◌, ◌∙◌, Bool,
 use Rattle.std.proofs.Common.{length, slice_index, slice_index_or, option_map}
 use Rattle.tomex_cycle.proofs.Words.{nat_lt, ◌&&◌, ◌||◌, ◌==◌, le-ltb, nat_tests, eqb-false, ne_eqb, field_from, Field}
 use Rattle.tomex_cycle.proofs.Words.{Value, Unread, Tag, is_number, EndsIn, Hears, after_ends, sends_of, sent_below}
-use Rattle.tomex_cycle.proofs.Words.{hears, heard, only, taken, place_at, place_of_tag, Pools, RegStatus, Station, has}
+use Rattle.tomex_cycle.proofs.Words.{hears, field_after, only, value_or_tag, place_at, place_of_tag, Pools, RegStatus}
+use Rattle.tomex_cycle.proofs.Words.{Station, has}
 use Rattle.tomex_timing.specs.declared.tables.Field.TheVariants.{Waits}
 use Rattle.tomex_cycle.proofs.AddressChosen.{or_else}
 
@@ -23,36 +24,36 @@ pub record AreEndedBelow (picked : ℕ) (n : ℕ) (old new : Pools) : Type 0 whe
 -- A register that hears a value, or not.
 
 pub heard_yes : (from value v : ℕ) (tag : Option Tag) → is_number (place_at tag) from ≡ true
-    → heard (only from (Some value)) (field_from v tag) ≡ Value value
+    → field_after (only from (Some value)) (field_from v tag) ≡ Value value
 heard_yes from value v tag h4 = grind (arith, nat_tests)
 
 pub heard_no : (from value v : ℕ) (tag : Option Tag) → is_number (place_at tag) from ≡ false
-    → heard (only from (Some value)) (field_from v tag) ≡ field_from v tag
+    → field_after (only from (Some value)) (field_from v tag) ≡ field_from v tag
 heard_no from value v None e = refl
 heard_no from value v (Some tag) e = rw (ne_eqb from (place_of_tag tag) (λ z. eqb-false _ _ e (sym z))) refl
 
 -- One end after others.
 
 heard_then : (f g k : ℕ → Option ℕ) (field : Field) → ((y : ℕ) → k y ≡ or_else (f y) (g y))
-    → heard g (heard f field) ≡ heard k field
+    → field_after g (field_after f field) ≡ field_after k field
 heard_then f g k field h4 = grind (arith, nat_tests)
 
-pub heard_same : (f k : ℕ → Option ℕ) (field : Field) → ((y : ℕ) → k y ≡ f y) → heard f field ≡ heard k field
+pub heard_same : (f k : ℕ → Option ℕ) (field : Field) → ((y : ℕ) → k y ≡ f y) → field_after f field ≡ field_after k field
 heard_same f k (Value v) e = refl
 heard_same f k Unread e = refl
-heard_same f k (Waits tag) e = ap (λ o. taken o tag) (sym (e (place_of_tag tag)))
+heard_same f k (Waits tag) e = ap (λ o. value_or_tag o tag) (sym (e (place_of_tag tag)))
 
 hears_then : (f g k : ℕ → Option ℕ) (s : Station) → ((y : ℕ) → k y ≡ or_else (f y) (g y))
     → hears g (hears f s) ≡ hears k s
 hears_then f g k s e =
-    let a : Field → Station = λ x. record s { j = x; k = heard g (heard f s.k) } in
-    let b : Field → Station = λ x. record s { j = heard k s.j; k = x } in
+    let a : Field → Station = λ x. record s { j = x; k = field_after g (field_after f s.k) } in
+    let b : Field → Station = λ x. record s { j = field_after k s.j; k = x } in
     ap a (heard_then f g k s.j e) ∙ ap b (heard_then f g k s.k e)
 
 hears_same : (f k : ℕ → Option ℕ) (s : Station) → ((y : ℕ) → k y ≡ f y) → hears f s ≡ hears k s
 hears_same f k s e =
-    let a : Field → Station = λ x. record s { j = x; k = heard f s.k } in
-    let b : Field → Station = λ x. record s { j = heard k s.j; k = x } in
+    let a : Field → Station = λ x. record s { j = x; k = field_after f s.k } in
+    let b : Field → Station = λ x. record s { j = field_after k s.j; k = x } in
     ap a (heard_same f k s.j e) ∙ ap b (heard_same f k s.k e)
 
 ends_then : (a b : Bool) (f g k : ℕ → Option ℕ) (o : Option Station) → ((y : ℕ) → k y ≡ or_else (f y) (g y))
@@ -135,7 +136,7 @@ hear_yes {picked} {n} {old} {s} first r new l e so before made count status =
     record {
       count = m.count;
       status = m.status;
-      fields = λ q k. m.fields q k ∙ (ap (heard (only n (sends_of (slice_index_or s.slots n None)))) (b.fields q k)
+      fields = λ q k. m.fields q k ∙ (ap (field_after (only n (sends_of (slice_index_or s.slots n None)))) (b.fields q k)
           ∙ heard_then (sent_below old.slots picked n) (only n (sends_of (slice_index_or s.slots n None)))
           (sent_below old.slots picked (n + 1)) (reg_field first.values first.tags q)
           (λ y. sent_yes old.slots picked n y (sends_of (slice_index_or s.slots n None)) e sent));

@@ -4,13 +4,15 @@ use Rattle.std.proofs.Common.{sym, inl, inr, length, slice_index, slice_index_or
 use Rattle.tomex_cycle.proofs.Words.{nat_lt, if◌then◌else◌, ◌&&◌, ◌==◌, cases_Bool, lt-ltb, le-ltb, eqb-true, eqb-false}
 use Rattle.tomex_cycle.proofs.Words.{nat_tests, ltb-true, ltb-false, get_or-set_same, get_or-set_other}
 use Rattle.tomex_cycle.proofs.Words.{length-set, get_or_past, field_from, Field, Value, Unread, Tag, is_number, EndsIn}
-use Rattle.tomex_cycle.proofs.Words.{Hears, after_ends, sends_of, sent_below, AreNamed, HaveReceived, hears, heard}
-use Rattle.tomex_cycle.proofs.Words.{only, taken, place_at, place_of_tag, Pools, RegStatus, Station, has, IsWithout}
+use Rattle.tomex_cycle.proofs.Words.{Hears, after_ends, sends_of, sent_below, AreNamed, HaveReceived, hears}
+use Rattle.tomex_cycle.proofs.Words.{field_after}
+use Rattle.tomex_cycle.proofs.Words.{only, value_or_tag, place_at, place_of_tag, Pools, RegStatus, Station, has}
+use Rattle.tomex_cycle.proofs.Words.{IsWithout}
 use Rattle.tomex_cycle.proofs.Words.{AreFrom, all_left, least_from, least_in, left_from, none_after, none_between}
 use Rattle.tomex_cycle.proofs.Words.{skip_to, dest_of, AreLow}
 use Rattle.tomex_timing.specs.declared.tables.Field.TheVariants.{Waits}
 use Rattle.tomex_cycle.specs.Ends.{AreEnded}
-use Rattle.tomex_tags.specs.Registers.{names, received}
+use Rattle.tomex_tags.specs.Registers.{names, registers_after}
 use Rattle.tomex_cycle.proofs.EndsInTurn.{reg_field, AreEndedBelow, heard_yes, heard_no, apply_yes, apply_no, hear_yes}
 use Rattle.tomex_cycle.proofs.EndsInTurn.{hear_no}
 
@@ -40,7 +42,7 @@ ends_silent p old new s l here dest slots issue_numbers count = record {
 -- The register of its destination, where its Qi still names the place.
 
 received_hears : (p r v : ℕ) (rg : RegStatus) → r < 32 → ((q : ℕ) → q < 32 → names rg q p ≡ true → q ≡ r)
-    → Hears (only p (Some v)) rg (received rg r p v)
+    → Hears (only p (Some v)) rg (registers_after rg r p v)
 received_hears p r v rg l named count status = elim (cases_Bool (names rg r p)) [
   | inr e ↦ rw e (record {
     count = count;
@@ -67,7 +69,7 @@ received_hears p r v rg l named count status = elim (cases_Bool (names rg r p)) 
 ]
 
 pub hears_sending : (p r : ℕ) (slots : List (Option Station)) (s : Station) (rg new : RegStatus)
-    → slice_index_or slots p None ≡ Some s → dest_of s.instr ≡ Some r → r < 32 → new ≡ received rg r p s.value
+    → slice_index_or slots p None ≡ Some s → dest_of s.instr ≡ Some r → r < 32 → new ≡ registers_after rg r p s.value
     → AreNamed slots rg → Hears (only p (sends_of (slice_index_or slots p None))) rg new
 hears_sending p r slots s rg new here dest l made named =
     rw (here, dest, made) (received_hears p r s.value rg l (λ q k e. let f : dest_of s.instr ≡ Some q =
@@ -76,10 +78,10 @@ hears_sending p r slots s rg new here dest l made named =
     one_register : (o : Option ℕ) (q r : ℕ) → o ≡ Some q → o ≡ Some r → q ≡ r
     one_register o q r e f = cc
 
-none_sent : (sent : ℕ → Option ℕ) (f : Field) → ((y : ℕ) → sent y ≡ None) → f ≡ heard sent f
+none_sent : (sent : ℕ → Option ℕ) (f : Field) → ((y : ℕ) → sent y ≡ None) → f ≡ field_after sent f
 none_sent sent (Value v) none = refl
 none_sent sent Unread none = refl
-none_sent sent (Waits tag) none = sym (ap (λ o. taken o tag) (none (place_of_tag tag)))
+none_sent sent (Waits tag) none = sym (ap (λ o. value_or_tag o tag) (none (place_of_tag tag)))
 
 none_ended : (sent : ℕ → Option ℕ) (o : Option Station) → ((y : ℕ) → sent y ≡ None) → o ≡ after_ends false sent o
 none_ended sent o h2 = grind (arith, nat_tests)
@@ -113,7 +115,7 @@ named_still {picked} {k} {old} {s} {first} {r} named so count heard_ q x l e sta
         → (z : Station) × (o ≡ Some z) × (s.instr ≡ z.instr)
     stood b sent o s e = grind (arith, nat_tests)
 
-    named_by : (sent : ℕ → Option ℕ) (a b : ℕ) (p q : Option Tag) (x : ℕ) → field_from b q ≡ heard sent (field_from a p)
+    named_by : (sent : ℕ → Option ℕ) (a b : ℕ) (p q : Option Tag) (x : ℕ) → field_from b q ≡ field_after sent (field_from a p)
         → is_number (place_at q) x ≡ true → is_number (place_at p) x ≡ true
     named_by sent a b p q x e f = grind (arith, nat_tests)
 

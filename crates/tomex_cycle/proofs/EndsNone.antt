@@ -4,15 +4,16 @@ use Rattle.std.proofs.Common.{slice_index_or, option_map}
 use Rattle.tomex_cycle.proofs.Words.{nat_lt, ◌&&◌, if◌then◌else◌, and_right, Configuration, field_from, Field, Value}
 use Rattle.tomex_cycle.proofs.Words.{nat_tests, Unread, has, none_in, Fetch, AreDone, AreEnding, EndsIn, Hears}
 use Rattle.tomex_cycle.proofs.Words.{after_ends, sends_of, sent_below, IsTimetableOf, LeavesTimetable, MakesEnds}
-use Rattle.tomex_cycle.proofs.Words.{Finishes, hears, heard, taken, place_of_tag, AreBusy, Pools, RegStatus, Station}
+use Rattle.tomex_cycle.proofs.Words.{Finishes, hears, field_after, value_or_tag, place_of_tag, AreBusy, Pools}
+use Rattle.tomex_cycle.proofs.Words.{RegStatus, Station}
 use Rattle.tomex_timing.specs.declared.tables.Field.TheVariants.{Waits}
 use Rattle.tomex_cycle.specs.Ends.{Follows}
 use Rattle.tomex_cycle.proofs.EndsFetch.{made_ends}
 
-heard_none : (sent : ℕ → Option ℕ) (f : Field) → ((y : ℕ) → sent y ≡ None) → f ≡ heard sent f
+heard_none : (sent : ℕ → Option ℕ) (f : Field) → ((y : ℕ) → sent y ≡ None) → f ≡ field_after sent f
 heard_none sent (Value v) none = refl
 heard_none sent Unread none = refl
-heard_none sent (Waits tag) none = sym (ap (λ (o : Option ℕ). taken o tag) (none (place_of_tag tag)))
+heard_none sent (Waits tag) none = sym (ap (λ (o : Option ℕ). value_or_tag o tag) (none (place_of_tag tag)))
 
 hears_none : (sent : ℕ → Option ℕ) (o : Option Station) → ((y : ℕ) → sent y ≡ None) → o ≡ option_map (hears sent) o
 hears_none sent o h2 = grind (arith, nat_tests)

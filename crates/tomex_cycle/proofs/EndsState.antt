@@ -6,7 +6,7 @@ use Rattle.tomex_cycle.proofs.Words.{lt-ltb, le-ltb, le-leb, eqb-true, eqb-false
 use Rattle.tomex_cycle.proofs.Words.{IsWithinLimits, Operand, Step, register_after, is_number, j_of, k_of, operand}
 use Rattle.tomex_cycle.proofs.Words.{step_dest, step_pool, Field, Tag, Done, AreTimed, field_from, field_of, producer}
 use Rattle.tomex_cycle.proofs.Words.{ArePast, AreIssuedBy, steps_in, clocks, place_of, sent_at, station_at, station_of}
-use Rattle.tomex_cycle.proofs.Words.{ShowsRegisters, after_ends, sends_of, sent_below, HaveReceived, hears, heard}
+use Rattle.tomex_cycle.proofs.Words.{ShowsRegisters, after_ends, sends_of, sent_below, HaveReceived, hears, field_after}
 use Rattle.tomex_cycle.proofs.Words.{RegStatus, Station, has}
 use Rattle.tomex_rvexec.specs.History.{Follows}
 use Rattle.tomex_cycle.proofs.Addresses.{number_is_some}
@@ -79,7 +79,7 @@ k_cases x = grind (arith, nat_tests)
 field_hears : (i : Loaded) {config : Configuration} (t u v r : ℕ) (newer older : List Done) (o : Option Operand)
     → IsWithinLimits config → AreTimed config (newer ++ older) → AreIssuedBy u (newer ++ older) → u ≡ t + 1
     → v ≡ register_after i (steps_in older) r → (o ≡ None) ⊎ (o ≡ Some (operand v r))
-    → heard (sent_at i u (newer ++ older)) (field_of t older o) ≡ field_of u older o
+    → field_after (sent_at i u (newer ++ older)) (field_of t older o) ≡ field_of u older o
 field_hears i t u v r newer older o good timed issued e value (inl none) = rw none refl
 field_hears i {config} t u v r newer older o good timed issued e value (inr some) =
     rw some (heard_is i config t u newer older (operand v r) good timed issued e value)
@@ -99,7 +99,7 @@ station_hears {i} t u newer d older good timed issued e follows =
       k = field_of u older (k_of d.step);
     } in
     let b : Field → Station = λ x. record (station_of i (clocks u u t) d older) {
-      j = heard (sent_at i u ((newer ++ (d ∷ [])) ++ older)) (field_of t older (j_of d.step));
+      j = field_after (sent_at i u ((newer ++ (d ∷ [])) ++ older)) (field_of t older (j_of d.step));
       k = x;
     } in
     ap a (sym j) ∙ ap b (sym k)
@@ -161,7 +161,7 @@ pub registers_at : {i : Loaded} {config : Configuration} {t : ℕ} (u : ℕ) {h 
 registers_at {i} {config} {t} u {h} {sent} {old} {new} good timed issued e shown same made =
     let each : (r : ℕ) → r < 32 → field_from (slice_index new.values r) (slice_index_or new.tags r None) ≡ field_from
     (register_after i (steps_in h) r) (producer u h r) = λ r l. made.fields r l ∙ (heard_same sent (sent_at i u h)
-    (field_from (slice_index old.values r) (slice_index_or old.tags r None)) same ∙ (ap (heard (sent_at i u h))
+    (field_from (slice_index old.values r) (slice_index_or old.tags r None)) same ∙ (ap (field_after (sent_at i u h))
     (field_by (slice_index old.values r) (register_after i (steps_in h) r) (slice_index_or old.tags r None)
     (producer t h r) (shown.tags r l) (shown.values r l)) ∙ heard_is i config t u [] h
     (operand (register_after i (steps_in h) r) r) good timed issued e refl)) in

@@ -8,7 +8,7 @@ use Rattle.tomex_cycle.proofs.Words.{Loaded, Configuration, IsWithinLimits, Pool
 use Rattle.tomex_cycle.proofs.Words.{cycle_of, source_end, writer_end, IsLeast, can_start, AreTimed, IsTimed, Operand}
 use Rattle.tomex_cycle.proofs.Words.{result_of, byte_after, register_after, is_number, step_dest, step_pool, Value, Tag}
 use Rattle.tomex_cycle.proofs.Words.{Done, field_of, field_from, producer, tag_of, unsent_tag, AreIssuedBy, steps_in}
-use Rattle.tomex_cycle.proofs.Words.{holds_place, place_of, sent_at, heard, is_there, place_at, place_of_tag}
+use Rattle.tomex_cycle.proofs.Words.{holds_place, place_of, sent_at, field_after, is_there, place_at, place_of_tag}
 use Rattle.tomex_cycle.proofs.Cycles.{can_start_later}
 use Rattle.tomex_timing.specs.declared.tables.Field.TheVariants.{Waits}
 use Rattle.tomex_cycle.proofs.Places.{is_vacant, vacant}
@@ -180,7 +180,7 @@ place_is w tag t e l = rw (e, lt-ltb t w.at.end l, eq-eqb (place_of_tag tag) (pl
 heard_from : (i : Loaded) {config : Configuration} (t u v : ℕ) (newer : List Done) (w : Done) (older : List Done)
     → IsWithinLimits config → AreTimed config (newer ++ (w ∷ older)) → AreIssuedBy u (newer ++ (w ∷ older)) → u ≡ t + 1
     → is_some (step_dest w.step) ≡ true → v ≡ result_of w.step (byte_after i (steps_in older))
-    → heard (sent_at i u (newer ++ (w ∷ older))) (field_from v (unsent_tag t w)) ≡ field_from v (unsent_tag u w)
+    → field_after (sent_at i u (newer ++ (w ∷ older))) (field_from v (unsent_tag t w)) ≡ field_from v (unsent_tag u w)
 heard_from i {config} t u v newer w older good timed issued e dest value = elim (cases_Bool (nat_lt t w.at.end)) [
   | inr l ↦
       let k : w.at.end ≤ t = ltb-false _ _ l in
@@ -206,7 +206,7 @@ heard_from i {config} t u v newer w older good timed issued e dest value = elim 
 heard_by : (i : Loaded) {config : Configuration} (t u : ℕ) (newer older : List Done) (o : Operand)
     → IsWithinLimits config → AreTimed config (newer ++ older) → AreIssuedBy u (newer ++ older) → u ≡ t + 1
     → o.value ≡ register_after i (steps_in older) o.register → Writer i o.register older
-    → heard (sent_at i u (newer ++ older)) (field_of t older (Some o)) ≡ field_of u older (Some o)
+    → field_after (sent_at i u (newer ++ older)) (field_of t older (Some o)) ≡ field_of u older (Some o)
 heard_by i t u newer older o good timed issued e value (nobody none) = rw (none t, none u) refl
 heard_by i t u newer older o good timed issued e value (writes between w behind split dest from result) =
     let whole = ap (λ xs. newer ++ xs) split ∙ sym (append_assoc newer between (w ∷ behind)) in
@@ -218,6 +218,6 @@ heard_by i t u newer older o good timed issued e value (writes between w behind 
 pub heard_is : (i : Loaded) (config : Configuration) (t u : ℕ) (newer older : List Done) (o : Operand)
     → IsWithinLimits config → AreTimed config (newer ++ older) → AreIssuedBy u (newer ++ older) → u ≡ t + 1
     → o.value ≡ register_after i (steps_in older) o.register
-    → heard (sent_at i u (newer ++ older)) (field_of t older (Some o)) ≡ field_of u older (Some o)
+    → field_after (sent_at i u (newer ++ older)) (field_of t older (Some o)) ≡ field_of u older (Some o)
 heard_is i config t u newer older o good timed issued e value =
     heard_by i t u newer older o good timed issued e value (writer_is i o.register older)

@@ -10,7 +10,7 @@ use Rattle.tomex_cycle.proofs.Words.{is_number, j_of, k_of, operand, step_dest, 
 use Rattle.tomex_cycle.proofs.Words.{Done, cycle_of, is_memory, AreTimed, IsTimed, IsLeast, can_issue}
 use Rattle.tomex_cycle.proofs.Words.{is_free, field_of, tag_at, tag_of, unsent_tag, issue_from, Fetch, IsYetToIssue}
 use Rattle.tomex_cycle.proofs.Words.{first_timed, steps_in, Clocks, ShowsRegisters, ShowsStations, clocks, fetch_after}
-use Rattle.tomex_cycle.proofs.Words.{fetch_of, place_of, station_at, station_of, issue_number_at, place_at, issued}
+use Rattle.tomex_cycle.proofs.Words.{fetch_of, place_of, station_at, station_of, issue_number_at, place_at, new_station}
 use Rattle.tomex_cycle.proofs.Words.{Pools, operand_in, tags_with, RegStatus, Station}
 use Rattle.tomex_rvdec.specs.declared.pool.PoolId.TheVariants as pools
 use Rattle.tomex_rvexec.specs.History.{Follows}
@@ -72,12 +72,12 @@ made_from : (instr : Instruction) (pc : ℕ) (j k : Field) (start u finish value
       finish = if nat_le start u
           then Some finish else None;
       value = if nat_le start u then value else 0;
-    }) (issued instr pc j k)
+    }) (new_station instr pc j k)
 made_from instr pc j k start u finish value address l e = rw (lt-leb start u l, e) refl
 
 pub station_made : (i : Loaded) {config : Configuration} (t u : ℕ) (d : Done) {h : List Done} (p : PoolId)
     → IsTimed config h d.step d.at → d.at.issue ≡ u → step_pool d.step ≡ Some p
-    → station_of i (clocks u u t) d h ≡ issued d.step.instr d.step.pc (field_of t h (j_of d.step)) (field_of t h (k_of
+    → station_of i (clocks u u t) d h ≡ new_station d.step.instr d.step.pc (field_of t h (j_of d.step)) (field_of t h (k_of
     d.step))
 station_made i t u d {h} p timed at pool =
     let after : d.at.issue < d.at.start = starts_after d p timed pool in

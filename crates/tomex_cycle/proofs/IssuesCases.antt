@@ -9,7 +9,7 @@ use Rattle.tomex_cycle.proofs.Words.{k_of, step_pool, field_of, Field, Done, Are
 use Rattle.tomex_cycle.proofs.Words.{can_issue_another, least, times_of, has_station, is_free, stations_high, number_is}
 use Rattle.tomex_cycle.proofs.Words.{Fetch, At, Stopped, IsIssuing, IssuesNext, AreIssuedBy, first_timed, RunEndsAfter}
 use Rattle.tomex_cycle.proofs.Words.{ShowsRegisters, ShowsStations, clocks, fetch_after, fetch_of, station_of, place_at}
-use Rattle.tomex_cycle.proofs.Words.{issued, Pools, is_open, operand_in, tags_with, RegStatus}
+use Rattle.tomex_cycle.proofs.Words.{new_station, Pools, is_open, operand_in, tags_with, RegStatus}
 use Rattle.tomex_rvexec.specs.declared.outcome.FaultKind.{FaultKind}
 use Rattle.tomex_cycle.specs.declared.fetch.Fetch.TheVariants.{Waits}
 use Rattle.tomex_cycle.proofs.Places.{pool_low, low}
@@ -181,7 +181,7 @@ pub some_case : (i : Loaded) (config : Configuration) (count : ℕ) (st new : Po
     → IsLeast (is_open st.slots p) number → number < most → j ≡ operand_in rg (sources_of instr).j
     → k ≡ operand_in rg (sources_of instr).k → IfSome (sources_of instr).j (λ r. r < 32)
     → IfSome (sources_of instr).k (λ r. r < 32) → IfSome (dest_of instr) (λ r. r < 32)
-    → new.slots ≡ slice_set st.slots (16 * place_of_pool p + number) (Some (issued instr pc j k))
+    → new.slots ≡ slice_set st.slots (16 * place_of_pool p + number) (Some (new_station instr pc j k))
     → new.issue_numbers ≡ slice_set st.issue_numbers (16 * place_of_pool p + number) count → status.values ≡ rg.values
     → status.tags ≡ tags_with rg.tags (dest_of instr) (record { pool = p; number = number })
     → ((x : Step) → x.instr ≡ instr → x.pc ≡ pc → from ≡ fetch_after x (is_branch x) (end_of x))
@@ -205,7 +205,7 @@ some_case i config count st new rg status ft from pc instr p most number j k at 
     rw (← x.1.instr_is) at j_is ∙ read_j old.status x.1.come.follows (rw x.1.instr_is j_low) in
     let b : k ≡ field_of t h (k_of x.0) =
     rw (← x.1.instr_is) at k_is ∙ read_k old.status x.1.come.follows (rw x.1.instr_is k_low) in
-    let made : issued instr pc j k ≡ station_of i (clocks u u t) d h = station_same instr x.0.instr pc x.0.pc j _ k _
+    let made : new_station instr pc j k ≡ station_of i (clocks u u t) d h = station_same instr x.0.instr pc x.0.pc j _ k _
     (sym x.1.instr_is) pc_is a b ∙ sym (station_made i t u d p x.1.timed.0 issue here) in
     let f = fetch_made i t u d h from run.lawful x.1.timed issue e (after x.0 x.1.instr_is (sym pc_is)) in
     let shown : ShowsStations i (clocks u u t) (d ∷ h) new =
@@ -220,5 +220,5 @@ some_case i config count st new rg status ft from pc instr p most number j k at 
     )
   where
     station_same : (a b : Instruction) (pc q : ℕ) (j l k m : Field) → a ≡ b → pc ≡ q → j ≡ l → k ≡ m
-        → issued a pc j k ≡ issued b q l m
+        → new_station a pc j k ≡ new_station b q l m
     station_same a b pc q j l k m e f g h = rw (e, f, g, h) refl

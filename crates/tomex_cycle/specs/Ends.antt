@@ -9,7 +9,7 @@ use Rattle.tomex_sets.specs.Sets.{has}
 use Rattle.tomex_bus.specs.Picks.{IsPicked}
 use Rattle.tomex_membuf.specs.Order.{is_finished_before}
 use Rattle.tomex_tags.specs.Contents.{hears, slot, step_in}
-use Rattle.tomex_tags.specs.Operands.{heard}
+use Rattle.tomex_tags.specs.Operands.{field_after}
 use Rattle.tomex_tags.specs.Pools.{Pools}
 use Rattle.tomex_tags.specs.Registers.{names}
 use Rattle.tomex_tags.specs.declared.register_status.RegStatus.{RegStatus}
@@ -67,7 +67,7 @@ pub record HaveReceived (sent : ℕ → Option ℕ) (old new : RegStatus) : Type
   pub status : length new.tags ≡ 32
   pub fields : (r : ℕ) → r < 32
       → field_from (slice_index new.values r) (slice_index_or new.tags r None)
-      ≡ heard sent (field_from (slice_index old.values r) (slice_index_or old.tags r None))
+      ≡ field_after sent (field_from (slice_index old.values r) (slice_index_or old.tags r None))
 
 abbrev pub Hears : (ℕ → Option ℕ) → RegStatus → RegStatus → Type 0
 Hears sent old new = length old.values ≡ 32 → length old.tags ≡ 32 → HaveReceived sent old new

@@ -38,7 +38,7 @@ pub(crate) fn is_settled_after(activity: Activity, ended: bool, pools: &Pools) -
 {
     match activity {
         Activity::Nothing => !ended,
-        Activity::Starts => !ended && pools.waiting() == 0,
+        Activity::Starts => !ended && pools.waiters() == 0,
         Activity::More => false,
     }
 }

@@ -46,7 +46,7 @@ pub fn choose_ending(
     ensures none_unsent { result.ending ≡ 0 → result.due ≡ 0 → finishes.new.unsent ≡ 0 }
     ensures fits { (result.due < 2 ^ 128) × (result.ending < 2 ^ 128) }
 {
-    let writing = pools.writing();
+    let writing = pools.writers();
     let sending = pick(finishes.unsent, pools.issue_numbers(), buses);
     let results = both(due, writing);
     finishes.send(sending, results);

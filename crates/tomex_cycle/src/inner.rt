@@ -208,7 +208,7 @@ impl<A: Allocator> Inner<A> {
             → ShowsStations i (clocks cycle cycle cycle) h self.now.pools
             → ShowsRegisters i cycle h self.now.registers → result ≡ tables_of cycle h }
     {
-        let busy = self.pools.shown();
+        let busy = self.pools.busy_entries();
         Tables::new(cycle, busy, self.registers.tags)
     }
 

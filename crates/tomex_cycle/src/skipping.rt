@@ -52,7 +52,7 @@ fn take_results(finishes: &mut Finishes, pools: &Pools) -> bool
     ensures results { result ≡ true → (cycle : ℕ) → IsTimetableOf pools.now.slots cycle finishes.old
         → AreResults pools.now.slots cycle × IsTimetableOf pools.now.slots (cycle + 1) finishes.new }
 {
-    let results = difference(pools.writing(), served_by(UnitId::Bru));
+    let results = difference(pools.writers(), served_by(UnitId::Bru));
     let others = difference(finishes.wheel.first(), results);
     if others != 0 {
         return false;

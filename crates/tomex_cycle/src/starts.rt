@@ -3,7 +3,7 @@
 ghost use Rattle.std.specs.Prelude.{ℕ, ◌≡◌, ◌≢◌, ◌<◌, ◌≤◌, ◌+◌, ◌-◌, ◌/◌, ◌^◌, IfSome};
 ghost use Rattle.std.specs.Prelude.{IsSome, None, Some, slice_set, length, true, ◌||◌};
 ghost use Rattle.tomex_sets.specs.Sets.{has};
-ghost use Rattle.tomex_tags.specs.Contents.{slot, started, step_in};
+ghost use Rattle.tomex_tags.specs.Contents.{slot, with_start, step_in};
 ghost use Rattle.tomex_tags.specs.Places.{pool_at};
 ghost use Rattle.tomex_tags.specs.Pools.{AreBusy};
 ghost use Rattle.tomex_tags.specs.WaitSets.{IsSetOf, waits_for};
@@ -102,7 +102,7 @@ pub fn starting(pools: &Pools, config: &Config, cycle: u64) -> u128
     ensures starting { IsStarting config.now pools.now cycle result }
     ensures busy { AreBusy pools.now.slots pools.now.busy pools.now.issue_numbers }
 {
-    let waiting = pools.waiting();
+    let waiting = pools.waiters();
     if waiting == 0 {
         return 0;
     }
@@ -165,7 +165,7 @@ fn outcome<A: Allocator>(
     requires low { place < 96 }
     requires own { unit_of station.now.instr.op ≡ Some (unit_of_pool (pool_at (place / 16))) }
     requires pool { pool_of station.now.instr.op ≡ Some (pool_at (place / 16)) }
-    ensures value { (cycle : ℕ) → IfSome result (λ o. started (cycle + o.0 - 1) o.1 station.now
+    ensures value { (cycle : ℕ) → IfSome result (λ o. with_start (cycle + o.0 - 1) o.1 station.now
         ≡ begun config.now cycle memory.now station.now) }
     ensures range { IfSome result (λ o. (1 ≤ o.0) × (o.0 ≤ 64)) }
     ensures outside { IfSome result (λ o. IsInside memory.now (step_in station.now)) }

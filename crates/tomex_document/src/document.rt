@@ -69,7 +69,7 @@ fn members_of(heap: Global, study: &[u8]) -> Result<Table, DocumentError>
 fn is_weighed<A: Allocator>(programs: &[Entry<A>]) -> bool
     ensures { result ≡ list_any (λ entry. entry.weighed) programs.now }
 {
-    programs.iter().any(|entry| entry.weighed())
+    programs.iter().any(|entry| entry.gives_weight())
 }
 
 /// True if the document gives a program's weight, the price of the width, or widths.

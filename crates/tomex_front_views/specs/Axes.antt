@@ -13,11 +13,11 @@ abbrev pub only : ℕ → Span
 only value = record { least = value; greatest = value }
 
 -- extended to include this value
-abbrev pub widened : Span → ℕ → Span
-widened span value = record { least = min span.least value; greatest = max span.greatest value }
+abbrev pub with_value : Span → ℕ → Span
+with_value span value = record { least = min span.least value; greatest = max span.greatest value }
 
 abbrev pub with_row : Axes → FrontRow → Axes
-with_row axes r = record { costs = widened axes.costs r.cost; cycles = widened axes.cycles r.cycles }
+with_row axes r = record { costs = with_value axes.costs r.cost; cycles = with_value axes.cycles r.cycles }
 
 -- from the least to the greatest of all costs, and of all cycles
 abbrev pub axes_of : List FrontRow → Axes

@@ -144,8 +144,8 @@ lines_text axes =
     light_lines ++ (marks_of axes CostLine ++ (marks_of axes CyclesLine ++ (codes "</g>\n" ++ frame)))
 
 -- the numbers at the ticks, and the names of the axes
-abbrev pub centred : List ℕ
-centred = codes "<g text-anchor=\"middle\">\n"
+abbrev pub centred_group : List ℕ
+centred_group = codes "<g text-anchor=\"middle\">\n"
 
 abbrev pub cost_label : List ℕ
 cost_label = codes "<text x=\"404\" y=\"426\" font-size=\"14\">cost</text>\n</g>\n"
@@ -158,7 +158,7 @@ cycles_label = codes "<text x=\"104\" y=\"48\" font-size=\"14\">cycles</text>\n<
 
 unfoldable pub scales_text : Axes → List ℕ
 scales_text axes =
-    centred
+    centred_group
     ++ (marks_of axes CostNumber ++ (cost_label ++ (ending_there ++ (marks_of axes CyclesNumber ++ cycles_label))))
 
 -- the staircase as a line, the points, and their rows' numbers

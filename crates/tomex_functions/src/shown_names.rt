@@ -8,7 +8,7 @@ ghost use Rattle.tomex_functions.specs.ShownNames.{name_field, shown_byte, shown
 use csv::ByteRecord;
 use std::alloc::{AllocError, Global};
 use std::fmt::Write;
-use tomex_streams::{push_shown, shown};
+use tomex_streams::{push_shown, shown_name};
 use tomex_symbols::{Symbol, name_of};
 
 /// How many bytes of a name are shown.
@@ -41,7 +41,7 @@ fn shown_bytes(heap: Global, bytes: &[u8]) -> Result<String, AllocError>
     ensures { IfOk result (λ text. string_bytes text ≡ shown_bytes bytes.now) }
 {
     match str::from_utf8(bytes) {
-        Ok(name) => shown(heap, name),
+        Ok(name) => shown_name(heap, name),
         Err(_) => escaped(heap, bytes),
     }
 }

@@ -9,7 +9,7 @@ use crate::window::Window;
 use std::alloc::{AllocError, Allocator};
 
 /// The bytes, followed by zeros up to `size`.
-fn filled<A: Allocator>(alloc: A, bytes: &[u8], size: usize) -> Result<Vec<u8, A>, AllocError>
+fn flat_memory<A: Allocator>(alloc: A, bytes: &[u8], size: usize) -> Result<Vec<u8, A>, AllocError>
     requires { length bytes.now ≤ size }
     ensures { IfOk result (λ v. v.items ≡ bytes.now ++ replicate (size - length bytes.now) 0) }
 {
@@ -38,6 +38,6 @@ pub fn load_flat<A: Allocator>(
     if bytes.len() > size {
         return Err(ImageError::TooLarge);
     }
-    let memory = filled(alloc, bytes, size)?;
+    let memory = flat_memory(alloc, bytes, size)?;
     Ok(Image::new(window, memory, window.base()))
 }

@@ -21,7 +21,7 @@ use Rattle.tomex_konata.specs.declared.events.Kind.TheVariants.{Change}
 use Rattle.tomex_konata.specs.Konata.{IsLogOf, cycles_of, entries_from, entry_of, gone_before, head_of, log_of}
 use Rattle.tomex_run_views.specs.Chart.{first_issue}
 use Rattle.tomex_run_views.specs.Excerpt.{IsExcerptOf, TimedSteps}
-use Rattle.tomex_konata.specs.Kept.{ArePut, change_cycles, change_in, changes_of, events_of, once, out_of, written}
+use Rattle.tomex_konata.specs.Kept.{ArePut, change_cycles, change_in, changes_of, events_of, once, out_of, events_text}
 use Rattle.tomex_konata.proofs.Sorting.{filter_alike, rises}
 use Rattle.tomex_konata.proofs.Written.{AreThere, cycles_are}
 
@@ -140,11 +140,11 @@ none_gone (e ∷ es) =
 -- the events of a log's steps, in their order, are written as the log
 pub is_log : (number last since : ℕ) (es : List Entry) (vs : List Event) → AreThere es es
     → All (λ e. e.at.end < last) es
-    → ArePut (events_of last es) vs → written number es since 0 vs ≡ cycles_of number es since 0 (last + 1)
+    → ArePut (events_of last es) vs → events_text number es since 0 vs ≡ cycles_of number es since 0 (last + 1)
 is_log number last since es vs all bound put =
     let high : All (λ v. v.cycle ≤ last) vs =
     All-permutation (λ v. v.cycle ≤ last) (events_of last es) vs put.same (timely last es bound) in
-    ap (λ (g : ℕ). written number es since g vs) (sym (none_gone es))
+    ap (λ (g : ℕ). events_text number es since g vs) (sym (none_gone es))
     ∙ cycles_are number last es (last + 1) 0 since vs all (omega arith)
     (rises (λ v. v.cycle) 0 last vs put.rise (λ i d within. omega arith) high) (λ s le. put.keep s)
 
@@ -153,7 +153,7 @@ pub written_is : (number since last : ℕ) (steps : List Step) (times : List Tim
     (vs put : List Event)
     → es ≡ entries_from [] steps times → kept ≡ es → last ≡ total_of times + 1 → put ≡ vs
     → ArePut (events_of last es) vs
-    → written number kept since 0 put ≡ cycles_of number (entries_from [] steps times) since 0 (total_of times + 2)
+    → events_text number kept since 0 put ≡ cycles_of number (entries_from [] steps times) since 0 (total_of times + 2)
 written_is number since last steps times es kept vs put is same end put_is order =
     let bound : total_of times < last = omega (arith, end) in
     let more : last + 1 ≡ total_of times + 2 = omega (arith, end) in

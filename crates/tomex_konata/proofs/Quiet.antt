@@ -13,7 +13,7 @@ use Rattle.tomex_run_views.specs.Chart.{stage_in}
 use Rattle.tomex_konata.specs.declared.entries.Entry.{Entry}
 use Rattle.tomex_konata.specs.declared.entries.Producer.{Producer}
 use Rattle.tomex_konata.specs.Konata.{is_shared, issue_lines, step_lines, turn_lines, wake_line, wake_lines}
-use Rattle.tomex_konata.specs.Kept.{change_cycles, ready}
+use Rattle.tomex_konata.specs.Kept.{change_cycles, ready_cycle}
 
 -- the cycle before doesn't differ from this one for the test
 same_eq : (n t : ℕ) → n ≢ t → n + 1 ≢ t → (t - 1 == n) ≡ (t == n)
@@ -104,7 +104,7 @@ still_turn id at t still = elim (cases_order at.end t) [
       ∙ no_turn id (stage_in at t)
 ]
 
-no_wake : (id : ℕ) (at : Times) (t : ℕ) (p : Option Producer) → ready at p ≢ t → wake_line id at t p ≡ []
+no_wake : (id : ℕ) (at : Times) (t : ℕ) (p : Option Producer) → ready_cycle at p ≢ t → wake_line id at t p ≡ []
 no_wake id at t None other = refl
 no_wake id at t (Some p) other = elim (cases_Bool (p.end == t)) [
   | inl e ↦ elim (cases_Bool (nat_le at.issue t)) [
@@ -153,8 +153,8 @@ quiet number last t e within none =
       finished = is_none (e.at.finish + 1) last t within p5.0;
       end = is_none e.at.end last t within p6.0;
     } in
-    let j = no_wake e.id e.at t e.j (is_none (ready e.at e.j) last t within p7.0) in
-    let k = no_wake e.id e.at t e.k (is_none (ready e.at e.k) last t within p8.0) in
+    let j = no_wake e.id e.at t e.j (is_none (ready_cycle e.at e.j) last t within p7.0) in
+    let k = no_wake e.id e.at t e.k (is_none (ready_cycle e.at e.k) last t within p8.0) in
     let wakes : wake_lines t e ≡ [] =
     elim (cases_Bool (is_shared e.j e.k)) [ inl s ↦ rw (j, s) refl | inr s ↦ rw (j, s, k) refl ] in
     let not_issue : (t == e.at.issue) ≡ false = ne_eqb t e.at.issue (λ same. issue (sym same)) in

@@ -13,7 +13,7 @@ use Rattle.tomex_timing.specs.declared.times.Times.{Times}
 use Rattle.tomex_konata.specs.declared.entries.Entry.{Entry}
 use Rattle.tomex_konata.specs.declared.entries.Producer.{Producer}
 use Rattle.tomex_konata.specs.Konata.{entries_from, entry_of, producer}
-use Rattle.tomex_konata.specs.Kept.{noted, written_in}
+use Rattle.tomex_konata.specs.Kept.{writers_after, written_in}
 
 -- the youngest writer of a register among some older steps
 abbrev writer_of : List Done → ℕ → Option Producer
@@ -52,7 +52,7 @@ read older writers (Some o) are low = are.each o.register (low o refl) ∙ sym (
 pub more_writers : (older : List Done) (d : Done) (dest : Option ℕ) (writers : List (Option Producer))
     → AreWriters older writers
     → step_dest d.step ≡ dest → AreWriters (d ∷ older)
-    (noted writers dest (record { id = length older; end = d.at.end }))
+    (writers_after writers dest (record { id = length older; end = d.at.end }))
 more_writers older d None writers are is = record { long = are.long; each = λ r within. are.each r within ∙ rw is refl }
 more_writers older d (Some n) writers are is = record {
   long = length-set writers n (Some (record { id = length older; end = d.at.end })) ∙ are.long;
@@ -97,7 +97,7 @@ pub one_gathered : (steps : List Step) (times : List Times) (i : ℕ) (before af
     → i < length steps → length times ≡ length steps → step ≡ get_or steps i s → at ≡ get_or times i t
     → j ≡ written_in writers (j_of step) → k ≡ written_in writers (k_of step)
     → ForSome (j_of step) (λ o. o.register < 32) → ForSome (k_of step) (λ o. o.register < 32)
-    → behind ≡ noted writers (step_dest step) (record { id = i; end = at.end })
+    → behind ≡ writers_after writers (step_dest step) (record { id = i; end = at.end })
     → after ≡ before ++ record { id = i; step = step; at = at; j = j; k = k } ∷ []
     → AreGathered steps times (i + 1) after behind
 one_gathered steps times i before after writers behind step s at t j k g within pairs step_is at_is j_is k_is j_low

@@ -10,7 +10,7 @@ use Rattle.tomex_konata.specs.declared.events.Event.{Event}
 use Rattle.tomex_konata.specs.declared.events.Kind.{Kind}
 use Rattle.tomex_konata.specs.declared.events.Kind.TheVariants.{Change, Out}
 use Rattle.tomex_konata.specs.Konata.{next_since, with_cycle}
-use Rattle.tomex_konata.specs.Kept.{change_cycles, change_in, event_lines, gone_after, lines_at, once, written}
+use Rattle.tomex_konata.specs.Kept.{change_cycles, change_in, event_lines, gone_after, lines_at, once, events_text}
 
 next : {X : Type 0} (xs : List X) (i : ℕ) (x d : X) → i < length xs → x ≡ get_or xs i d → drop i xs ≡ x
     ∷ drop (suc i) xs
@@ -73,16 +73,16 @@ pub event_more : (number : ℕ) (es : List Entry) (vs : List Event) (i since gon
     → cleared ≡ [] → lines ≡ cleared ++ event_lines number gone v.cycle v.kind e
     → after ≡ before ++ with_cycle (v.cycle - since) lines → since' ≡ next_since since v.cycle lines
     → gone' ≡ gone_after gone v.kind
-    → before ++ written number es since gone (drop i vs) ≡ whole → after
-    ++ written number es since' gone' (drop (i + 1) vs) ≡ whole
+    → before ++ events_text number es since gone (drop i vs) ≡ whole → after
+    ++ events_text number es since' gone' (drop (i + 1) vs) ≡ whole
 event_more number es vs i since gone since' gone' v d e cleared lines before after whole within is inside entry clear
     line grown then went so_far =
     let more : i + 1 ≡ suc i = omega arith in
     let there : slice_get es v.id ≡ Some e = slice_get_read es (length es) v.id e refl inside entry in
     let same : lines ≡ lines_at number gone v (slice_get es v.id) = line ∙ rw (clear, there) refl in
-    let rest = written number es since' gone' (drop (i + 1) vs) in
-    let whole_line : written number es since gone (drop i vs) ≡ with_cycle (v.cycle - since) lines ++ rest =
-    ap (λ (ws : List Event). written number es since gone ws) (next vs i v d within is)
+    let rest = events_text number es since' gone' (drop (i + 1) vs) in
+    let whole_line : events_text number es since gone (drop i vs) ≡ with_cycle (v.cycle - since) lines ++ rest =
+    ap (λ (ws : List Event). events_text number es since gone ws) (next vs i v d within is)
     ∙ rw (then, went, more, ← same) refl in
     ap (λ (z : List ℕ). z ++ rest) grown
     ∙ (append_assoc before (with_cycle (v.cycle - since) lines) rest
@@ -99,8 +99,8 @@ few_gone gone gone' i kind is few = rw is (go kind)
 -- after the last event
 pub all_written : (number : ℕ) (entries : List Entry) (events : List Event) (index since gone : ℕ)
     (text whole : List ℕ) → length events ≤ index
-    → text ++ written number entries since gone (drop index events) ≡ whole → text ≡ whole
+    → text ++ events_text number entries since gone (drop index events) ≡ whole → text ≡ whole
 all_written number entries events index since gone text whole past so_far =
     sym (append-nil text)
-    ∙ (ap (λ (vs : List Event). text ++ written number entries since gone vs) (sym (drop_all index events past))
+    ∙ (ap (λ (vs : List Event). text ++ events_text number entries since gone vs) (sym (drop_all index events past))
     ∙ so_far)

@@ -8,10 +8,10 @@ use Rattle.std.proofs.lemmas.List.Elements.{filter-append}
 use Rattle.std.proofs.lemmas.List.Sums.{sum_by-cons}
 use Rattle.tomex_konata.specs.declared.entries.Entry.{Entry}
 use Rattle.tomex_konata.specs.declared.events.Event.{Event}
-use Rattle.tomex_konata.specs.Konata.{cycles_of, gone_before, goes_out, lines_in, next_since, outs_in, passed}
+use Rattle.tomex_konata.specs.Konata.{cycles_of, gone_before, goes_out, lines_in, next_since, outs_in, cycles_line}
 use Rattle.tomex_konata.specs.Konata.{step_lines, with_cycle}
 use Rattle.tomex_konata.specs.Kept.{change_cycles, change_in, changes_of, events_of, gone_after, lines_at, out_of}
-use Rattle.tomex_konata.specs.Kept.{written}
+use Rattle.tomex_konata.specs.Kept.{events_text}
 use Rattle.tomex_konata.proofs.Moments.{changes_at}
 use Rattle.tomex_konata.proofs.Quiet.{quiet}
 use Rattle.tomex_konata.proofs.Sorting.{Rises, at, later, parted, rest_at, rest_rises}
@@ -22,8 +22,8 @@ with_more : (t since : ℕ) (a b : List ℕ) → with_cycle (t - since) (a ++ b)
 with_more t since [] b = refl
 with_more t since (x ∷ a) b =
     let same : t - t ≡ 0 = omega arith in
-    rw same (sym (append_assoc (passed (t - since)) (x ∷ a) b)
-    ∙ ap (λ (z : List ℕ). (passed (t - since) ++ (x ∷ a)) ++ z) (go b))
+    rw same (sym (append_assoc (cycles_line (t - since)) (x ∷ a) b)
+    ∙ ap (λ (z : List ℕ). (cycles_line (t - since) ++ (x ∷ a)) ++ z) (go b))
   where
     go : (b : List ℕ) → b ≡ with_cycle 0 b
     go [] = refl
@@ -100,20 +100,20 @@ module _ (number last : ℕ) (all : List Entry) where
   ]
 
   -- the events of a cycle, and then the others
-  one_cycle : (t since gone : ℕ) (vs ws : List Event) → AllAt t vs → written number all since gone (vs ++ ws)
-      ≡ with_cycle (t - since) (lines_of gone vs) ++ written number all (next_since since t (lines_of gone vs))
+  one_cycle : (t since gone : ℕ) (vs ws : List Event) → AllAt t vs → events_text number all since gone (vs ++ ws)
+      ≡ with_cycle (t - since) (lines_of gone vs) ++ events_text number all (next_since since t (lines_of gone vs))
       (gone_of gone vs) ws
   one_cycle t since gone [] ws at = refl
   one_cycle t since gone (v ∷ vs) ws at =
       let lines = lines_at number gone v (slice_get all v.id) in
       let more = lines_of (gone_after gone v.kind) vs in
       let then = next_since since t lines in
-      let rest = written number all (next_since then t more) (gone_of (gone_after gone v.kind) vs) ws in
+      let rest = events_text number all (next_since then t more) (gone_of (gone_after gone v.kind) vs) ws in
       ap (λ (c : ℕ). with_cycle (c - since) lines
-      ++ written number all (next_since since c lines) (gone_after gone v.kind) (vs ++ ws)) at.0
+      ++ events_text number all (next_since since c lines) (gone_after gone v.kind) (vs ++ ws)) at.0
       ∙ (ap (λ (z : List ℕ). with_cycle (t - since) lines ++ z) (one_cycle t then (gone_after gone v.kind) vs ws at.1)
       ∙ (sym (append_assoc (with_cycle (t - since) lines) (with_cycle (t - then) more) rest)
-      ∙ ap₂ (λ (y : List ℕ) (s : ℕ). y ++ written number all s (gone_of (gone_after gone v.kind) vs) ws)
+      ∙ ap₂ (λ (y : List ℕ) (s : ℕ). y ++ events_text number all s (gone_of (gone_after gone v.kind) vs) ws)
       (sym (with_more t since lines more)) (sym (since_more t since lines more))))
 
   -- the changes of a cycle
@@ -186,7 +186,7 @@ module _ (number last : ℕ) (all : List Entry) where
   pub cycles_are : (n t since : ℕ) (vs : List Event) → AreThere all all → t + n ≡ last + 1
       → Rises (λ v. v.cycle) t last vs
       → ((s : ℕ) → t ≤ s → filter (at (λ v. v.cycle) s) vs ≡ filter (at (λ v. v.cycle) s) (events_of last all))
-      → written number all since (gone_before t all) vs ≡ cycles_of number all since t n
+      → events_text number all since (gone_before t all) vs ≡ cycles_of number all since t n
   cycles_are zero t since [] there end rise those = refl
   cycles_are zero t since (v ∷ vs) there end rise those = absurd (omega (arith, end, rise.0, rise.1))
   cycles_are (suc n) t since vs there end rise those =
@@ -197,10 +197,10 @@ module _ (number last : ℕ) (all : List Entry) where
       ap (λ (ws : List Event). lines_of g ws) (those t (omega arith)) ∙ cycle_lines t (omega (arith, end)) there in
       let gone : gone_of g now ≡ gone_before (t + 1) all =
       ap (λ (ws : List Event). gone_of g ws) (those t (omega arith)) ∙ cycle_gone t in
-      ap (λ (ws : List Event). written number all since g ws) (parted (λ v. v.cycle) t last vs rise)
+      ap (λ (ws : List Event). events_text number all since g ws) (parted (λ v. v.cycle) t last vs rise)
       ∙ (one_cycle t since g now rest (kept_at t vs)
-      ∙ (ap₂ (λ (ls : List ℕ) (h : ℕ). with_cycle (t - since) ls ++ written number all (next_since since t ls) h rest)
-      lines gone
+      ∙ (ap₂ (λ (ls : List ℕ) (h : ℕ). with_cycle (t - since) ls
+      ++ events_text number all (next_since since t ls) h rest) lines gone
       ∙ ap (λ (z : List ℕ). with_cycle (t - since) (lines_in number t all) ++ z)
       (cycles_are n (t + 1) (next_since since t (lines_in number t all)) rest there (omega (arith, end))
       (subst (λ (s : ℕ). Rises (λ (v : Event). v.cycle) s last rest) (let e : suc t ≡ t + 1 = omega arith in

@@ -19,26 +19,26 @@ written_in writers None = None
 written_in writers (Some o) = slice_index_or writers o.register None
 
 -- the table after a step that writes this register
-abbrev pub noted : List (Option Producer) → Option ℕ → Producer → List (Option Producer)
-noted writers None p = writers
-noted writers (Some register) p = slice_set writers register (Some p)
+abbrev pub writers_after : List (Option Producer) → Option ℕ → Producer → List (Option Producer)
+writers_after writers None p = writers
+writers_after writers (Some register) p = slice_set writers register (Some p)
 
 -- the next cycle, but none after the last
-abbrev pub after : ℕ → ℕ → ℕ
-after cycle last = min (cycle + 1) last
+abbrev pub next_cycle : ℕ → ℕ → ℕ
+next_cycle cycle last = min (cycle + 1) last
 
 -- the cycle in which a step gets an operand: that of its issue if it has the operand by then
-abbrev pub ready : Times → Option Producer → ℕ
-ready at None = at.issue
-ready at (Some p) = max p.end at.issue
+abbrev pub ready_cycle : Times → Option Producer → ℕ
+ready_cycle at None = at.issue
+ready_cycle at (Some p) = max p.end at.issue
 
 -- the cycles in which a step may have lines, except the one in which it goes out
 abbrev pub change_cycles : ℕ → Entry → List ℕ
 change_cycles last e =
-    min e.at.issue last ∷ after e.at.issue last
-    ∷ min (unwrap_or e.at.address e.at.issue) last ∷ after (unwrap_or e.at.address e.at.issue) last
-    ∷ min e.at.start last ∷ after e.at.finish last ∷ min e.at.end last
-    ∷ min (ready e.at e.j) last ∷ min (ready e.at e.k) last ∷ []
+    min e.at.issue last ∷ next_cycle e.at.issue last
+    ∷ min (unwrap_or e.at.address e.at.issue) last ∷ next_cycle (unwrap_or e.at.address e.at.issue) last
+    ∷ min e.at.start last ∷ next_cycle e.at.finish last ∷ min e.at.end last
+    ∷ min (ready_cycle e.at e.j) last ∷ min (ready_cycle e.at e.k) last ∷ []
 
 -- each number once
 abbrev pub once : List ℕ → List ℕ
@@ -78,9 +78,9 @@ gone_after gone Change = gone
 gone_after gone Out = gone + 1
 
 -- the text of some events, after `gone` steps have gone out; the last cycle with lines was `since`
-abbrev pub written : ℕ → List Entry → ℕ → ℕ → List Event → List ℕ
-written number es since gone [] = []
-written number es since gone (v ∷ vs) =
+abbrev pub events_text : ℕ → List Entry → ℕ → ℕ → List Event → List ℕ
+events_text number es since gone [] = []
+events_text number es since gone (v ∷ vs) =
     with_cycle (v.cycle - since) (lines_at number gone v (slice_get es v.id))
-    ++ written number es (next_since since v.cycle (lines_at number gone v (slice_get es v.id)))
+    ++ events_text number es (next_since since v.cycle (lines_at number gone v (slice_get es v.id)))
     (gone_after gone v.kind) vs

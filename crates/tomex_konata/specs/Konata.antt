@@ -66,15 +66,15 @@ place_of_stage BusWait = 4
 place_of_stage Wait = 5
 
 -- a line of fields
-abbrev pub tabbed : List (List ℕ) → List ℕ
-tabbed [] = codes "\n"
-tabbed (field ∷ []) = field ++ codes "\n"
-tabbed (field ∷ fields) = field ++ (codes "\t" ++ tabbed fields)
+abbrev pub fields_line : List (List ℕ) → List ℕ
+fields_line [] = codes "\n"
+fields_line (field ∷ []) = field ++ codes "\n"
+fields_line (field ∷ fields) = field ++ (codes "\t" ++ fields_line fields)
 
 -- `I`: a step comes in; `L`: its text, and its station
 abbrev pub station_line : ℕ → Option PoolId → Option ℕ → List ℕ
 station_line id (Some pool) (Some station) =
-    tabbed (codes "L" ∷ decimal id ∷ codes "1" ∷ (name_of_pool pool ++ decimal station) ∷ [])
+    fields_line (codes "L" ∷ decimal id ∷ codes "1" ∷ (name_of_pool pool ++ decimal station) ∷ [])
 station_line id _ _ = []
 
 abbrev pub text_of : Step → List ℕ
@@ -82,16 +82,16 @@ text_of step = hex8 step.pc ++ (codes ": " ++ instr_text step.instr)
 
 abbrev pub issue_lines : ℕ → Entry → List ℕ
 issue_lines number e =
-    tabbed (codes "I" ∷ decimal e.id ∷ decimal number ∷ codes "0" ∷ [])
-    ++ (tabbed (codes "L" ∷ decimal e.id ∷ codes "0" ∷ text_of e.step ∷ [])
+    fields_line (codes "I" ∷ decimal e.id ∷ decimal number ∷ codes "0" ∷ [])
+    ++ (fields_line (codes "L" ∷ decimal e.id ∷ codes "0" ∷ text_of e.step ∷ [])
     ++ station_line e.id (step_pool e.step) e.at.station)
 
 -- `S`: a stage begins; `E`: it ends
 abbrev pub begin_line : ℕ → Stage → List ℕ
-begin_line id stage = tabbed (codes "S" ∷ decimal id ∷ codes "0" ∷ name_of_stage stage ∷ [])
+begin_line id stage = fields_line (codes "S" ∷ decimal id ∷ codes "0" ∷ name_of_stage stage ∷ [])
 
 abbrev pub end_line : ℕ → Stage → List ℕ
-end_line id stage = tabbed (codes "E" ∷ decimal id ∷ codes "0" ∷ name_of_stage stage ∷ [])
+end_line id stage = fields_line (codes "E" ∷ decimal id ∷ codes "0" ∷ name_of_stage stage ∷ [])
 
 -- from the stage of a cycle to that of the next
 abbrev pub turn_lines : ℕ → Option Stage → Option Stage → List ℕ
@@ -105,7 +105,7 @@ abbrev pub wake_line : ℕ → Times → ℕ → Option Producer → List ℕ
 wake_line id at t None = []
 wake_line id at t (Some p) =
     if p.end == t && nat_le at.issue t
-    then tabbed (codes "W" ∷ decimal id ∷ decimal p.id ∷ codes "0" ∷ [])
+    then fields_line (codes "W" ∷ decimal id ∷ decimal p.id ∷ codes "0" ∷ [])
     else []
 
 abbrev pub is_shared : Option Producer → Option Producer → Bool
@@ -126,7 +126,7 @@ step_lines number t e =
 abbrev pub leave_lines : ℕ → ℕ → Option Stage → List ℕ
 leave_lines gone id None = []
 leave_lines gone id (Some stage) =
-    end_line id stage ++ tabbed (codes "R" ∷ decimal id ∷ decimal gone ∷ codes "0" ∷ [])
+    end_line id stage ++ fields_line (codes "R" ∷ decimal id ∷ decimal gone ∷ codes "0" ∷ [])
 
 unfoldable pub out_lines : ℕ → Entry → List ℕ
 out_lines gone e = leave_lines gone e.id (stage_in e.at e.at.end)
@@ -148,14 +148,14 @@ abbrev pub lines_in : ℕ → ℕ → List Entry → List ℕ
 lines_in number t es = flat_map (step_lines number t) es ++ outs_in t (gone_before t es) es
 
 -- `C`: the number of cycles since the last one with lines
-abbrev pub passed : ℕ → List ℕ
-passed zero = []
-passed (suc n) = tabbed (codes "C" ∷ decimal (suc n) ∷ [])
+abbrev pub cycles_line : ℕ → List ℕ
+cycles_line zero = []
+cycles_line (suc n) = fields_line (codes "C" ∷ decimal (suc n) ∷ [])
 
 -- a cycle's lines, after the n cycles since the last one with lines; none if nothing happens
 abbrev pub with_cycle : ℕ → List ℕ → List ℕ
 with_cycle n [] = []
-with_cycle n (x ∷ lines) = passed n ++ (x ∷ lines)
+with_cycle n (x ∷ lines) = cycles_line n ++ (x ∷ lines)
 
 -- and then the last one with lines
 abbrev pub next_since : ℕ → ℕ → List ℕ → ℕ
@@ -171,7 +171,7 @@ cycles_of number es since t (suc n) =
 
 -- the head of a log: its format, and the cycle from which it counts
 abbrev pub head_of : ℕ → List ℕ
-head_of first = tabbed (codes "Kanata" ∷ codes "0004" ∷ []) ++ tabbed (codes "C=" ∷ decimal first ∷ [])
+head_of first = fields_line (codes "Kanata" ∷ codes "0004" ∷ []) ++ fields_line (codes "C=" ∷ decimal first ∷ [])
 
 -- the log of steps with these times, the first of which has this number, up to the cycle in which the last one goes
 -- out. Nothing happens before the first one's issue.

@@ -4,7 +4,7 @@ ghost use Rattle.std.specs.Prelude.{◌≡◌, ◌<◌, length, IfOk, None, [], 
 ghost use Rattle.std.specs.Option.{ForSome};
 ghost use Rattle.tomex_steps.specs.Steps.{step_dest};
 ghost use Rattle.tomex_konata.specs.Konata.{entries_from};
-ghost use Rattle.tomex_konata.specs.Kept.{noted, written_in};
+ghost use Rattle.tomex_konata.specs.Kept.{writers_after, written_in};
 
 use std::alloc::{AllocError, Allocator};
 use tomex_rvexec::{Operand, Step};
@@ -57,7 +57,7 @@ impl Writers {
 
     /// Notes the register that a step writes.
     fn note(&mut self, step: &Step, producer: Producer)
-        ensures { self.new.of ≡ noted self.old.of (step_dest step.now) producer }
+        ensures { self.new.of ≡ writers_after self.old.of (step_dest step.now) producer }
     {
         if let Some(register) = step.dest() {
             self.of[register as usize] = Some(producer);

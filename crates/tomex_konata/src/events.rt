@@ -2,7 +2,8 @@
 
 ghost use Rattle.std.specs.Prelude.{◌≡◌, ◌<◌, ◌^◌, ◌++◌, map, IfOk, OnOk, All};
 ghost use Rattle.std.specs.List.{flat_map};
-ghost use Rattle.tomex_konata.specs.Kept.{ArePut, after, change_cycles, changes_of, events_of, out_of, ready};
+ghost use Rattle.tomex_konata.specs.Kept.{ArePut, change_cycles, changes_of, events_of, next_cycle, out_of};
+ghost use Rattle.tomex_konata.specs.Kept.{ready_cycle};
 
 use crate::entries::{Entry, Producer};
 use std::alloc::{AllocError, Allocator};
@@ -27,16 +28,16 @@ pub struct Event {
 }
 
 /// The next cycle, or the last one.
-fn after(cycle: u64, last: u64) -> u64
-    ensures { result ≡ after cycle last }
+fn next_cycle(cycle: u64, last: u64) -> u64
+    ensures { result ≡ next_cycle cycle last }
 {
     if cycle < last { cycle + 1 } else { last }
 }
 
 /// The cycle in which a step gets an operand, or the cycle of its issue if it has the operand by
 /// then.
-fn ready(at: &Times, producer: Option<Producer>) -> u64
-    ensures { result ≡ ready at.now producer }
+fn ready_cycle(at: &Times, producer: Option<Producer>) -> u64
+    ensures { result ≡ ready_cycle at.now producer }
 {
     match producer {
         Some(producer) => producer.end.max(at.issue),
@@ -53,14 +54,14 @@ fn change_cycles(entry: &Entry, last: u64) -> [u64; 9]
     let address = at.address.unwrap_or(at.issue);
     [
         at.issue.min(last),
-        after(at.issue, last),
+        next_cycle(at.issue, last),
         address.min(last),
-        after(address, last),
+        next_cycle(address, last),
         at.start.min(last),
-        after(at.finish, last),
+        next_cycle(at.finish, last),
         at.end.min(last),
-        ready(at, entry.j).min(last),
-        ready(at, entry.k).min(last),
+        ready_cycle(at, entry.j).min(last),
+        ready_cycle(at, entry.k).min(last),
     ]
 }
 

@@ -7,7 +7,7 @@ ghost use Rattle.tomex_rvexec.specs.Trace.{steps_from};
 ghost use Rattle.tomex_timing.specs.Search.{total_of};
 ghost use Rattle.tomex_run_views.specs.Excerpt.{HasNoExcerpt};
 ghost use Rattle.tomex_konata.specs.Konata.{IsLogOf, head_of, log_of, next_since, with_cycle};
-ghost use Rattle.tomex_konata.specs.Kept.{event_lines, gone_after, written};
+ghost use Rattle.tomex_konata.specs.Kept.{event_lines, gone_after, events_text};
 
 use crate::entries::{Entry, entries_of};
 use crate::events::{Event, Kind, ordered_events};
@@ -87,7 +87,7 @@ fn push_events<A: Allocator>(
     requires few { All (λ entry. number + entry.id < 2 ^ 64) entries.now }
     requires many { length events.now < 2 ^ 63 }
     ensures { OnOk result (string_bytes text.new
-        ≡ string_bytes text.old ++ written number entries.now first 0 events.now) }
+        ≡ string_bytes text.old ++ events_text number entries.now first 0 events.now) }
 {
     let mut lines = String::new(heap);
     let mut since = first;
@@ -114,7 +114,7 @@ fn text_of<A: Allocator>(
     requires few { All (λ entry. number + entry.id < 2 ^ 64) entries.now }
     requires many { length events.now < 2 ^ 63 }
     ensures { IfOk result (λ text. text.items
-        ≡ head_of first ++ written number entries.now first 0 events.now) }
+        ≡ head_of first ++ events_text number entries.now first 0 events.now) }
 {
     let mut text = String::new(alloc);
     write!(&mut text, "Kanata\t0004\nC=\t{first}\n")?;

@@ -15,7 +15,7 @@ use Rattle.std.proofs.lemmas.List.Elements.{Contains-append_left, Contains-appen
 use Rattle.std.proofs.lemmas.List.Elements.{All-cons, All-append, All-weaker, All-push}
 use Rattle.std.proofs.lemmas.Bool.Decides.{nat_tests}
 use Rattle.tomex_lanes.specs.Rows.{rows_of}
-use Rattle.tomex_lanes.specs.Lanes.{Dealt, AreBelow, dealt, lane_of, with_other}
+use Rattle.tomex_lanes.specs.Lanes.{Dealt, AreBelow, deal, lane_of, with_other}
 
 pub rows_of-here : (workers worker n : ℕ) → n % workers ≡ worker
     → rows_of workers worker (n + 1) ≡ rows_of workers worker n ++ n ∷ []
@@ -61,35 +61,35 @@ rows_of-below workers worker (suc n) =
 
 -- a row of the list of a worker below n
 among : (workers count n worker row : ℕ) → worker < n → Contains (rows_of workers worker count) row
-    → Contains (flat_map (λ (l : Dealt). l.rows) (dealt workers count n)) row
+    → Contains (flat_map (λ (l : Dealt). l.rows) (deal workers count n)) row
 among workers count zero worker row low has = absurd (omega arith)
 among workers count (suc n) worker row low has =
     let lane : Dealt = lane_of workers n count (workers - 1) in
     let lists : Dealt → List ℕ = λ l. l.rows in
-    subst (λ l. Contains l row) (sym (flat_map-append lists (dealt workers count n) (lane ∷ [])))
+    subst (λ l. Contains l row) (sym (flat_map-append lists (deal workers count n) (lane ∷ [])))
     (dite (ℕ_discrete worker n)
     (λ (is : worker ≡ n).
     let here : Contains (rows_of workers n count) row = subst (λ k. Contains (rows_of workers k count) row) is has in
-    Contains-append_right (flat_map lists (dealt workers count n)) (flat_map lists (lane ∷ [])) row
+    Contains-append_right (flat_map lists (deal workers count n)) (flat_map lists (lane ∷ [])) row
     (Contains-append_left (rows_of workers n count) [] row here))
-    (λ not. Contains-append_left (flat_map lists (dealt workers count n)) (flat_map lists (lane ∷ [])) row
+    (λ not. Contains-append_left (flat_map lists (deal workers count n)) (flat_map lists (lane ∷ [])) row
     (among workers count n worker row (omega (arith, not)) has)))
 
 pub each_is_dealt : (workers count row : ℕ) → 1 ≤ workers → row < count
-    → Contains (flat_map (λ (l : Dealt). l.rows) (dealt workers count workers)) row
+    → Contains (flat_map (λ (l : Dealt). l.rows) (deal workers count workers)) row
 each_is_dealt workers count row some low = let rest : row % workers < workers = grind arith in
     among workers count workers (row % workers) row rest (covers workers count row low)
 
-pub length-dealt : (workers count n : ℕ) → length (dealt workers count n) ≡ n
-length-dealt workers count zero = refl
-length-dealt workers count (suc n) = length-append (dealt workers count n) _ ∙ (let e = length-dealt workers count n in
+pub length-deal : (workers count n : ℕ) → length (deal workers count n) ≡ n
+length-deal workers count zero = refl
+length-deal workers count (suc n) = length-append (deal workers count n) _ ∙ (let e = length-deal workers count n in
     omega arith)
 
-pub dealt-counts : (workers count n : ℕ) → All (λ (l : Dealt). l.count ≡ count) (dealt workers count n)
-dealt-counts workers count zero = All-nil (λ (l : Dealt). l.count ≡ count)
-dealt-counts workers count (suc n) =
-    All-push (λ (l : Dealt). l.count ≡ count) (dealt workers count n) (lane_of workers n count (workers - 1))
-    (dealt-counts workers count n) refl
+pub deal-counts : (workers count n : ℕ) → All (λ (l : Dealt). l.count ≡ count) (deal workers count n)
+deal-counts workers count zero = All-nil (λ (l : Dealt). l.count ≡ count)
+deal-counts workers count (suc n) =
+    All-push (λ (l : Dealt). l.count ≡ count) (deal workers count n) (lane_of workers n count (workers - 1))
+    (deal-counts workers count n) refl
 
 -- Lanes that are connected one after another: each knows the lists of a number of others.
 
@@ -116,7 +116,7 @@ lanes-same workers count f g (suc n) each =
     ap (λ ls. ls ++ lane_of workers n count (f n) ∷ []) (lanes-same workers count f g n (λ i l. each i (omega arith)))
     ∙ ap (λ k. lanes_with workers count g n ++ lane_of workers n count k ∷ []) (each n (omega arith))
 
-pub lanes-all : (workers count n : ℕ) → lanes_with workers count (λ i. workers - 1) n ≡ dealt workers count n
+pub lanes-all : (workers count n : ℕ) → lanes_with workers count (λ i. workers - 1) n ≡ deal workers count n
 lanes-all workers count zero = refl
 lanes-all workers count (suc n) =
     ap (λ ls. ls ++ lane_of workers n count (workers - 1) ∷ []) (lanes-all workers count n)
@@ -228,7 +228,7 @@ next_connected workers count to =
     ]
 
 pub all_connected : (workers count : ℕ) → lanes_with workers count (connected workers workers 0) workers
-    ≡ dealt workers count workers
+    ≡ deal workers count workers
 all_connected workers count =
     lanes-same workers count (connected workers workers 0) (λ i. workers - 1) workers
     (λ i l. rw (ne_eqb i workers (λ z. absurd (omega arith)), lt-ltb i workers l) refl)

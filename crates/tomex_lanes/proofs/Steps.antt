@@ -10,7 +10,7 @@ use Rattle.std.proofs.lemmas.List.Elements.{All-weaker}
 use Rattle.crossbeam_deque.specs.Tasks.{Pushes, Takes, Forks}
 use Rattle.crossbeam_deque.proofs.Lists.{at_set, at_snoc, set_again}
 use Rattle.tomex_lanes.specs.declared.known.Known.{Known}
-use Rattle.tomex_lanes.specs.Rule.{known, KnowsList, HoldsNeighbours}
+use Rattle.tomex_lanes.specs.Rule.{known_list, KnowsList, HoldsNeighbours}
 
 alone : (v w u : Known) (port j : ℕ) → get_elem? (v ∷ []) port ≡ some v → get_elem? (set (v ∷ []) port w) j ≡ some u
     → (w ≡ u) × (set (v ∷ []) port w ≡ u ∷ [])
@@ -18,19 +18,19 @@ alone v w u zero zero at e = let is = some-injective w u e in (is, ap (λ x. x �
 alone v w u zero (suc j) at e = absurd (some-ne-none u (sym e))
 alone v w u (suc port) j at e = absurd (some-ne-none v (sym at))
 
-pub begins : HoldsNeighbours [] (known true [] ∷ [])
+pub begins : HoldsNeighbours [] (known_list true [] ∷ [])
 begins = ([], [], [], refl, first)
   where
-    first : (port : ℕ) (v : Known) → get_elem? (known true [] ∷ []) port ≡ some v
-        → KnowsList [] [] (known true [] ∷ []) v
-    first zero v e = let is = some-injective (known true []) v e in
+    first : (port : ℕ) (v : Known) → get_elem? (known_list true [] ∷ []) port ≡ some v
+        → KnowsList [] [] (known_list true [] ∷ []) v
+    first zero v e = let is = some-injective (known_list true []) v e in
         (sym (ap (λ (k : Known). k.rows) is), λ _. (refl, ap (λ (k : Known). k ∷ []) is))
     first (suc port) v e = absurd (some-ne-none v (sym e))
 
 pub adds : (port : ℕ) (v : Known) (xs : List ℕ) → v.filling ≡ true
-    → Pushes HoldsNeighbours port v xs (λ w. w ≡ known v.filling (v.rows ++ xs))
+    → Pushes HoldsNeighbours port v xs (λ w. w ≡ known_list v.filling (v.rows ++ xs))
 adds port v xs may items views h at =
-    let w : Known = known v.filling (v.rows ++ xs) in
+    let w : Known = known_list v.filling (v.rows ++ xs) in
     let mine = h.4 port v at in
     let end = mine.1 may in
     let rows : h.0 ≡ h.1 ++ items = h.3 ∙ ap (λ l. h.1 ++ items ++ l) end.0 ∙ append-nil (h.1 ++ items) in
@@ -73,14 +73,14 @@ same_place v u zero (suc j) at e = absurd (some-ne-none u (sym e))
 same_place v u (suc port) j at e = absurd (some-ne-none v (sym at))
 
 -- a pass that may not add knows the list
-shut : (rows after : List ℕ) (views : List Known) (v u : Known) → v.rows ≡ rows → known false v.rows ≡ u
+shut : (rows after : List ℕ) (views : List Known) (v u : Known) → v.rows ≡ rows → known_list false v.rows ≡ u
     → KnowsList rows after views u
 shut rows after views v u mine is =
     (sym (ap (λ (k : Known). k.rows) is) ∙ mine, λ p. absurd (true≢false (sym (ap (λ (k : Known). k.filling) is ∙ p))))
 
-pub forks : (port : ℕ) (v : Known) → Forks HoldsNeighbours port v (known false v.rows) (known false v.rows)
+pub forks : (port : ℕ) (v : Known) → Forks HoldsNeighbours port v (known_list false v.rows) (known_list false v.rows)
 forks port v items views h at =
-    let w : Known = known false v.rows in
+    let w : Known = known_list false v.rows in
     let mine = h.4 port v at in
     let now : List Known = set views port w ++ w ∷ [] in
     let other : (j : ℕ) (u : Known) → j ≢ port → get_elem? views j ≡ some u → KnowsList h.0 h.2 now u =

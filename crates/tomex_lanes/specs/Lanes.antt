@@ -40,12 +40,12 @@ abbrev pub with_other : Dealt → List ℕ → Dealt
 with_other l rows = record l { others = l.others ++ rows ∷ [] }
 
 -- the first n of all workers' lanes, each with the lists of all others
-abbrev pub dealt : ℕ → ℕ → ℕ → List Dealt
-dealt workers count zero = []
-dealt workers count (suc n) = dealt workers count n ++ lane_of workers n count (workers - 1) ∷ []
+abbrev pub deal : ℕ → ℕ → ℕ → List Dealt
+deal workers count zero = []
+deal workers count (suc n) = deal workers count n ++ lane_of workers n count (workers - 1) ∷ []
 
 -- each row is on the list of a worker
 abbrev pub EachRowIsDealt : Type 0
 EachRowIsDealt =
     (workers count row : ℕ) → 1 ≤ workers → row < count
-    → Contains (flat_map (λ l. l.rows) (dealt workers count workers)) row
+    → Contains (flat_map (λ l. l.rows) (deal workers count workers)) row

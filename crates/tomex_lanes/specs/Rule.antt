@@ -5,8 +5,8 @@ use lib.ListN.{get_elem?}
 use Rattle.crossbeam_deque.specs.Handles.{Pass, view}
 use Rattle.tomex_lanes.specs.declared.known.Known.{Known}
 
-abbrev pub known : Bool → List ℕ → Known
-known filling rows = record { filling = filling; rows = rows }
+abbrev pub known_list : Bool → List ℕ → Known
+known_list filling rows = record { filling = filling; rows = rows }
 
 -- A pass knows the list. A pass that may add to it is the only one, and the deque holds the end of the list.
 abbrev pub KnowsList : List ℕ → List ℕ → List Known → Known → Type 0

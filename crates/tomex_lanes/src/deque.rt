@@ -3,7 +3,7 @@
 ghost use Rattle.std.specs.Prelude.{◌≡◌, ◌<◌, IfOk, IfSome, Contains};
 ghost use Rattle.tomex_lanes.specs.Rows.{rows_of};
 
-use crate::owner::{Owner, RowPass, Thief, filled, share, steal, take};
+use crate::owner::{Owner, RowPass, Thief, owner_with_rows, share, steal, take};
 use std::alloc::{AllocError, Allocator};
 use std::marker::Model;
 
@@ -45,7 +45,7 @@ impl<A: Allocator> Model for Victim<A> {
 
 impl<A: Allocator> RowDeque<A> {
     /// The deque of a worker, with all its rows, rising.
-    pub fn filled(
+    pub fn with_rows(
         alloc: A,
         worker: usize,
         workers: usize,
@@ -56,7 +56,7 @@ impl<A: Allocator> RowDeque<A> {
         requires { 0 < workers }
         ensures { IfOk result (λ d. d ≡ rows_of workers worker count) }
     {
-        let owner = filled(alloc, worker, workers, count)?;
+        let owner = owner_with_rows(alloc, worker, workers, count)?;
         Ok(RowDeque { owner })
     }
 

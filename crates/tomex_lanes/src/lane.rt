@@ -66,7 +66,7 @@ impl<A: Allocator> Lane<A> {
         requires { 0 < workers }
         ensures { IfOk result (λ l. l ≡ lane_of workers worker count 0) }
     {
-        let own = RowDeque::filled(alloc.clone()?, worker, workers, count)?;
+        let own = RowDeque::with_rows(alloc.clone()?, worker, workers, count)?;
         let others = Vec::new(alloc.clone()?);
         let rows = rows_of(alloc, worker, workers, count)?;
         Ok(Lane {

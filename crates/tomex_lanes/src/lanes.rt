@@ -1,7 +1,7 @@
 //! Dealing rows to workers.
 
 ghost use Rattle.std.specs.Prelude.{◌≡◌, ◌<◌, ◌≤◌, length, slice_get, slice_set, IfOk, OnOk, Some, All};
-ghost use Rattle.tomex_lanes.specs.Lanes.{Dealt, dealt, with_other};
+ghost use Rattle.tomex_lanes.specs.Lanes.{Dealt, deal, with_other};
 
 use crate::lane::Lane;
 use std::alloc::{AllocError, Allocator};
@@ -34,7 +34,7 @@ pub fn deal<A: Allocator + Clone + Drop>(
 ) -> Result<Vec<Lane<A>, A>, AllocError>
     requires some { 1 ≤ workers }
     requires few { workers ≤ 32 }
-    ensures { IfOk result (λ v. v.items ≡ dealt workers count workers) }
+    ensures { IfOk result (λ v. v.items ≡ deal workers count workers) }
 {
     let mut lanes = Vec::new(alloc.clone()?);
     for worker in 0..workers {

@@ -19,4 +19,4 @@ pub use deque::{RowDeque, Victim};
 pub use lane::Lane;
 pub use lanes::deal;
 pub use part::{Part, settle};
-pub use worker::{Worker, seated};
+pub use worker::{Worker, seat_workers};

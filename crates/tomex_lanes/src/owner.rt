@@ -4,7 +4,7 @@ ghost use Rattle.std.specs.Prelude.{◌≡◌, true, false, [], ◌∷◌, ◌++
 ghost use Rattle.crossbeam_deque.specs.Handles.{view, IsPassOf, worker_deque, worker_flavor};
 ghost use Rattle.crossbeam_deque.specs.Handles.{stealer_deque, worker_view};
 ghost use Rattle.tomex_lanes.specs.Rows.{rows_of};
-ghost use Rattle.tomex_lanes.specs.Rule.{known};
+ghost use Rattle.tomex_lanes.specs.Rule.{known_list};
 
 use crate::known::Known;
 use crate::rule::{Added, OfList, Shared, Taken};
@@ -26,7 +26,7 @@ fn add<A: Allocator>(owner: &mut Owner<A>, row: usize) -> Result<(), AllocError>
     ensures same { (worker_deque owner.new ≡ worker_deque owner.old)
         × (worker_flavor owner.new ≡ worker_flavor owner.old) }
     ensures added { IfOk result
-        (λ _. worker_view owner.new ≡ known true ((worker_view owner.old).rows ++ row ∷ [])) }
+        (λ _. worker_view owner.new ≡ known_list true ((worker_view owner.old).rows ++ row ∷ [])) }
 {
     match owner.push_as::<Added>(row) {
         Ok(()) => Ok(()),
@@ -39,8 +39,8 @@ pub(crate) fn share<A: Allocator>(owner: &mut Owner<A>) -> RowPass<A>
     ensures same { (worker_deque owner.new ≡ worker_deque owner.old)
         × (worker_flavor owner.new ≡ worker_flavor owner.old) }
     ensures pass { IsPassOf (worker_deque owner.old) result }
-    ensures known { (worker_view owner.new ≡ known false (worker_view owner.old).rows)
-        × (view result ≡ known false (worker_view owner.old).rows) }
+    ensures known { (worker_view owner.new ≡ known_list false (worker_view owner.old).rows)
+        × (view result ≡ known_list false (worker_view owner.old).rows) }
 {
     owner.another::<Shared>()
 }
@@ -73,7 +73,7 @@ pub(crate) fn steal<A: Allocator>(thief: &Thief<A>, pass: &mut RowPass<A>) -> Op
 }
 
 /// A deque of the worker's rows. Its memory is reserved first, so adding rows needs no more.
-pub(crate) fn filled<A: Allocator + Clone + Drop>(
+pub(crate) fn owner_with_rows<A: Allocator + Clone + Drop>(
     alloc: A,
     worker: usize,
     workers: usize,
@@ -81,7 +81,7 @@ pub(crate) fn filled<A: Allocator + Clone + Drop>(
 ) -> Result<Owner<A>, AllocError>
     requires { 0 < workers }
     ensures { IfOk result
-        (λ o. (worker_flavor o ≡ 0) × (worker_view o ≡ known true (rows_of workers worker count))) }
+        (λ o. (worker_flavor o ≡ 0) × (worker_view o ≡ known_list true (rows_of workers worker count))) }
 {
     let mut owner = Owner::fifo_as(alloc, count.div_ceil(workers))?;
     for row in 0..count {

@@ -8,13 +8,13 @@ pub struct OfList;
 
 impl Protocol<usize, Known> for OfList {
     ghost use Rattle.std.specs.Prelude.{true, false, []};
-    ghost use Rattle.tomex_lanes.specs.Rule.{known, HoldsNeighbours};
+    ghost use Rattle.tomex_lanes.specs.Rule.{known_list, HoldsNeighbours};
 
     ghost holds = { HoldsNeighbours };
 
-    ghost first = { known true [] };
+    ghost first = { known_list true [] };
 
-    ghost guest = { known false [] };
+    ghost guest = { known_list false [] };
 }
 
 /// Rows are added at the end of the list.
@@ -22,9 +22,9 @@ pub struct Added;
 
 impl Outcome<usize, Known> for Added {
     ghost use Rattle.std.specs.Prelude.{◌≡◌, ◌++◌};
-    ghost use Rattle.tomex_lanes.specs.Rule.{known};
+    ghost use Rattle.tomex_lanes.specs.Rule.{known_list};
 
-    ghost then = { λ v xs w. w ≡ known v.filling (v.rows ++ xs) };
+    ghost then = { λ v xs w. w ≡ known_list v.filling (v.rows ++ xs) };
 }
 
 /// Rows of the list are taken out, and the list stays.
@@ -41,9 +41,9 @@ pub struct Shared;
 
 impl Split<Known> for Shared {
     ghost use Rattle.std.specs.Prelude.{false};
-    ghost use Rattle.tomex_lanes.specs.Rule.{known};
+    ghost use Rattle.tomex_lanes.specs.Rule.{known_list};
 
-    ghost left = { λ v. known false v.rows };
+    ghost left = { λ v. known_list false v.rows };
 
-    ghost right = { λ v. known false v.rows };
+    ghost right = { λ v. known_list false v.rows };
 }

@@ -27,7 +27,7 @@ impl<J: Plan, A: Allocator> Model for Worker<J, A> {
 
 /// A worker for each lane, with seats that are split from a board's first one. Together they have all
 /// of its numbers.
-pub fn seated<J: Plan, A: Allocator>(
+pub fn seat_workers<J: Plan, A: Allocator>(
     alloc: A,
     board: &Board<J, A>,
     seat: Seat<J>,

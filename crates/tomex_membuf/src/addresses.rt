@@ -25,7 +25,7 @@ pub fn address_next(pools: &Pools) -> Option<usize>
     ensures busy { AreBusy pools.now.slots pools.now.busy pools.now.issue_numbers }
     ensures there { IfSome result (λ x. IsSome (slot pools.now.slots x)) }
 {
-    let lacking = pools.lacking();
+    let lacking = pools.places_without_address();
     if lacking == 0 {
         return None;
     }

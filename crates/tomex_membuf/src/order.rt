@@ -86,7 +86,7 @@ fn rivals(pools: &Pools, place: usize) -> u128
     ensures { (s : Station) (cycle : ℕ) → slot pools.now.slots place ≡ Some s
         → HasEachBlocker pools.now place s cycle result }
 {
-    let addressed = pools.addressed();
+    let addressed = pools.places_with_address();
     // No store is in a place below the store buffers.
     pools.keeps_places();
     if place >= FIRST_STORE {
@@ -145,5 +145,5 @@ pub fn may_access(pools: &Pools, place: usize, cycle: u64) -> bool
 pub fn is_alone(pools: &Pools) -> bool
     ensures { Decides result (HasAtMostOneAccess pools.now.slots) }
 {
-    is_single(pools.addressed())
+    is_single(pools.places_with_address())
 }

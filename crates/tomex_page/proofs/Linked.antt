@@ -4,14 +4,15 @@ use Rattle.std.proofs.Common.{append_assoc, true, List, [], ◌∷◌, ◌++◌,
 use Rattle.std.specs.Prelude.{◌≢◌, ◌==◌, All, nat_le, option_map, slice_get, slice_index_or}
 use Rattle.std.specs.List.{Contains, list_any, range_with_len}
 use Rattle.std.proofs.lemmas.Bool.{cases_Bool, eqb-true, leb-false, or_cases}
+use Rattle.std.proofs.lemmas.Bool.Decides.{nat_tests}
 use Rattle.std.proofs.lemmas.List.Elements.{All-cons, All-nil, Contains-append_right, Contains-get_or}
 use Rattle.std.proofs.lemmas.List.FromFn.{get_or-map-range_with_len, length-map-range_with_len}
 use Rattle.tomex_pareto.specs.Front.{front_of}
-use Rattle.tomex_pareto.specs.Pareto.{ComesBefore, IsFront}
+use Rattle.tomex_pareto.specs.Pareto.{ComesBefore}
 use Rattle.tomex_pareto.specs.declared.front_row.FrontRow.{FrontRow}
 use Rattle.tomex_pareto.proofs.Finished.{rows_apart}
-use Rattle.tomex_pareto.proofs.Pareto.{AreApart as AreNumbered, Has, all_has, contains_has, distinct, never_before}
-use Rattle.tomex_pareto.proofs.Relations.{front_is_front}
+use Rattle.tomex_pareto.proofs.Pareto.{AreApart as AreNumbered, Has, IsSortedFront, all_has, front_is, has_at}
+use Rattle.tomex_pareto.proofs.Pareto.{rises_pairs}
 use Rattle.tomex_row_runs.specs.Cycles.{cycles_of}
 use Rattle.tomex_row_runs.specs.StudyFront.{all_rows, front_of_study}
 use Rattle.tomex_study.specs.Study.{DesignSpace}
@@ -101,16 +102,19 @@ same_row (q ∷ rows) a b far (inr x) (inl y) same =
     absurd (all_has (λ r. q.row ≢ r.row) rows a far.0 x (ap (λ (r : FrontRow). r.row) y ∙ sym same))
 same_row (q ∷ rows) a b far (inr x) (inr y) same = same_row rows a b far.1 x y same
 
+never_before : (a : FrontRow) → ComesBefore a a → ⊥
+never_before a h = grind (arith, nat_tests)
+
 -- so the rows of its front are apart
-front_apart : (rows front : List FrontRow) → AreNumbered rows → IsFront rows front → AreApart front
+front_apart : (rows front : List FrontRow) → AreNumbered rows → IsSortedFront rows front → AreApart front
 front_apart rows front far is j k l m same =
     let a : FrontRow = slice_index_or front j no_row in
     let b : FrontRow = slice_index_or front k no_row in
-    let one = (is.only a (Contains-get_or front j no_row (omega arith))).one in
-    let other = (is.only b (Contains-get_or front k no_row m)).one in
-    let equal : a ≡ b = same_row rows a b far (contains_has rows one.0 a one.1 one.2)
-    (contains_has rows other.0 b other.1 other.2) same in
-    never_before b (subst (λ (z : FrontRow). ComesBefore z b) equal (is.order j k no_row l m))
+    let one = (is.only a (has_at front j no_row (omega arith))).0 in
+    let other = (is.only b (has_at front k no_row m)).0 in
+    let equal : a ≡ b = same_row rows a b far one other same in
+    let before = rises_pairs ComesBefore front is.rises j k no_row l m in
+    never_before b (subst (λ (z : FrontRow). ComesBefore z b) equal before)
 
 -- and those that are shown of it, whose places rise
 quotients_rise : (a b : ℕ) → a + 63 ≤ b → a / 63 < b / 63
@@ -148,4 +152,4 @@ unfolding front_of_study
 views_are_apart s =
     let far = rows_apart 0 s.costs (cycles_of s) in
     shown_apart (front_of (all_rows s))
-    (front_apart (all_rows s) (front_of (all_rows s)) far (front_is_front (all_rows s) (distinct (all_rows s) far)))
+    (front_apart (all_rows s) (front_of (all_rows s)) far (front_is (all_rows s) far))

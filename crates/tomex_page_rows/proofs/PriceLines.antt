@@ -5,7 +5,7 @@ use Rattle.std.proofs.lemmas.List.{get_or-map, length-map}
 use Rattle.std.proofs.lemmas.List.Elements.{All-cons, All-nil}
 use Rattle.tomex_pareto.specs.declared.front_row.FrontRow.{FrontRow}
 use Rattle.tomex_study.specs.Study.{DesignSpace}
-use Rattle.tomex_prices.specs.Price.{stated}
+use Rattle.tomex_prices.specs.Price.{amount}
 use Rattle.tomex_prices.specs.Studies.{interval_of}
 use Rattle.tomex_prices.specs.declared.price.Price.{Price}
 use Rattle.tomex_page_tables.specs.Shown.{no_row}
@@ -19,7 +19,7 @@ unfolding range_row_at price_row
 lines_at s shown place within [] = refl
 lines_at s shown place within (p ∷ ps) =
     ap₂ (λ (a b : List ℕ). a ++ b)
-    (ap (range_row p (stated p s.prices)) (get_or-map (interval_of s p) shown place no_row no_range within))
+    (ap (range_row p (amount p s.prices)) (get_or-map (interval_of s p) shown place no_row no_range within))
     (lines_at s shown place within ps)
 
 -- each price has a range for each row

@@ -7,7 +7,7 @@ use Rattle.tomex_pareto.specs.declared.front_row.FrontRow.{FrontRow}
 use Rattle.tomex_study.specs.Study.{DesignSpace}
 use Rattle.tomex_front_views.specs.LinkedPlot.{is_shown, link_to}
 use Rattle.tomex_worth.specs.Changes.{changes_of, config_at}
-use Rattle.tomex_worth.specs.Differences.{percent, signed}
+use Rattle.tomex_worth.specs.Differences.{percent, signed_difference}
 use Rattle.tomex_worth.specs.Worth.{entry_text, name_of_list, rate_text}
 use Rattle.tomex_worth.specs.declared.changes.Change.{Change}
 use Rattle.tomex_html.specs.Tables.{table_head, table_row}
@@ -24,7 +24,7 @@ to_cells s shown c = td (entry_text (config_at s c.row.row) c.part) ++ td (row_t
 -- the gain from a change
 unfoldable pub gain_cells : FrontRow → FrontRow → List ℕ
 gain_cells own other =
-    td (signed own.cost other.cost) ++ (td (signed own.cycles other.cycles)
+    td (signed_difference own.cost other.cost) ++ (td (signed_difference own.cycles other.cycles)
     ++ (td (percent own.cycles other.cycles) ++ td (rate_text own other)))
 
 unfoldable pub change_row : DesignSpace → List FrontRow → FrontRow → Change → List ℕ

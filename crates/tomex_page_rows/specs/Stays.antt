@@ -8,7 +8,7 @@ use Rattle.tomex_pareto.specs.declared.front_row.FrontRow.{FrontRow}
 use Rattle.tomex_study.specs.Study.{DesignSpace}
 use Rattle.tomex_prices.specs.Interval.{range_text}
 use Rattle.tomex_prices.specs.Percent.{percent_of}
-use Rattle.tomex_prices.specs.Price.{name_of_price, stated}
+use Rattle.tomex_prices.specs.Price.{name_of_price, amount}
 use Rattle.tomex_prices.specs.Prices.{prices_of, relevant_prices_of}
 use Rattle.tomex_prices.specs.Studies.{interval_of}
 use Rattle.tomex_prices.specs.declared.intervals.PriceRange.{PriceRange}
@@ -21,7 +21,7 @@ unfoldable pub range_row : Price → ℕ → PriceRange → List ℕ
 range_row price now range = table_row (name_of_price price) (number_cell now ++ td (range_text range))
 
 unfoldable pub price_row : DesignSpace → FrontRow → Price → List ℕ
-price_row s r price = range_row price (stated price s.prices) (interval_of s price r)
+price_row s r price = range_row price (amount price s.prices) (interval_of s price r)
 
 unfoldable pub up_to : ℕ → List ℕ
 up_to percent = codes "<p>It stays if every price is off by up to " ++ (decimal percent ++ codes "%.</p></div>\n")
@@ -54,7 +54,7 @@ pub record PriceRanges : Type 0 where
 
 abbrev pub ranges_of : DesignSpace → List FrontRow → Price → PriceRanges
 ranges_of s shown price =
-    record { price = price; stated = stated price s.prices; ranges = map (interval_of s price) shown }
+    record { price = price; stated = amount price s.prices; ranges = map (interval_of s price) shown }
 
 abbrev pub no_range : PriceRange
 no_range = record { least = 0; most = 0 }

@@ -75,7 +75,7 @@ fn ranges_of<A: Allocator>(
     }
     Ok(Ranges {
         price,
-        stated: price.stated(&study.prices()),
+        stated: price.amount(&study.prices()),
         ranges,
     })
 }

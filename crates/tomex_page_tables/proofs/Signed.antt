@@ -4,10 +4,10 @@ use Rattle.std.specs.Fmt.{decimal}
 use Rattle.std.proofs.lemmas.Bool.{cases_order, eq-eqb, le-ltb, lt-ltb, ne_eqb}
 use Rattle.std.proofs.lemmas.Fmt.{decimal_injective}
 use Rattle.tomex_page_tables.specs.Laws.{Adds, DifferencesAddUp, DifferencesSayOneThing}
-use Rattle.tomex_worth.specs.Differences.{distance, signed}
+use Rattle.tomex_worth.specs.Differences.{distance, signed_difference}
 
-signed_adds : (a b : ℕ) → Adds a (signed a b) b
-unfolding signed
+signed_adds : (a b : ℕ) → Adds a (signed_difference a b) b
+unfolding signed_difference
 signed_adds a b = elim (cases_order a b) [
   | inl e ↦ rw (eq-eqb a b e) (inl (refl, sym e))
   | inr (inl l) ↦ rw (ne_eqb a b (λ (e : a ≡ b). absurd (omega arith)), lt-ltb a b l)

@@ -11,7 +11,7 @@ use Rattle.tomex_study.specs.Study.{DesignSpace}
 use Rattle.tomex_front_views.specs.FrontTable.{all_settings, differs, name_of_setting, setting_of}
 use Rattle.tomex_front_views.specs.LinkedPlot.{link_to}
 use Rattle.tomex_front_views.specs.declared.table.heading.Setting.{Setting}
-use Rattle.tomex_worth.specs.Differences.{percent, signed}
+use Rattle.tomex_worth.specs.Differences.{percent, signed_difference}
 use Rattle.tomex_html.specs.Tables.{column_head, head_end, number_cell, table_row, table_start}
 use Rattle.tomex_page_tables.specs.Shown.{row_of}
 use Rattle.tomex_page_tables.specs.declared.shown.ShownRow.{ShownRow}
@@ -27,11 +27,11 @@ own_programs s = if nat_lt 1 (length s.programs) then s.programs else []
 -- the cost that a row has more than the one before; the first has none before it
 abbrev pub more_cost : Option ShownRow → ShownRow → List ℕ
 more_cost None r = []
-more_cost (Some before) r = signed before.row.cost r.row.cost
+more_cost (Some before) r = signed_difference before.row.cost r.row.cost
 
 abbrev pub more_cycles : Option ShownRow → ShownRow → List ℕ
 more_cycles None r = []
-more_cycles (Some before) r = signed before.row.cycles r.row.cycles
+more_cycles (Some before) r = signed_difference before.row.cycles r.row.cycles
 
 -- the same in percent of the cycles of the row before
 abbrev pub more_percent : Option ShownRow → ShownRow → List ℕ

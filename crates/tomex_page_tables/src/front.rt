@@ -10,7 +10,7 @@ ghost use Rattle.tomex_page_tables.specs.Front.{more_percent, own_cells, setting
 ghost use Rattle.tomex_html.specs.Tables.{row_start};
 ghost use Rattle.tomex_page_tables.specs.Shown.{row_of};
 ghost use Rattle.tomex_survey.specs.Totals.{totals_of};
-ghost use Rattle.tomex_worth.specs.Differences.{percent, signed};
+ghost use Rattle.tomex_worth.specs.Differences.{percent, signed_difference};
 
 use crate::settings::{own_totals, push_front_heads, push_setting_cells, settings_of};
 use crate::shown::{ShownRow, row_of};
@@ -31,7 +31,7 @@ pub fn push_signed_cell<A: Allocator>(
     a: u64,
     b: u64,
 ) -> Result<(), AllocError>
-    ensures { OnOk result (string_bytes text.new ≡ string_bytes text.old ++ td (signed a b)) }
+    ensures { OnOk result (string_bytes text.new ≡ string_bytes text.old ++ td (signed_difference a b)) }
 {
     text.push_str("<td>")?;
     push_signed(text, a, b)?;

@@ -19,24 +19,24 @@ use Rattle.tomex_prices.specs.declared.price.Price.{Price}
 use Rattle.tomex_prices.specs.declared.price.TheConstants.{GREATEST_PRICE}
 use Rattle.tomex_prices.specs.declared.priced_row.PricedRow.{PricedRow}
 use Rattle.tomex_prices.specs.Interval.{interval, is_within}
-use Rattle.tomex_prices.specs.Price.{stated}
+use Rattle.tomex_prices.specs.Price.{amount}
 use Rattle.tomex_prices.specs.Repriced.{costs_with, is_on, priced_from, with_price_apart}
-use Rattle.tomex_prices.specs.Studies.{IsOnStudyExactlyWithin, interval_of, repriced, row_with, rows_with}
+use Rattle.tomex_prices.specs.Studies.{IsOnStudyExactlyWithin, interval_of, space_with, row_with, rows_with}
 use Rattle.tomex_prices.proofs.AllRows.{as_many_costs, as_many_cycles, front_row_at}
 use Rattle.tomex_prices.proofs.OnFront.{has_number}
 use Rattle.tomex_prices.proofs.Repricing.{on_repriced_within}
 use Rattle.tomex_prices.proofs.SameCycles.{all_cycles_same}
 
 pub study_cycles : (s : DesignSpace) (price : Price) (q : ℕ) → q ≤ GREATEST_PRICE → IsStudy s
-    → cycles_of (repriced s price q) ≡ cycles_of s
+    → cycles_of (space_with s price q) ≡ cycles_of s
 unfolding cycles_of
 study_cycles s price q few is = all_cycles_same price q s.programs s.rows few is.limits
 
 -- a row with the price apart
 on_study : (s : DesignSpace) (price : Price) (q : ℕ) (r : PricedRow) → IsStudy s → q ≤ GREATEST_PRICE
     → Contains (rows_with s price) r → is_on (front_of_study s) r.row ≡ true
-    → is_on (front_of_study (repriced s price q)) r.row
-    ≡ is_within (interval (stated price s.prices) r (rows_with s price)) q
+    → is_on (front_of_study (space_with s price q)) r.row
+    ≡ is_within (interval (amount price s.prices) r (rows_with s price)) q
 unfolding front_of_study
 on_study s price q r is few one here =
     let before : is_on (front_of (rows_from 0 (costs_of s.prices s.rows) (cycles_of s))) r.row ≡ true =
@@ -103,7 +103,7 @@ on_study_within s price q r is few one =
 -- an interval that is made of these is that of the row
 pub interval_is : (s : DesignSpace) (price : Price) (r : FrontRow) (range : PriceRange) (now : ℕ) (prices : PriceList)
     (config : Configuration) (configs : List Configuration) (row : PricedRow) (rows : List PricedRow)
-    → r.row < length s.rows → range ≡ interval now row rows → now ≡ stated price prices → prices ≡ s.prices
+    → r.row < length s.rows → range ≡ interval now row rows → now ≡ amount price prices → prices ≡ s.prices
     → row ≡ with_price_apart price prices r.row config r.cycles → config ≡ get_or configs r.row config
     → configs ≡ s.rows → rows ≡ rows_with s price → range ≡ interval_of s price r
 interval_is s price r range now prices config configs row rows low range_is now_is list row_is config_is all rows_are =
@@ -115,6 +115,6 @@ interval_is s price r range now prices config configs row rows low range_is now_
     ∙ (ap (λ (p : PriceList). with_price_apart price p r.row config r.cycles) list
     ∙ ap (λ (c : Configuration). with_price_apart price s.prices r.row c r.cycles) found) in
     range_is
-    ∙ (ap (λ (n : ℕ). interval n row rows) (now_is ∙ ap (stated price) list)
-    ∙ (ap (λ (x : PricedRow). interval (stated price s.prices) x rows) apart
-    ∙ ap (λ (xs : List PricedRow). interval (stated price s.prices) (row_with s price r) xs) rows_are))
+    ∙ (ap (λ (n : ℕ). interval n row rows) (now_is ∙ ap (amount price) list)
+    ∙ (ap (λ (x : PricedRow). interval (amount price s.prices) x rows) apart
+    ∙ ap (λ (xs : List PricedRow). interval (amount price s.prices) (row_with s price r) xs) rows_are))

@@ -12,7 +12,7 @@ use Rattle.tomex_pareto.proofs.Finished.{rows_apart}
 use Rattle.tomex_study.specs.Study.{costs_of}
 use Rattle.tomex_prices.specs.declared.price.Price.{Price}
 use Rattle.tomex_prices.specs.Interval.{at_price}
-use Rattle.tomex_prices.specs.Price.{stated}
+use Rattle.tomex_prices.specs.Price.{amount}
 use Rattle.tomex_prices.specs.Repriced.{IsOnRepricedExactlyWithin, cost_with, costs_with, is_on, priced_from}
 use Rattle.tomex_prices.proofs.OnFront.{on_front_within}
 use Rattle.tomex_prices.proofs.Splitting.{costs_split, stated_costs_stay}
@@ -31,17 +31,17 @@ rows_at price prices q n (c ∷ cs) (y ∷ ys) list good =
     ∙ ap (λ (rows : List FrontRow). record { row = n; cost = cost_with price q prices c; cycles = y } ∷ rows) ih
 
 pub stated_costs : (price : Price) (prices : PriceList) (cs : List Configuration) → IsPriceList prices
-    → All IsWithinLimits cs → costs_with price (stated price prices) prices cs ≡ costs_of prices cs
+    → All IsWithinLimits cs → costs_with price (amount price prices) prices cs ≡ costs_of prices cs
 stated_costs price prices [] list good = refl
 stated_costs price prices (c ∷ cs) list good =
     let e = stated_costs_stay price prices c list (All-head IsWithinLimits c cs good) in
     let ih = stated_costs price prices cs list (All-tail IsWithinLimits c cs good) in
-    ap (λ (x : ℕ). x ∷ costs_with price (stated price prices) prices cs) e
+    ap (λ (x : ℕ). x ∷ costs_with price (amount price prices) prices cs) e
     ∙ ap (λ (xs : List ℕ). cost_of c prices ∷ xs) ih
 
 pub on_repriced_within : IsOnRepricedExactlyWithin
 on_repriced_within price prices configs cycles q r list good few one here =
-    let now = stated price prices in
+    let now = amount price prices in
     let rows = priced_from price prices 0 configs cycles in
     let at_now : map (at_price now) rows ≡ rows_from 0 (costs_of prices configs) cycles =
     rows_at price prices now 0 configs cycles list good

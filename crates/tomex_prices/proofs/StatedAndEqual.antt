@@ -15,20 +15,20 @@ use Rattle.tomex_prices.specs.declared.price.Price.{Price}
 use Rattle.tomex_prices.specs.declared.price.TheConstants.{GREATEST_PRICE}
 use Rattle.tomex_prices.specs.declared.priced_row.PricedRow.{PricedRow}
 use Rattle.tomex_prices.specs.Interval.{fall, least, most, rise}
-use Rattle.tomex_prices.specs.Price.{paid, stated}
+use Rattle.tomex_prices.specs.Price.{paid, amount}
 use Rattle.tomex_prices.specs.Prices.{is_relevant}
 use Rattle.tomex_prices.specs.PriceLaws.{HoldsAllIfIrrelevant, HoldsStated}
 use Rattle.tomex_prices.specs.Repriced.{costs_with, is_on, priced_from}
-use Rattle.tomex_prices.specs.Studies.{repriced, row_with, rows_with}
+use Rattle.tomex_prices.specs.Studies.{space_with, row_with, rows_with}
 use Rattle.tomex_prices.proofs.RepricedStudy.{is_there, on_study_within, study_cycles}
 use Rattle.tomex_prices.proofs.Repricing.{stated_costs}
 
 -- at the stated price the front is the study's own
-same_front : (s : DesignSpace) (price : Price) → IsStudy s → stated price s.prices ≤ GREATEST_PRICE
-    → front_of_study (repriced s price (stated price s.prices)) ≡ front_of_study s
+same_front : (s : DesignSpace) (price : Price) → IsStudy s → amount price s.prices ≤ GREATEST_PRICE
+    → front_of_study (space_with s price (amount price s.prices)) ≡ front_of_study s
 unfolding front_of_study
 same_front s price is few =
-    let now = stated price s.prices in
+    let now = amount price s.prices in
     ap (λ (ys : List ℕ). front_of (rows_from 0 (costs_with price now s.prices s.rows) ys))
     (study_cycles s price now few is)
     ∙ ap (λ (xs : List ℕ). front_of (rows_from 0 xs (cycles_of s)))
@@ -36,7 +36,7 @@ same_front s price is few =
 
 pub holds_stated : HoldsStated
 holds_stated s price r is few one =
-    sym (on_study_within s price (stated price s.prices) r is few one)
+    sym (on_study_within s price (amount price s.prices) r is few one)
     ∙ (ap (λ front. is_on front r.row) (same_front s price is few) ∙ is_there (front_of_study s) r one)
 
 -- all pay it t times
@@ -109,12 +109,12 @@ least_any now t r (j ∷ js) own each =
     m
 
 interval_any : (s : DesignSpace) (price : Price) (t : ℕ) (r : PricedRow) → r.times ≡ t → EachPays price t s.rows
-    → (least (stated price s.prices) r (rows_with s price) ≡ 0)
-    × (most (stated price s.prices) r (rows_with s price) ≡ GREATEST_PRICE)
+    → (least (amount price s.prices) r (rows_with s price) ≡ 0)
+    × (most (amount price s.prices) r (rows_with s price) ≡ GREATEST_PRICE)
 interval_any s price t r own each =
     let paid = is_paid price s.prices t 0 s.rows (cycles_of s) each in (
-      least_any (stated price s.prices) t r (rows_with s price) own paid,
-      most_any (stated price s.prices) t r (rows_with s price) own paid,
+      least_any (amount price s.prices) t r (rows_with s price) own paid,
+      most_any (amount price s.prices) t r (rows_with s price) own paid,
     )
 
 equally_often : (price : Price) (cs : List Configuration) → is_relevant cs price ≡ false → (t : ℕ) × EachPays price t cs

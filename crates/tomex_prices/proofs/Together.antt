@@ -17,7 +17,7 @@ use Rattle.tomex_row_runs.specs.StudyFront.{all_rows}
 use Rattle.tomex_prices.specs.declared.price.Price.{Price}
 use Rattle.tomex_prices.specs.declared.priced_row.PricedRow.{PricedRow}
 use Rattle.tomex_prices.specs.Interval.{cost_at, fall, least, most, rise, slack}
-use Rattle.tomex_prices.specs.Price.{paid, stated}
+use Rattle.tomex_prices.specs.Price.{paid, amount}
 use Rattle.tomex_prices.specs.Prices.{prices_of}
 use Rattle.tomex_prices.specs.Studies.{config_of, interval_of, row_with, rows_with}
 use Rattle.tomex_prices.specs.Together.{IsShareOfWay, IsStatedAtStated, StaysByShares, Values, cost_at_values}
@@ -139,14 +139,14 @@ way_down now r j rows there fast more =
 
 -- a row with a price apart has the same cost
 apart_cost : (s : DesignSpace) (price : Price) (r : FrontRow) → IsStudy s → Has (all_rows s) r
-    → cost_at (stated price s.prices) (row_with s price r) ≡ r.cost
+    → cost_at (amount price s.prices) (row_with s price r) ≡ r.cost
 apart_cost s price r is one =
     let at = row_at 0 s.costs (cycles_of s) r one in
     let costs = as_many_costs s is in
     let low : r.row < length s.rows = (let w = at.within in let n = at.number in omega arith) in
     let config = config_of s r in
     let within = is.limits r.row plain low in
-    sym (costs_split price (stated price s.prices) s.prices config is.prices within)
+    sym (costs_split price (amount price s.prices) s.prices config is.prices within)
     ∙ (stated_costs_stay price s.prices config is.prices within ∙ config_cost s r is one)
 
 -- all prices together
@@ -159,15 +159,15 @@ module _ (s : DesignSpace) (values : Values) (shares : Price → ℕ) (whole : �
   abbrev values_paid : FrontRow → Price → ℕ
   values_paid x price = values price * paid price (config_of s x)
 
-  slack_is : (price : Price) → slack (stated price s.prices) (row_with s price r) (row_with s price j) ≡ gap
+  slack_is : (price : Price) → slack (amount price s.prices) (row_with s price r) (row_with s price j) ≡ gap
   slack_is price = rw (apart_cost s price r is one, apart_cost s price j is there) refl
 
   one_counts : (price : Price)
-      → IsShareOfWay (interval_of s price r) (stated price s.prices) (values price) (shares price) whole
-      → Counts (stated price s.prices) (values price) (paid price (config_of s r)) (paid price (config_of s j)) whole
+      → IsShareOfWay (interval_of s price r) (amount price s.prices) (values price) (shares price) whole
+      → Counts (amount price s.prices) (values price) (paid price (config_of s r)) (paid price (config_of s j)) whole
       (shares price) gap
   one_counts price moves =
-      let n = stated price s.prices in
+      let n = amount price s.prices in
       let v = values price in
       let a = paid price (config_of s r) in
       let b = paid price (config_of s j) in
@@ -196,7 +196,7 @@ module _ (s : DesignSpace) (values : Values) (shares : Price → ℕ) (whole : �
       ]
 
   all_count : ((price : Price)
-      → IsShareOfWay (interval_of s price r) (stated price s.prices) (values price) (shares price) whole)
+      → IsShareOfWay (interval_of s price r) (amount price s.prices) (values price) (shares price) whole)
       → (all : List Price)
       → (sum_by (values_paid r) all + sum_by (share s.prices (config_of s j)) all) * whole
       ≤ (sum_by (values_paid j) all + sum_by (share s.prices (config_of s r)) all) * whole + sum_by shares all * gap
@@ -229,7 +229,7 @@ module _ (s : DesignSpace) (values : Values) (shares : Price → ℕ) (whole : �
 
   -- so a rival stays dearer
   stays_dearer : ((price : Price)
-      → IsShareOfWay (interval_of s price r) (stated price s.prices) (values price) (shares price) whole)
+      → IsShareOfWay (interval_of s price r) (amount price s.prices) (values price) (shares price) whole)
       → 0 < whole → sum_by shares (prices_of s) ≤ whole → r.cost + premium r j ≤ j.cost
       → sum_by (values_paid r) (prices_of s) + premium r j ≤ sum_by (values_paid j) (prices_of s)
   stays_dearer moves some few dear =

@@ -21,11 +21,11 @@ paid Bus config = config.buses
 paid Width config = config.width
 
 -- the stated price
-abbrev pub stated : Price → PriceList → ℕ
-stated (Station pool) prices = price_of prices pool
-stated (Choice unit o) prices = o.price
-stated Bus prices = prices.bus
-stated Width prices = prices.width
+abbrev pub amount : Price → PriceList → ℕ
+amount (Station pool) prices = price_of prices pool
+amount (Choice unit o) prices = o.price
+amount Bus prices = prices.bus
+amount Width prices = prices.width
 
 -- its name; for an option the kind of unit, the units, and the latency
 abbrev pub name_of_price : Price → List ℕ

@@ -12,7 +12,7 @@ use Rattle.tomex_prices.specs.declared.table.Heading.TheVariants.{Row, Cost, Cyc
 use Rattle.tomex_prices.specs.declared.table.TheConstants.{MOST_INTERVALS}
 use Rattle.tomex_prices.specs.Interval.{range_text}
 use Rattle.tomex_prices.specs.Percent.{percent_of, percent_text}
-use Rattle.tomex_prices.specs.Price.{name_of_price, stated}
+use Rattle.tomex_prices.specs.Price.{name_of_price, amount}
 use Rattle.tomex_prices.specs.Prices.{relevant_prices_of}
 use Rattle.tomex_prices.specs.Studies.{interval_of}
 
@@ -48,7 +48,7 @@ percent_column s front = column_of (codes "all") (codes "-") (λ r. percent_text
 
 unfoldable pub price_column : DesignSpace → List FrontRow → Price → TableColumn
 price_column s front price =
-    column_of (name_of_price price) (decimal (stated price s.prices)) (λ r. range_text (interval_of s price r)) front
+    column_of (name_of_price price) (decimal (amount price s.prices)) (λ r. range_text (interval_of s price r)) front
 
 abbrev pub columns_of : DesignSpace → List FrontRow → List TableColumn
 columns_of s front =

@@ -13,7 +13,7 @@ use Rattle.tomex_prices.specs.declared.price.Price.TheVariants.{Station, Choice,
 use Rattle.tomex_prices.specs.declared.price.TheConstants.{GREATEST_PRICE}
 use Rattle.tomex_prices.specs.declared.priced_row.PricedRow.{PricedRow}
 use Rattle.tomex_prices.specs.Interval.{interval, is_within}
-use Rattle.tomex_prices.specs.Price.{paid, same_option, stated}
+use Rattle.tomex_prices.specs.Price.{paid, same_option, amount}
 
 -- the list of prices, and a configuration, with this price replaced by q
 abbrev pub list_with : Price → ℕ → PriceList → PriceList
@@ -39,7 +39,7 @@ CostsSplit = (price : Price) (q : ℕ) (prices : PriceList) (config : Configurat
 -- replaced by its stated value, a price changes no cost
 abbrev pub StatedCostsStay : Type 0
 StatedCostsStay = (price : Price) (prices : PriceList) (config : Configuration) → IsPriceList prices
-    → IsWithinLimits config → cost_with price (stated price prices) prices config ≡ cost_of config prices
+    → IsWithinLimits config → cost_with price (amount price prices) prices config ≡ cost_of config prices
 
 -- the costs of configurations with the price replaced
 abbrev pub costs_with : Price → ℕ → PriceList → List Configuration → List ℕ
@@ -68,4 +68,4 @@ IsOnRepricedExactlyWithin = (price : Price) (prices : PriceList) (configs : List
     → Contains (priced_from price prices 0 configs cycles) r
     → is_on (front_of (rows_from 0 (costs_of prices configs) cycles)) r.row ≡ true
     → is_on (front_of (rows_from 0 (costs_with price q prices configs) cycles)) r.row
-    ≡ is_within (interval (stated price prices) r (priced_from price prices 0 configs cycles)) q
+    ≡ is_within (interval (amount price prices) r (priced_from price prices 0 configs cycles)) q

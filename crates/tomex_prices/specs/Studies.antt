@@ -11,12 +11,12 @@ use Rattle.tomex_prices.specs.declared.price.Price.{Price}
 use Rattle.tomex_prices.specs.declared.price.TheConstants.{GREATEST_PRICE}
 use Rattle.tomex_prices.specs.declared.priced_row.PricedRow.{PricedRow}
 use Rattle.tomex_prices.specs.Interval.{interval, is_within}
-use Rattle.tomex_prices.specs.Price.{stated}
+use Rattle.tomex_prices.specs.Price.{amount}
 use Rattle.tomex_prices.specs.Repriced.{config_with, costs_with, is_on, list_with, priced_from, with_price_apart}
 
 -- the same rows and programs, with that one price replaced by q, and so with other costs
-abbrev pub repriced : DesignSpace → Price → ℕ → DesignSpace
-repriced s price q = record s {
+abbrev pub space_with : DesignSpace → Price → ℕ → DesignSpace
+space_with s price q = record s {
   rows = map (config_with price q) s.rows;
   costs = costs_with price q s.prices s.rows;
   prices = list_with price q s.prices;
@@ -35,10 +35,10 @@ rows_with s price = priced_from price s.prices 0 s.rows (cycles_of s)
 
 -- the values of a price for which a row of the front is on the front, all other prices as stated
 abbrev pub interval_of : DesignSpace → Price → FrontRow → PriceRange
-interval_of s price r = interval (stated price s.prices) (row_with s price r) (rows_with s price)
+interval_of s price r = interval (amount price s.prices) (row_with s price r) (rows_with s price)
 
 -- it is on the front of the study with this price replaced by q exactly if q is within
 abbrev pub IsOnStudyExactlyWithin : Type 0
 IsOnStudyExactlyWithin = (s : DesignSpace) (price : Price) (q : ℕ) (r : FrontRow) → IsStudy s → q ≤ GREATEST_PRICE
     → Contains (front_of_study s) r
-    → is_on (front_of_study (repriced s price q)) r.row ≡ is_within (interval_of s price r) q
+    → is_on (front_of_study (space_with s price q)) r.row ≡ is_within (interval_of s price r) q

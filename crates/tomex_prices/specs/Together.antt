@@ -8,7 +8,7 @@ use Rattle.tomex_study.specs.Study.{DesignSpace, IsStudy}
 use Rattle.tomex_row_runs.specs.StudyFront.{all_rows, front_of_study}
 use Rattle.tomex_prices.specs.declared.intervals.PriceRange.{PriceRange}
 use Rattle.tomex_prices.specs.declared.price.Price.{Price}
-use Rattle.tomex_prices.specs.Price.{paid, stated}
+use Rattle.tomex_prices.specs.Price.{paid, amount}
 use Rattle.tomex_prices.specs.Prices.{prices_of}
 use Rattle.tomex_prices.specs.Repriced.{is_on}
 use Rattle.tomex_prices.specs.Studies.{config_of, interval_of}
@@ -41,10 +41,10 @@ abbrev pub StaysByShares : Type 0
 StaysByShares = (s : DesignSpace) (values : Values) (shares : Price → ℕ) (whole : ℕ) (r : FrontRow) → IsStudy s
     → Contains (front_of_study s) r → 0 < whole → sum_by shares (prices_of s) ≤ whole
     → ((price : Price)
-    → IsShareOfWay (interval_of s price r) (stated price s.prices) (values price) (shares price) whole)
+    → IsShareOfWay (interval_of s price r) (amount price s.prices) (values price) (shares price) whole)
     → is_on_with values s r ≡ true
 
 -- at the stated prices a row has its stated cost
 abbrev pub IsStatedAtStated : Type 0
 IsStatedAtStated = (s : DesignSpace) (r : FrontRow) → IsStudy s → Contains (all_rows s) r
-    → (row_at_values (λ price. stated price s.prices) s r).cost ≡ r.cost
+    → (row_at_values (λ price. amount price s.prices) s r).cost ≡ r.cost

@@ -7,7 +7,7 @@ ghost use Rattle.tomex_row_runs.specs.StudyFront.{front_of_study};
 ghost use Rattle.tomex_prices.specs.Interval.{IsSmall, at_price, cost_at, fall, interval, is_within};
 ghost use Rattle.tomex_prices.specs.Interval.{on_front, premium, rise, slack, stays};
 ghost use Rattle.tomex_prices.specs.Repriced.{is_on};
-ghost use Rattle.tomex_prices.specs.Studies.{interval_of, repriced, rows_with};
+ghost use Rattle.tomex_prices.specs.Studies.{interval_of, space_with, rows_with};
 
 use crate::price::{GREATEST_PRICE, Price};
 use crate::priced_row::{PricedRow, with_price_apart};
@@ -137,10 +137,10 @@ pub fn interval_of<A: Allocator>(
     requires front { Contains (front_of_study study.now) row }
     ensures ends { result ≡ interval_of study.now price row }
     ensures exact { (q : ℕ) → q ≤ GREATEST_PRICE
-        → is_on (front_of_study (repriced study.now price q)) row.row ≡ is_within result q }
+        → is_on (front_of_study (space_with study.now price q)) row.row ≡ is_within result q }
 {
     study.keeps_limits();
     let prices = study.prices();
     let apart = with_price_apart(price, &prices, row.row, &study.rows()[row.row], row.cycles);
-    interval(price.stated(&prices), apart, rows)
+    interval(price.amount(&prices), apart, rows)
 }

@@ -1,7 +1,7 @@
 //! A price of a study.
 
 ghost use Rattle.std.specs.Prelude.{◌≡◌, ◌≤◌, ◌<◌, ◌^◌, Some};
-ghost use Rattle.tomex_prices.specs.Price.{name_of_price, paid, same_option, stated};
+ghost use Rattle.tomex_prices.specs.Price.{name_of_price, paid, same_option, amount};
 
 use std::fmt;
 use tomex_config::{Config, Prices, UnitOption};
@@ -29,8 +29,8 @@ pub fn same_option(a: UnitOption, b: UnitOption) -> bool
 
 impl Price {
     /// The stated price.
-    pub fn stated(self, prices: &Prices) -> u64
-        ensures price { result ≡ stated self prices.now }
+    pub fn amount(self, prices: &Prices) -> u64
+        ensures price { result ≡ amount self prices.now }
         ensures few { result < 2 ^ 32 }
     {
         match self {

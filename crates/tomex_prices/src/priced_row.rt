@@ -38,7 +38,7 @@ pub(crate) fn with_price_apart(
     prices.keeps_limits();
     config.keeps_limits();
     let times = price.paid(config);
-    let rest = cost(config, prices) - price.stated(prices) * times;
+    let rest = cost(config, prices) - price.amount(prices) * times;
     PricedRow {
         row,
         rest,

@@ -124,7 +124,7 @@ fn price_column<A: Allocator>(
     ensures { IfOk result (λ c. c ≡ price_column study.now front.now price) }
 {
     let apart = rows_with(heap, study, rows, price)?;
-    let stated = price.stated(&study.prices());
+    let stated = price.amount(&study.prices());
     let mut column = Column::new(heap, format!(in heap; "{price}")?);
     column.push(format!(in heap; "{stated}")?)?;
     for row in front {

@@ -7,7 +7,7 @@ use Rattle.std.proofs.lemmas.Bool.{le-ltb, lt-ltb}
 use Rattle.tomex_config.specs.Configuration.{Configuration, IsWithinLimits}
 use Rattle.tomex_cycle.specs.Run.{total}
 use Rattle.tomex_study.specs.Program.{Workload, IsProgram}
-use Rattle.tomex_row_runs.specs.Cycles.{cycles_on, plain_on, totals_on, weighed}
+use Rattle.tomex_row_runs.specs.Cycles.{cycles_on, plain_on, totals_on, weighted_cycles}
 use Rattle.tomex_row_runs.specs.Looks.{last_look, made_at_last_look}
 use Rattle.tomex_row_runs.proofs.Totals.{cycles_bound, plain_bound, plain_sum, total_at, total_bound, weighed_all}
 use Rattle.tomex_row_runs.proofs.Totals.{weighed_past}
@@ -16,7 +16,7 @@ use Rattle.tomex_row_runs.proofs.Totals.{weighed_step, weighed_within, weighs_mo
 -- the cycles of the programs so far, and the rest
 abbrev pub IsCounting : List Workload → List ℕ → ℕ → ℕ → ℕ → ℕ → Type 0
 IsCounting programs totals made i cycles left = (config : Configuration) → totals ≡ totals_on programs config
-    → cycles + weighed (drop i programs) config left ≡ weighed programs config made
+    → cycles + weighted_cycles (drop i programs) config left ≡ weighted_cycles programs config made
 
 pub one_counted : (programs : List Workload) (totals : List ℕ) (made i cycles left t : ℕ) (p : Workload)
     → IsCounting programs totals made i cycles left → i < length programs → p ≡ get_or programs i p
@@ -48,13 +48,13 @@ part_small programs totals made i cycles left t p config before low at is few en
     (one, omega (arith, step, was, within, most, same_part))
 
 pub none_counted : (programs : List Workload) (totals : List ℕ) (made : ℕ) → IsCounting programs totals made 0 0 made
-none_counted programs totals made = λ config same. zero-add (weighed programs config made)
+none_counted programs totals made = λ config same. zero-add (weighted_cycles programs config made)
 
 pub all_counted : (programs : List Workload) (totals : List ℕ) (made i cycles left : ℕ)
     → IsCounting programs totals made i cycles left → length programs ≤ i
-    → (config : Configuration) → totals ≡ totals_on programs config → cycles ≡ weighed programs config made
+    → (config : Configuration) → totals ≡ totals_on programs config → cycles ≡ weighted_cycles programs config made
 all_counted programs totals made i cycles left counting past = λ config same.
-    let none : weighed (drop i programs) config left ≡ 0 = weighed_past programs i config left past in
+    let none : weighted_cycles (drop i programs) config left ≡ 0 = weighed_past programs i config left past in
     let all = counting config same in
     omega (arith, none, all)
 
@@ -66,17 +66,17 @@ sum_small programs config totals lawful few same =
 
 -- all of a row's cycles
 pub row_is : (programs : List Workload) (config : Configuration) (plain n : ℕ) → plain ≡ plain_on programs config
-    → n ≡ weighed programs config plain → n ≡ cycles_on programs config
+    → n ≡ weighted_cycles programs config plain → n ≡ cycles_on programs config
 row_is programs config plain n same is =
-    is ∙ (ap (weighed programs config) same ∙ weighed_all programs config)
+    is ∙ (ap (weighted_cycles programs config) same ∙ weighed_all programs config)
 
 -- those at the last look, if there is one
 pub seen_late : (programs : List Workload) (config : Configuration) (plain n : ℕ) → plain ≡ plain_on programs config
-    → 1024 < plain → n ≡ weighed programs config (1024 * ((plain - 1) / 1024))
+    → 1024 < plain → n ≡ weighted_cycles programs config (1024 * ((plain - 1) / 1024))
     → Some n ≡ made_at_last_look programs config
 seen_late programs config plain n same late is =
-    let at : n ≡ weighed programs config (last_look (plain_on programs config)) =
-    is ∙ ap (λ (k : ℕ). weighed programs config (last_look k)) same in
+    let at : n ≡ weighted_cycles programs config (last_look (plain_on programs config)) =
+    is ∙ ap (λ (k : ℕ). weighted_cycles programs config (last_look k)) same in
     rw (lt-ltb 1024 (plain_on programs config) (omega arith)) (ap (λ (k : ℕ). Some k) at)
 
 pub over_early : (programs : List Workload) (config : Configuration) (plain : ℕ) → plain ≡ plain_on programs config

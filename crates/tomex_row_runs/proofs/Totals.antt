@@ -10,7 +10,7 @@ use Rattle.std.proofs.lemmas.Option.{get_or_from_slice_get, slice_get_read, slic
 use Rattle.tomex_image.specs.Image.{Loaded}
 use Rattle.tomex_rvexec.specs.Machine.{State, Outcome, Goes, Ends, Faults, step_of, coming_of}
 use Rattle.tomex_rvexec.specs.Run.{start_of, EndsWithin}
-use Rattle.tomex_rvexec.specs.Trace.{steps_from, onto, after}
+use Rattle.tomex_rvexec.specs.Trace.{steps_from, onto, steps_after}
 use Rattle.tomex_steps.specs.declared.step.Step.{Step}
 use Rattle.tomex_rvexec.proofs.FlowEnds.{ends_within_more, same_steps}
 use Rattle.tomex_config.specs.Configuration.{Configuration, IsWithinLimits}
@@ -19,7 +19,7 @@ use Rattle.tomex_timing.specs.Search.{history, times_in, total_of}
 use Rattle.tomex_timing.proofs.Histories.{history_bound, total_of-history}
 use Rattle.tomex_cycle.specs.Run.{run_of, total}
 use Rattle.tomex_study.specs.Program.{Workload, IsProgram}
-use Rattle.tomex_row_runs.specs.Cycles.{cycles_on, plain_on, totals_on, weighed}
+use Rattle.tomex_row_runs.specs.Cycles.{cycles_on, plain_on, totals_on, weighted_cycles}
 use Rattle.tomex_row_runs.specs.Looks.{LastLookSeesMost, last_look}
 use Rattle.std.specs.Prelude.{Option, None}
 
@@ -28,7 +28,7 @@ length_onto None xs = omega arith
 length_onto (Some x) xs = omega arith
 
 length_after : (n : ℕ) (o : Outcome) (next : State → List Step) → ((s : State) → length (next s) ≤ n)
-    → length (after o next) ≤ n
+    → length (steps_after o next) ≤ n
 length_after n (Goes s) next h = h s
 length_after n (Ends k) next h = omega arith
 length_after n (Faults k) next h = omega arith
@@ -36,7 +36,7 @@ length_after n (Faults k) next h = omega arith
 length_steps : (n : ℕ) (s : State) → length (steps_from n s) ≤ n
 length_steps zero s = omega arith
 length_steps (suc n) s =
-    let a = length_onto (coming_of s) (after (step_of s) (steps_from n)) in
+    let a = length_onto (coming_of s) (steps_after (step_of s) (steps_from n)) in
     let b = length_after n (step_of s) (steps_from n) (length_steps n) in
     omega arith
 
@@ -127,31 +127,31 @@ all_plain programs place config past = ap (λ (ps : List Workload). plain_on ps 
 
 -- the weighted cycles that a configuration has made
 
-weighed_none : (programs : List Workload) (config : Configuration) → weighed programs config 0 ≡ 0
-unfolding weighed
+weighed_none : (programs : List Workload) (config : Configuration) → weighted_cycles programs config 0 ≡ 0
+unfolding weighted_cycles
 weighed_none [] config = refl
 weighed_none (p ∷ ps) config =
-    let rest : weighed ps config 0 ≡ 0 = weighed_none ps config in
+    let rest : weighted_cycles ps config 0 ≡ 0 = weighed_none ps config in
     let few : 0 - total config p.image ≡ 0 = omega arith in
     let least : min 0 (total config p.image) ≡ 0 = omega arith in
     rw (least, few, rest) (omega arith)
 
 -- are no more than all of them
 pub weighed_within : (programs : List Workload) (config : Configuration) (n : ℕ)
-    → weighed programs config n ≤ cycles_on programs config
-unfolding weighed cycles_on
+    → weighted_cycles programs config n ≤ cycles_on programs config
+unfolding weighted_cycles cycles_on
 weighed_within [] config n = omega arith
 weighed_within (p ∷ ps) config n =
     let one : p.weight * min n (total config p.image) ≤ p.weight * total config p.image =
     mul-le-mul_left p.weight (let l : min n (total config p.image) ≤ total config p.image = omega arith in l) in
-    let rest : weighed ps config (n - total config p.image) ≤ cycles_on ps config =
+    let rest : weighted_cycles ps config (n - total config p.image) ≤ cycles_on ps config =
     weighed_within ps config (n - total config p.image) in
     rw sum_by-cons (omega arith)
 
 -- at the end of the runs they are all of them
 pub weighed_all : (programs : List Workload) (config : Configuration)
-    → weighed programs config (plain_on programs config) ≡ cycles_on programs config
-unfolding weighed plain_on cycles_on
+    → weighted_cycles programs config (plain_on programs config) ≡ cycles_on programs config
+unfolding weighted_cycles plain_on cycles_on
 weighed_all [] config = refl
 weighed_all (p ∷ ps) config =
     let all : plain_on (p ∷ ps) config ≡ total config p.image + plain_on ps config =
@@ -164,13 +164,14 @@ weighed_all (p ∷ ps) config =
 
 -- and they grow with the cycles that are made
 weighed_grows : (programs : List Workload) (config : Configuration) (m n : ℕ) → m ≤ n
-    → weighed programs config m ≤ weighed programs config n
-unfolding weighed
+    → weighted_cycles programs config m ≤ weighted_cycles programs config n
+unfolding weighted_cycles
 weighed_grows [] config m n less = omega arith
 weighed_grows (p ∷ ps) config m n less =
     let one : p.weight * min m (total config p.image) ≤ p.weight * min n (total config p.image) =
     mul-le-mul_left p.weight (let l : min m (total config p.image) ≤ min n (total config p.image) = omega arith in l) in
-    let rest : weighed ps config (m - total config p.image) ≤ weighed ps config (n - total config p.image) =
+    let rest : weighted_cycles ps config (m - total config p.image)
+    ≤ weighted_cycles ps config (n - total config p.image) =
     weighed_grows ps config (m - total config p.image) (n - total config p.image) (omega arith) in
     omega arith
 
@@ -188,19 +189,21 @@ last_look_sees_most programs config look before = (
 -- one program's part of them
 pub weighed_step : (programs : List Workload) (i : ℕ) (p : Workload) (config : Configuration) (n : ℕ)
     → i < length programs → p ≡ get_or programs i p
-    → weighed (drop i programs) config n
-    ≡ p.weight * min n (total config p.image) + weighed (drop (i + 1) programs) config (n - total config p.image)
-unfolding weighed
+    → weighted_cycles (drop i programs) config n
+    ≡ p.weight * min n (total config p.image)
+    + weighted_cycles (drop (i + 1) programs) config (n - total config p.image)
+unfolding weighted_cycles
 weighed_step programs i p config n low is =
     let e : drop i programs ≡ p ∷ drop (i + 1) programs =
     drop-cons programs i p low ∙ (ap (λ (q : Workload). q ∷ drop (suc i) programs) (sym is)
     ∙ ap (λ (k : ℕ). p ∷ drop k programs) (let s : suc i ≡ i + 1 = omega arith in s)) in
-    ap (λ (ps : List Workload). weighed ps config n) e
+    ap (λ (ps : List Workload). weighted_cycles ps config n) e
 
 pub weighed_past : (programs : List Workload) (i : ℕ) (config : Configuration) (n : ℕ) → length programs ≤ i
-    → weighed (drop i programs) config n ≡ 0
-unfolding weighed
-weighed_past programs i config n past = ap (λ (ps : List Workload). weighed ps config n) (drop_all i programs past)
+    → weighted_cycles (drop i programs) config n ≡ 0
+unfolding weighted_cycles
+weighed_past programs i config n past =
+    ap (λ (ps : List Workload). weighted_cycles ps config n) (drop_all i programs past)
 
 -- the sum of the totals
 pub plain_sum : (programs : List Workload) (config : Configuration) (totals : List ℕ)

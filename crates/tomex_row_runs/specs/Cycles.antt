@@ -18,9 +18,10 @@ unfoldable pub plain_on : List Workload → Configuration → ℕ
 plain_on programs config = sum_by (λ p. total config p.image) programs
 
 -- the first n cycles that these runs make, each times its program's weight
-unfoldable pub weighed : List Workload → Configuration → ℕ → ℕ
-weighed [] config n = 0
-weighed (p ∷ ps) config n = p.weight * min n (total config p.image) + weighed ps config (n - total config p.image)
+unfoldable pub weighted_cycles : List Workload → Configuration → ℕ → ℕ
+weighted_cycles [] config n = 0
+weighted_cycles (p ∷ ps) config n =
+    p.weight * min n (total config p.image) + weighted_cycles ps config (n - total config p.image)
 
 -- the cycles of each configuration, in their order
 unfoldable pub cycles_of : DesignSpace → List ℕ

@@ -4,7 +4,7 @@
 use Rattle.std.specs.Prelude.{◌≡◌, ℕ, ◌-◌, ◌*◌, ◌/◌, ◌<◌, ◌≤◌, nat_lt, if◌then◌else◌, List, Option, Some, None}
 use Rattle.tomex_config.specs.Configuration.{Configuration}
 use Rattle.tomex_study.specs.Program.{Workload}
-use Rattle.tomex_row_runs.specs.Cycles.{cycles_on, plain_on, weighed}
+use Rattle.tomex_row_runs.specs.Cycles.{cycles_on, plain_on, weighted_cycles}
 use Rattle.tomex_row_runs.specs.declared.known_row.KnownRow.{KnownRow}
 
 -- the last look at a run of n cycles: the greatest multiple of 1,024 before its end
@@ -14,7 +14,8 @@ last_look n = 1024 * ((n - 1) / 1024)
 -- the cycles that a configuration has made then, none if its run is over before the first look
 abbrev pub made_at_last_look : List Workload → Configuration → Option ℕ
 made_at_last_look programs config =
-    if nat_lt 1024 (plain_on programs config) then Some (weighed programs config (last_look (plain_on programs config)))
+    if nat_lt 1024 (plain_on programs config)
+    then Some (weighted_cycles programs config (last_look (plain_on programs config)))
     else None
 
 -- a row's cycles, and those that it has made at its last look
@@ -26,5 +27,6 @@ pub record IsKnownRow (programs : List Workload) (config : Configuration) (row :
 abbrev pub LastLookSeesMost : Type 0
 LastLookSeesMost = (programs : List Workload) (config : Configuration) (look : ℕ)
     → 1024 * look < plain_on programs config
-    → (weighed programs config (1024 * look) ≤ weighed programs config (last_look (plain_on programs config)))
-    × (weighed programs config (last_look (plain_on programs config)) ≤ cycles_on programs config)
+    → (weighted_cycles programs config (1024 * look)
+    ≤ weighted_cycles programs config (last_look (plain_on programs config)))
+    × (weighted_cycles programs config (last_look (plain_on programs config)) ≤ cycles_on programs config)

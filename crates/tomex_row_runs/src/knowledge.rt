@@ -53,7 +53,7 @@ impl<'s, A: Allocator + Clone> Knowledge<'s, A> {
     }
 
     /// The known totals on a configuration, in the programs' order.
-    pub fn known(&self, config: &Config) -> [Option<u64>; 8]
+    pub fn known_totals(&self, config: &Config) -> [Option<u64>; 8]
         ensures known { take (length self.now.programs) result ≡ known_on self.now.lists config.now }
         ensures totals { AreTotals self.now.programs config.now result }
     {

@@ -2,7 +2,7 @@
 
 ghost use Rattle.std.specs.Prelude.{◌≡◌, ◌<◌, ◌≤◌, ◌^◌, length, sum, All};
 ghost use Rattle.tomex_config.specs.Configuration.{Configuration, IsWithinLimits};
-ghost use Rattle.tomex_row_runs.specs.Cycles.{totals_on, weighed};
+ghost use Rattle.tomex_row_runs.specs.Cycles.{totals_on, weighted_cycles};
 ghost use Rattle.tomex_row_runs.specs.Looks.{IsKnownRow};
 ghost use Rattle.tomex_study.specs.Program.{IsProgram};
 
@@ -25,12 +25,12 @@ pub struct KnownRow {
 
 /// The first `made` cycles of runs with these totals, one after another, each times its program's
 /// weight.
-fn weighed<A: Allocator>(programs: &[Program<A>], totals: &[u64], made: u64) -> u64
+fn weighted_cycles<A: Allocator>(programs: &[Program<A>], totals: &[u64], made: u64) -> u64
     requires few { length programs.now ≤ 8 }
     requires ends { All IsProgram programs.now }
     requires totals { (config : Configuration) × IsWithinLimits config × (totals.now ≡ totals_on programs.now config) }
     ensures { (config : Configuration) → totals.now ≡ totals_on programs.now config
-        → result ≡ weighed programs.now config made }
+        → result ≡ weighted_cycles programs.now config made }
 {
     let mut left = made;
     let mut cycles = 0;
@@ -60,12 +60,12 @@ impl KnownRow {
     {
         let plain = sum_of(totals);
         let at_last_look = if STRIDE < plain {
-            Some(weighed(programs, totals, STRIDE * ((plain - 1) / STRIDE)))
+            Some(weighted_cycles(programs, totals, STRIDE * ((plain - 1) / STRIDE)))
         } else {
             None
         };
         KnownRow {
-            cycles: weighed(programs, totals, plain),
+            cycles: weighted_cycles(programs, totals, plain),
             at_last_look,
         }
     }

@@ -20,7 +20,7 @@ use Rattle.tomex_steps.specs.declared.step.Step.{Step}
 use Rattle.tomex_steps.specs.declared.step.ByteRange.{ByteRange}
 use Rattle.tomex_rvexec.specs.Flow.{IsAllowed, IsState, memory_of, end_at, end_of}
 use Rattle.tomex_steps.specs.Results.{byte_in, next_at, result_of}
-use Rattle.tomex_rvexec.specs.Machine.{State, Goes, Ends, Faults, base_of, branches, coming_of, executes, fetched}
+use Rattle.tomex_rvexec.specs.Machine.{State, Goes, Ends, Faults, base_of, branches, coming_of, executes, fetched_word}
 use Rattle.tomex_rvexec.specs.Machine.{holds, jumps, loads, next_pc, outcome_of, step_at, step_of}
 use Rattle.tomex_steps.specs.Memory.{from_byte, from_half}
 use Rattle.tomex_rvexec.specs.Machine.{stores, with_register}
@@ -39,9 +39,9 @@ pub record Coming (s : State) : Type 0 where
 
 pub goes_by_step : (s t : State) → step_of s ≡ Goes t → Coming s
 unfolding step_of
-goes_by_step s t e = at (holds s s.pc 4) (meaning (fetched s)) refl refl e
+goes_by_step s t e = at (holds s s.pc 4) (meaning (fetched_word s)) refl refl e
   where
-    at : (b : Bool) (m : Option Instruction) → holds s s.pc 4 ≡ b → meaning (fetched s) ≡ m
+    at : (b : Bool) (m : Option Instruction) → holds s s.pc 4 ≡ b → meaning (fetched_word s) ≡ m
         → (if b then outcome_of (option_map (step_at s) m) s else Faults Fetch) ≡ Goes t → Coming s
     at true (Some y) here means e = record { step = step_at s y; is = rw (here, means) refl }
     at true None here means e = cc
@@ -49,9 +49,9 @@ goes_by_step s t e = at (holds s s.pc 4) (meaning (fetched s)) refl refl e
 
 pub ends_by_step : (s : State) (kind : EndKind) → step_of s ≡ Ends kind → Coming s
 unfolding step_of
-ends_by_step s kind e = at (holds s s.pc 4) (meaning (fetched s)) refl refl e
+ends_by_step s kind e = at (holds s s.pc 4) (meaning (fetched_word s)) refl refl e
   where
-    at : (b : Bool) (m : Option Instruction) → holds s s.pc 4 ≡ b → meaning (fetched s) ≡ m
+    at : (b : Bool) (m : Option Instruction) → holds s s.pc 4 ≡ b → meaning (fetched_word s) ≡ m
         → (if b then outcome_of (option_map (step_at s) m) s else Faults Fetch) ≡ Ends kind → Coming s
     at true (Some y) here means e = record { step = step_at s y; is = rw (here, means) refl }
     at true None here means e = cc
@@ -66,8 +66,8 @@ step_ends s kind e = let c = ends_by_step s kind e in rw c.is refl
 pub fetch_inside : (s : State) (x : Step) → coming_of s ≡ Some x → IsTrue (holds s s.pc 4)
 fetch_inside s x c = at (holds s s.pc 4) refl c
   where
-    at : (b : Bool) → holds s s.pc 4 ≡ b → (if b then option_map (step_at s) (meaning (fetched s)) else None) ≡ Some x
-        → IsTrue (holds s s.pc 4)
+    at : (b : Bool) → holds s s.pc 4 ≡ b
+        → (if b then option_map (step_at s) (meaning (fetched_word s)) else None) ≡ Some x → IsTrue (holds s s.pc 4)
     at true here c = here
     at false here c = cc
 

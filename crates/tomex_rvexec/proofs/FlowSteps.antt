@@ -18,7 +18,7 @@ use Rattle.tomex_rvexec.specs.declared.outcome.FaultKind.TheVariants.{Fetch}
 use Rattle.tomex_steps.specs.declared.step.Step.{Step}
 use Rattle.tomex_rvexec.specs.Flow.{Changes, IsState, memory_of}
 use Rattle.tomex_steps.specs.Results.{byte_in, is_among, result_of}
-use Rattle.tomex_rvexec.specs.Machine.{State, Outcome, Goes, Faults, base_of, coming_of, executes, fetched, holds}
+use Rattle.tomex_rvexec.specs.Machine.{State, Outcome, Goes, Faults, base_of, coming_of, executes, fetched_word, holds}
 use Rattle.tomex_rvexec.specs.Machine.{outcome_of, step_at, step_of}
 use Rattle.tomex_steps.specs.Steps.{access_size, address_of, is_in, step_dest, is_number}
 use Rattle.tomex_steps.proofs.Bytes.{below_none, bytes_stored}
@@ -27,16 +27,17 @@ use Rattle.tomex_rvexec.proofs.FlowEffects.{Carried, carried, stored_size, with_
 -- the instruction of the next step, and the step's outcome
 pub record Comes (s : State) (x : Step) (o : Outcome) : Type 0 where
   pub instr : Instruction
-  pub means : meaning (fetched s) ≡ Some instr
+  pub means : meaning (fetched_word s) ≡ Some instr
   pub step : step_at s instr ≡ x
   pub outcome : executes instr.op (step_at s instr) s ≡ o
 
 pub comes : (s : State) (x : Step) (o : Outcome) → coming_of s ≡ Some x → step_of s ≡ o → Comes s x o
 unfolding step_of
-comes s x o c e = at (holds s s.pc 4) (meaning (fetched s)) refl c e
+comes s x o c e = at (holds s s.pc 4) (meaning (fetched_word s)) refl c e
   where
-    at : (b : Bool) (m : Option Instruction) → meaning (fetched s) ≡ m → (if b then option_map (step_at s) m else None)
-        ≡ Some x → (if b then outcome_of (option_map (step_at s) m) s else Faults Fetch) ≡ o → Comes s x o
+    at : (b : Bool) (m : Option Instruction) → meaning (fetched_word s) ≡ m
+        → (if b then option_map (step_at s) m else None) ≡ Some x
+        → (if b then outcome_of (option_map (step_at s) m) s else Faults Fetch) ≡ o → Comes s x o
     at true (Some y) is c e = record { instr = y; means = is; step = cc; outcome = e }
     at true None is c e = cc
     at false m is c e = cc

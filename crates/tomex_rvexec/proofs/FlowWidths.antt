@@ -17,7 +17,7 @@ use Rattle.tomex_rvdec.specs.Instruction.{Instruction}
 use Rattle.tomex_rvdec.specs.Meaning.{form_of, meaning, operands_at, selected}
 use Rattle.tomex_rvexec.specs.Flow.{HasWords, memory_of}
 use Rattle.tomex_steps.specs.Results.{byte_in, result_of}
-use Rattle.tomex_rvexec.specs.Machine.{State, Goes, base_of, fetched, step_at, step_of}
+use Rattle.tomex_rvexec.specs.Machine.{State, Goes, base_of, fetched_word, step_at, step_of}
 use Rattle.tomex_rvexec.specs.Run.{Leads, start_of}
 use Rattle.tomex_steps.specs.Steps.{address_of, step_dest}
 use Rattle.tomex_steps.proofs.Bytes.{bytes_written}
@@ -98,7 +98,7 @@ pub words_kept : (s t : State) → HasWords s → step_of s ≡ Goes t → HasWo
 words_kept s t ok e =
     let c = goes_by_step s t e in
     let o = comes s c.step (Goes t) c.is e in
-    kept_words s t o.instr ok (imm_means (fetched s) o.instr o.means) (carried o.instr.op o.instr s t o.outcome)
+    kept_words s t o.instr ok (imm_means (fetched_word s) o.instr o.means) (carried o.instr.op o.instr s t o.outcome)
 
 start_words : (i : Loaded) → IsWindow i.window.base i.window.size → IsLoaded i.window i.memory i.entry
     → ((k : ℕ) → slice_index i.memory k < 256) → HasWords (start_of i)

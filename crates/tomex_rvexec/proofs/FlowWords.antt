@@ -20,10 +20,11 @@ use Rattle.tomex_rvdec.specs.declared.pool.PoolId.TheVariants as pools
 use Rattle.tomex_rvdec.specs.Meaning.{form_of}
 use Rattle.tomex_rvdec.specs.Operands.{pool_of}
 use Rattle.tomex_steps.specs.declared.step.Step.{Step}
-use Rattle.tomex_steps.specs.Results.{computed, loaded, next_at, result_at, second_at}
+use Rattle.tomex_steps.specs.Results.{unit_result, load_value, next_at, result_at, second_at}
 use Rattle.tomex_steps.specs.Memory.{from_byte, from_half}
 use Rattle.tomex_steps.specs.Steps.{address_of}
-use Rattle.tomex_steps.specs.Words.{alu_of, flag, high_half, is_taken, muldiv_of, quotient, remainder, signed, sum}
+use Rattle.tomex_steps.specs.Words.{alu_of, flag, high_half, is_taken, muldiv_of, quotient, remainder}
+use Rattle.tomex_steps.specs.Words.{signed_value, sum}
 
 abs_neg : (n : ℕ) → unsigned_abs (neg_ℤ (pos n)) ≡ n
 abs_neg zero = refl
@@ -37,7 +38,7 @@ doubleword_of : (z : ℤ) → unsigned_abs z < 2 ^ 64 → cast_unsigned w64 z < 
 doubleword_of (pos n) h = h
 doubleword_of (negsuc n) h = omega arith
 
-signed_abs : (a : ℕ) → a < 2 ^ 32 → unsigned_abs (signed a) ≤ 2 ^ 31
+signed_abs : (a : ℕ) → a < 2 ^ 32 → unsigned_abs (signed_value a) ≤ 2 ^ 31
 signed_abs a h = at (nat_lt a (2 ^ 31)) refl
   where
     at : (b : Bool) → nat_lt a (2 ^ 31) ≡ b → unsigned_abs (sel b (pos a) (negsuc (2 ^ 32 - suc a))) ≤ 2 ^ 31
@@ -70,13 +71,15 @@ test_word true m n h k = h refl
 test_word false m n h k = k refl
 
 quotient_word : (a b : ℕ) → a < 2 ^ 32 → quotient a b < 2 ^ 32
-quotient_word a b h = test_word (nat_eq b 0) (2 ^ 32 - 1) (cast_unsigned w32 (int_div (signed a) (signed b)))
-    (λ e. omega arith) (λ e. word_of (int_div (signed a) (signed b))
-    (omega (arith, quotient_abs (signed a) (signed b), signed_abs a h)))
+quotient_word a b h = test_word (nat_eq b 0) (2 ^ 32 - 1)
+    (cast_unsigned w32 (int_div (signed_value a) (signed_value b)))
+    (λ e. omega arith) (λ e. word_of (int_div (signed_value a) (signed_value b))
+    (omega (arith, quotient_abs (signed_value a) (signed_value b), signed_abs a h)))
 
 remainder_word : (a b : ℕ) → a < 2 ^ 32 → remainder a b < 2 ^ 32
-remainder_word a b h = test_word (nat_eq b 0) a (cast_unsigned w32 (int_rem (signed a) (signed b))) (λ e. h)
-    (λ e. word_of (int_rem (signed a) (signed b)) (omega (arith, remainder_abs (signed a) (signed b), signed_abs a h)))
+remainder_word a b h = test_word (nat_eq b 0) a (cast_unsigned w32 (int_rem (signed_value a) (signed_value b))) (λ e. h)
+    (λ e. word_of (int_rem (signed_value a) (signed_value b))
+    (omega (arith, remainder_abs (signed_value a) (signed_value b), signed_abs a h)))
 
 sum_word : (a b : ℕ) → sum a b < 2 ^ 32
 sum_word a b = omega arith
@@ -87,18 +90,18 @@ alu_word Addi a b h k = sum_word a b
 alu_word Sub a b h k = mod_below (a + (2 ^ 32 - b)) (2 ^ 32) (omega arith)
 alu_word Sll a b h k = mod_below (a * 2 ^ (b % 32)) (2 ^ 32) (omega arith)
 alu_word Slli a b h k = mod_below (a * 2 ^ (b % 32)) (2 ^ 32) (omega arith)
-alu_word Slt a b h k = flag_word (int_lt (signed a) (signed b))
-alu_word Slti a b h k = flag_word (int_lt (signed a) (signed b))
+alu_word Slt a b h k = flag_word (int_lt (signed_value a) (signed_value b))
+alu_word Slti a b h k = flag_word (int_lt (signed_value a) (signed_value b))
 alu_word Sltu a b h k = flag_word (nat_lt a b)
 alu_word Sltiu a b h k = flag_word (nat_lt a b)
 alu_word Xor a b h k = xor_of_32 a b h k
 alu_word Xori a b h k = xor_of_32 a b h k
 alu_word Srl a b h k = omega (arith, div-le_self a (2 ^ (b % 32)))
 alu_word Srli a b h k = omega (arith, div-le_self a (2 ^ (b % 32)))
-alu_word Sra a b h k = word_of (int_shr (signed a) (b % 32))
-    (omega (arith, shifted_abs (signed a) (b % 32), signed_abs a h))
-alu_word Srai a b h k = word_of (int_shr (signed a) (b % 32))
-    (omega (arith, shifted_abs (signed a) (b % 32), signed_abs a h))
+alu_word Sra a b h k = word_of (int_shr (signed_value a) (b % 32))
+    (omega (arith, shifted_abs (signed_value a) (b % 32), signed_abs a h))
+alu_word Srai a b h k = word_of (int_shr (signed_value a) (b % 32))
+    (omega (arith, shifted_abs (signed_value a) (b % 32), signed_abs a h))
 alu_word Or a b h k = or_of_32 a b h k
 alu_word Ori a b h k = or_of_32 a b h k
 alu_word And a b h k = omega (arith, and_le_l a b)
@@ -107,18 +110,18 @@ alu_word op a b h k = omega arith
 
 muldiv_word : (op : Op) (a b : ℕ) → a < 2 ^ 32 → b < 2 ^ 32 → muldiv_of op a b < 2 ^ 32
 muldiv_word Mul a b h k = mod_below (a * b) (2 ^ 32) (omega arith)
-muldiv_word Mulh a b h k = high_word (signed a *ℤ signed b)
+muldiv_word Mulh a b h k = high_word (signed_value a *ℤ signed_value b)
     (omega (
       arith,
-      unsigned_abs-mul (signed a) (signed b),
-      mul-le (unsigned_abs (signed a)) (unsigned_abs (signed b))
+      unsigned_abs-mul (signed_value a) (signed_value b),
+      mul-le (unsigned_abs (signed_value a)) (unsigned_abs (signed_value b))
           (2 ^ 31) (2 ^ 31) (signed_abs a h) (signed_abs b k),
     ))
-muldiv_word Mulhsu a b h k = high_word (signed a *ℤ pos b)
+muldiv_word Mulhsu a b h k = high_word (signed_value a *ℤ pos b)
     (omega (
       arith,
-      unsigned_abs-mul (signed a) (pos b),
-      mul-le (unsigned_abs (signed a)) b (2 ^ 31) (2 ^ 32)
+      unsigned_abs-mul (signed_value a) (pos b),
+      mul-le (unsigned_abs (signed_value a)) b (2 ^ 31) (2 ^ 32)
           (signed_abs a h) (omega arith),
     ))
 muldiv_word Mulhu a b h k = div_below (a * b) (2 ^ 32) (2 ^ 32) (omega arith) (mul-lt a b (2 ^ 32) (2 ^ 32) h k)
@@ -135,13 +138,13 @@ byte_word b h = test_word (nat_lt b 128) b (b + (2 ^ 32 - 256)) (λ e. omega ari
 half_word : (b : ℕ) → b < 65536 → from_half b < 2 ^ 32
 half_word b h = test_word (nat_lt b 32768) b (b + (2 ^ 32 - 65536)) (λ e. omega arith) (λ e. omega arith)
 
-loaded_word : (op : Op) (byte : ℕ → ℕ) (a : ℕ) → ((a : ℕ) → byte a < 256) → loaded op byte a < 2 ^ 32
-loaded_word Lb byte a h = byte_word (byte a) (h a)
-loaded_word Lh byte a h = half_word (byte a + 256 * byte (a + 1)) (omega (arith, h a, h (a + 1)))
-loaded_word Lw byte a h = omega (arith, h a, h (a + 1), h (a + 2), h (a + 3))
-loaded_word Lbu byte a h = omega (arith, h a)
-loaded_word Lhu byte a h = omega (arith, h a, h (a + 1))
-loaded_word op byte a h = omega arith
+load_word : (op : Op) (byte : ℕ → ℕ) (a : ℕ) → ((a : ℕ) → byte a < 256) → load_value op byte a < 2 ^ 32
+load_word Lb byte a h = byte_word (byte a) (h a)
+load_word Lh byte a h = half_word (byte a + 256 * byte (a + 1)) (omega (arith, h a, h (a + 1)))
+load_word Lw byte a h = omega (arith, h a, h (a + 1), h (a + 2), h (a + 3))
+load_word Lbu byte a h = omega (arith, h a)
+load_word Lhu byte a h = omega (arith, h a, h (a + 1))
+load_word op byte a h = omega arith
 
 -- the operands of a step are words
 pub record Operands (x : Step) : Type 0 where
@@ -153,14 +156,14 @@ second_word : (f : Form) (x : Step) → Operands x → second_at f x < 2 ^ 32
 second_word forms.Register x h = h.vk
 second_word f x h = h.imm
 
-computed_word : (pool : Option PoolId) (op : Op) (x : Step) (byte : ℕ → ℕ) → Operands x → ((a : ℕ) → byte a < 256)
-    → computed pool op x byte < 2 ^ 32
-computed_word (Some pools.Alu) op x byte h b =
+unit_word : (pool : Option PoolId) (op : Op) (x : Step) (byte : ℕ → ℕ) → Operands x → ((a : ℕ) → byte a < 256)
+    → unit_result pool op x byte < 2 ^ 32
+unit_word (Some pools.Alu) op x byte h b =
     alu_word op x.vj (second_at (form_of op) x) h.vj (second_word (form_of op) x h)
-computed_word (Some pools.Mul) op x byte h b = muldiv_word op x.vj x.vk h.vj h.vk
-computed_word (Some pools.Div) op x byte h b = muldiv_word op x.vj x.vk h.vj h.vk
-computed_word (Some pools.Load) op x byte h b = loaded_word op byte (address_of x) b
-computed_word pool op x byte h b = omega arith
+unit_word (Some pools.Mul) op x byte h b = muldiv_word op x.vj x.vk h.vj h.vk
+unit_word (Some pools.Div) op x byte h b = muldiv_word op x.vj x.vk h.vj h.vk
+unit_word (Some pools.Load) op x byte h b = load_word op byte (address_of x) b
+unit_word pool op x byte h b = omega arith
 
 pub result_word : (op : Op) (x : Step) (byte : ℕ → ℕ) → Operands x → ((a : ℕ) → byte a < 256)
     → result_at op x byte < 2 ^ 32
@@ -168,7 +171,7 @@ result_word Lui x byte h b = h.imm
 result_word Auipc x byte h b = sum_word x.pc x.instr.imm
 result_word Jal x byte h b = sum_word x.pc 4
 result_word Jalr x byte h b = sum_word x.pc 4
-result_word op x byte h b = computed_word (pool_of op) op x byte h b
+result_word op x byte h b = unit_word (pool_of op) op x byte h b
 
 pub next_word : (op : Op) (x : Step) → next_at op x < 2 ^ 32
 next_word Jal x = sum_word x.pc x.instr.imm

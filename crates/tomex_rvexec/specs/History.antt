@@ -14,15 +14,15 @@ use Rattle.tomex_steps.specs.Steps.{step_dest, is_number}
 use Rattle.tomex_rvexec.specs.Trace.{onto}
 
 -- a step that ends or faults leaves the state as it was
-abbrev pub moved : Outcome → State → State
-moved (Goes t) s = t
-moved (Ends kind) s = s
-moved (Faults kind) s = s
+abbrev pub next_state : Outcome → State → State
+next_state (Goes t) s = t
+next_state (Ends kind) s = s
+next_state (Faults kind) s = s
 
 -- the state after k steps of a run
 abbrev pub state_after : Loaded → ℕ → State
 state_after i zero = start_of i
-state_after i (suc k) = moved (step_of (state_after i k)) (state_after i k)
+state_after i (suc k) = next_state (step_of (state_after i k)) (state_after i k)
 
 -- the step after k others; none if fetching or decoding faults
 abbrev pub step_after : Loaded → ℕ → Option Step

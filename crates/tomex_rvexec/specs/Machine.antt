@@ -129,16 +129,16 @@ executes Ecall x s = Ends ends.Ecall
 executes Ebreak x s = Ends ends.Ebreak
 
 -- the word that is fetched
-abbrev pub fetched : State → ℕ
-fetched s = word_at s.image s.pc
+abbrev pub fetched_word : State → ℕ
+fetched_word s = word_at s.image s.pc
 
 -- an instruction at the pc, with the values of its source registers
 abbrev pub step_at : State → Instruction → Step
 step_at s x = record { pc = s.pc; instr = x; vj = slice_index s.regs x.rs1; vk = slice_index s.regs x.rs2 }
 
 -- the step that the fetched word asks for, if it means an instruction
-abbrev pub decoded : State → Option Step
-decoded s = option_map (step_at s) (meaning (fetched s))
+abbrev pub decoded_step : State → Option Step
+decoded_step s = option_map (step_at s) (meaning (fetched_word s))
 
 abbrev pub outcome_of : Option Step → State → Outcome
 outcome_of None s = Faults Illegal
@@ -146,8 +146,8 @@ outcome_of (Some x) s = executes x.instr.op x s
 
 -- one step: fetch, then decoding, then the instruction's own target or access
 unfoldable pub step_of : State → Outcome
-step_of s = if holds s s.pc 4 then outcome_of (decoded s) s else Faults Fetch
+step_of s = if holds s s.pc 4 then outcome_of (decoded_step s) s else Faults Fetch
 
 -- the next step, whatever its outcome; none if fetching or decoding faults
 abbrev pub coming_of : State → Option Step
-coming_of s = if holds s s.pc 4 then decoded s else None
+coming_of s = if holds s s.pc 4 then decoded_step s else None

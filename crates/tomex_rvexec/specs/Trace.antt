@@ -8,12 +8,12 @@ onto None steps = steps
 onto (Some x) steps = x ∷ steps
 
 -- the steps after an outcome, given those after each state
-abbrev pub after : Outcome → (State → List Step) → List Step
-after (Goes s) next = next s
-after (Ends k) next = []
-after (Faults k) next = []
+abbrev pub steps_after : Outcome → (State → List Step) → List Step
+steps_after (Goes s) next = next s
+steps_after (Ends k) next = []
+steps_after (Faults k) next = []
 
 -- a limited number of steps from a state on; the one that ends the program is the last
 abbrev pub steps_from : ℕ → State → List Step
 steps_from zero s = []
-steps_from (suc n) s = onto (coming_of s) (after (step_of s) (steps_from n))
+steps_from (suc n) s = onto (coming_of s) (steps_after (step_of s) (steps_from n))

@@ -87,7 +87,7 @@ impl<'a, A: Allocator> Cpu<'a, A> {
     /// The instruction at the pc, with its operands' values.
     #[inline(always)]
     #[tactic(auto, unfolding(crate::specs::Machine::step_of))]
-    fn coming(&mut self) -> Result<Step, Fault>
+    fn fetch_step(&mut self) -> Result<Step, Fault>
         ensures ok { IfOk result
             (λ x. (coming_of self.old ≡ Some x) × IsTrue (holds self.old self.old.pc 4)) }
         ensures err { IfErr result (λ e. Answers (step_of self.old) self.old (Err e) self.old) }
@@ -149,7 +149,7 @@ impl<'a, A: Allocator> Cpu<'a, A> {
     pub fn step(&mut self) -> Result<Stepped, Fault>
         ensures { Answers (step_of self.old) self.old result self.new }
     {
-        let step = self.coming()?;
+        let step = self.fetch_step()?;
         self.execute(&step)
     }
 
@@ -160,7 +160,7 @@ impl<'a, A: Allocator> Cpu<'a, A> {
             (λ r. (coming_of self.old ≡ Some r.0) × Answers (step_of self.old) self.old (Ok r.1) self.new) }
         ensures err { IfErr result (λ e. Answers (step_of self.old) self.old (Err e) self.new) }
     {
-        let step = self.coming()?;
+        let step = self.fetch_step()?;
         let stepped = self.execute(&step)?;
         Ok((step, stepped))
     }

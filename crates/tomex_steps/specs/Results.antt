@@ -22,28 +22,28 @@ second_at forms.Register x = x.vk
 second_at _ x = x.instr.imm
 
 -- the value of a load, from the bytes at its address
-abbrev pub loaded : Op → (ℕ → ℕ) → ℕ → ℕ
-loaded Lb byte a = from_byte (byte a)
-loaded Lh byte a = from_half (byte a + 256 * byte (a + 1))
-loaded Lw byte a = byte a + 256 * byte (a + 1) + 65536 * byte (a + 2) + 16777216 * byte (a + 3)
-loaded Lbu byte a = byte a
-loaded Lhu byte a = byte a + 256 * byte (a + 1)
-loaded _ byte a = 0
+abbrev pub load_value : Op → (ℕ → ℕ) → ℕ → ℕ
+load_value Lb byte a = from_byte (byte a)
+load_value Lh byte a = from_half (byte a + 256 * byte (a + 1))
+load_value Lw byte a = byte a + 256 * byte (a + 1) + 65536 * byte (a + 2) + 16777216 * byte (a + 3)
+load_value Lbu byte a = byte a
+load_value Lhu byte a = byte a + 256 * byte (a + 1)
+load_value _ byte a = 0
 
 -- the result of the unit of a pool
-abbrev pub computed : Option PoolId → Op → Step → (ℕ → ℕ) → ℕ
-computed (Some pools.Alu) op x byte = alu_of op x.vj (second_at (form_of op) x)
-computed (Some pools.Mul) op x byte = muldiv_of op x.vj x.vk
-computed (Some pools.Div) op x byte = muldiv_of op x.vj x.vk
-computed (Some pools.Load) op x byte = loaded op byte (address_of x)
-computed _ op x byte = 0
+abbrev pub unit_result : Option PoolId → Op → Step → (ℕ → ℕ) → ℕ
+unit_result (Some pools.Alu) op x byte = alu_of op x.vj (second_at (form_of op) x)
+unit_result (Some pools.Mul) op x byte = muldiv_of op x.vj x.vk
+unit_result (Some pools.Div) op x byte = muldiv_of op x.vj x.vk
+unit_result (Some pools.Load) op x byte = load_value op byte (address_of x)
+unit_result _ op x byte = 0
 
 abbrev pub result_at : Op → Step → (ℕ → ℕ) → ℕ
 result_at Lui x byte = x.instr.imm
 result_at Auipc x byte = sum x.pc x.instr.imm
 result_at Jal x byte = sum x.pc 4
 result_at Jalr x byte = sum x.pc 4
-result_at op x byte = computed (pool_of op) op x byte
+result_at op x byte = unit_result (pool_of op) op x byte
 
 -- the result of a step, for its destination. A load's depends on the bytes that it reads, by address; no other
 -- depends on memory

@@ -11,8 +11,8 @@ use Rattle.tomex_rvdec.specs.declared.op.Op.TheVariants.{Srl, Sra, Or, And, Mul,
 use Rattle.tomex_rvdec.specs.declared.op.Op.TheVariants.{Rem, Remu}
 
 -- a word's signed value
-abbrev pub signed : ℕ → ℤ
-signed a = cast_signed w32 a
+abbrev pub signed_value : ℕ → ℤ
+signed_value a = cast_signed w32 a
 
 -- sums and differences wrap
 abbrev pub sum : ℕ → ℕ → ℕ
@@ -34,7 +34,7 @@ shifted_right a b = a / 2 ^ (b % 32)
 
 -- the sign is copied
 abbrev pub shifted_signed : ℕ → ℕ → ℕ
-shifted_signed a b = cast_unsigned w32 (int_shr (signed a) (b % 32))
+shifted_signed a b = cast_unsigned w32 (int_shr (signed_value a) (b % 32))
 
 -- the high 32 bits of a product's 64
 abbrev pub high_half : ℤ → ℕ
@@ -42,11 +42,11 @@ high_half z = cast_unsigned w64 z / 2 ^ 32
 
 -- the quotient, rounded toward zero; all ones if the divisor is 0
 abbrev pub quotient : ℕ → ℕ → ℕ
-quotient a b = if nat_eq b 0 then 2 ^ 32 - 1 else cast_unsigned w32 (int_div (signed a) (signed b))
+quotient a b = if nat_eq b 0 then 2 ^ 32 - 1 else cast_unsigned w32 (int_div (signed_value a) (signed_value b))
 
 -- the remainder, with the dividend's sign; the dividend if the divisor is 0
 abbrev pub remainder : ℕ → ℕ → ℕ
-remainder a b = if nat_eq b 0 then a else cast_unsigned w32 (int_rem (signed a) (signed b))
+remainder a b = if nat_eq b 0 then a else cast_unsigned w32 (int_rem (signed_value a) (signed_value b))
 
 abbrev pub quotient_unsigned : ℕ → ℕ → ℕ
 quotient_unsigned a b = if nat_eq b 0 then 2 ^ 32 - 1 else a / b
@@ -61,8 +61,8 @@ alu_of Addi a b = sum a b
 alu_of Sub a b = difference a b
 alu_of Sll a b = shifted_left a b
 alu_of Slli a b = shifted_left a b
-alu_of Slt a b = flag (int_lt (signed a) (signed b))
-alu_of Slti a b = flag (int_lt (signed a) (signed b))
+alu_of Slt a b = flag (int_lt (signed_value a) (signed_value b))
+alu_of Slti a b = flag (int_lt (signed_value a) (signed_value b))
 alu_of Sltu a b = flag (nat_lt a b)
 alu_of Sltiu a b = flag (nat_lt a b)
 alu_of Xor a b = bit_xor a b
@@ -80,8 +80,8 @@ alu_of _ a b = 0
 -- an operation of M
 abbrev pub muldiv_of : Op → ℕ → ℕ → ℕ
 muldiv_of Mul a b = a * b % 2 ^ 32
-muldiv_of Mulh a b = high_half (signed a *ℤ signed b)
-muldiv_of Mulhsu a b = high_half (signed a *ℤ pos b)
+muldiv_of Mulh a b = high_half (signed_value a *ℤ signed_value b)
+muldiv_of Mulhsu a b = high_half (signed_value a *ℤ pos b)
 muldiv_of Mulhu a b = a * b / 2 ^ 32
 muldiv_of Div a b = quotient a b
 muldiv_of Divu a b = quotient_unsigned a b
@@ -93,8 +93,8 @@ muldiv_of _ a b = 0
 abbrev pub is_taken : Op → ℕ → ℕ → Bool
 is_taken Beq a b = nat_eq a b
 is_taken Bne a b = not (nat_eq a b)
-is_taken Blt a b = int_lt (signed a) (signed b)
-is_taken Bge a b = not (int_lt (signed a) (signed b))
+is_taken Blt a b = int_lt (signed_value a) (signed_value b)
+is_taken Bge a b = not (int_lt (signed_value a) (signed_value b))
 is_taken Bltu a b = nat_lt a b
 is_taken Bgeu a b = not (nat_lt a b)
 is_taken _ a b = false

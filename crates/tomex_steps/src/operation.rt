@@ -6,7 +6,7 @@ ghost use Rattle.tomex_rvdec.specs.Meaning.{form_of};
 ghost use Rattle.tomex_rvdec.specs.Operands.{pool_of};
 ghost use Rattle.tomex_rvdec.specs.declared.pool.PoolId.TheVariants as pools;
 ghost use Rattle.tomex_steps.specs.Access.{HasStored, IsInside, has_bytes};
-ghost use Rattle.tomex_steps.specs.Results.{byte_in, loaded, next_pc_of, result_of, second_at};
+ghost use Rattle.tomex_steps.specs.Results.{byte_in, load_value, next_pc_of, result_of, second_at};
 ghost use Rattle.tomex_steps.specs.Steps.{access_size, is_in};
 
 use crate::memory::Memory;
@@ -17,9 +17,9 @@ use tomex_rvdec::{Form, Op, PoolId};
 
 /// The value of a load; `None` if one of its bytes lies outside memory.
 #[tactic(auto, using(crate::proofs::Bytes::half_loaded, crate::proofs::Bytes::word_loaded))]
-fn loaded<A: Allocator>(op: Op, address: u32, memory: &Memory<A>) -> Option<u32>
+fn load_value<A: Allocator>(op: Op, address: u32, memory: &Memory<A>) -> Option<u32>
     requires { is_in pools.Load (pool_of op) ≡ true }
-    ensures value { IfSome result (λ v. v ≡ loaded op (byte_in memory.now) address) }
+    ensures value { IfSome result (λ v. v ≡ load_value op (byte_in memory.now) address) }
     ensures inside { IsTrue (has_bytes memory.now address (access_size op)) → IsSome result }
     ensures outside { IfSome result (λ v. IsTrue (has_bytes memory.now address (access_size op))) }
 {
@@ -44,7 +44,7 @@ fn second(step: &Step) -> u32
 }
 
 /// The result of an arithmetic unit's operation on its operands, its immediate and its pc.
-fn computed(step: &Step) -> u32
+fn alu_result(step: &Step) -> u32
     requires { pool_of step.now.instr.op ≡ Some pools.Alu }
     ensures { (byte : ℕ → ℕ) → result ≡ result_of step.now byte }
 {
@@ -83,7 +83,7 @@ pub fn result_in<A: Allocator>(pool: PoolId, step: &Step, memory: &Memory<A>) ->
 {
     let op = step.instr.op();
     match pool {
-        PoolId::Load => loaded(op, step.vj.wrapping_add(step.instr.imm()), memory),
+        PoolId::Load => load_value(op, step.vj.wrapping_add(step.instr.imm()), memory),
         PoolId::Store => {
             let size = match op {
                 Op::Sb => 1,
@@ -97,7 +97,7 @@ pub fn result_in<A: Allocator>(pool: PoolId, step: &Step, memory: &Memory<A>) ->
             Op::Jalr => Some(step.pc.wrapping_add(4)),
             _ => Some(0),
         },
-        PoolId::Alu => Some(computed(step)),
+        PoolId::Alu => Some(alu_result(step)),
         PoolId::Mul | PoolId::Div => Some(muldiv(op, step.vj, step.vk)),
     }
 }

@@ -2,7 +2,7 @@
 
 ghost use Rattle.std.specs.Prelude.{◌≡◌, ◌/◌, ◌^◌, ◌*ℤ◌, pos, FitsSigned};
 ghost use Rattle.std.specs.Int.{w32};
-ghost use Rattle.tomex_steps.specs.Words.{alu_of, muldiv_of, is_taken, high_half, signed, quotient, remainder};
+ghost use Rattle.tomex_steps.specs.Words.{alu_of, muldiv_of, is_taken, high_half, signed_value, quotient, remainder};
 
 use tomex_rvdec::Op;
 
@@ -28,8 +28,8 @@ pub fn alu(op: Op, a: u32, b: u32) -> u32
 }
 
 /// A word's signed value.
-fn widened(a: u32) -> i64
-    ensures value { result ≡ signed a }
+fn sign_extend(a: u32) -> i64
+    ensures value { result ≡ signed_value a }
     ensures fits { FitsSigned w32 result }
 {
     i64::from(a.cast_signed())
@@ -43,15 +43,15 @@ fn high_half_of(product: i64) -> u32
 }
 
 fn high_signed(a: u32, b: u32) -> u32
-    ensures { result ≡ high_half (signed a *ℤ signed b) }
+    ensures { result ≡ high_half (signed_value a *ℤ signed_value b) }
 {
-    high_half_of(widened(a) * widened(b))
+    high_half_of(sign_extend(a) * sign_extend(b))
 }
 
 fn high_mixed(a: u32, b: u32) -> u32
-    ensures { result ≡ high_half (signed a *ℤ pos b) }
+    ensures { result ≡ high_half (signed_value a *ℤ pos b) }
 {
-    high_half_of(widened(a) * i64::from(b))
+    high_half_of(sign_extend(a) * i64::from(b))
 }
 
 /// The quotient, rounded toward zero.

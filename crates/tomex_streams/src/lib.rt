@@ -9,5 +9,5 @@ mod sink;
 
 pub use files::{Files, HostFiles, ReadFault, bytes_within};
 pub use meter::{Meter, NoMeter, TerminalMeter};
-pub use names::{push_shown, shown};
+pub use names::{push_shown, shown_name};
 pub use sink::{PutFault, Sink, Stream, WriteFault, write_all_of};

@@ -24,7 +24,7 @@ pub fn push_shown<A: Allocator>(text: &mut String<A>, letter: char) -> Result<()
 
 /// A name as it is shown in a line of text: none of its control characters reaches the terminal, so
 /// that one line stays one.
-pub fn shown(heap: Global, name: &str) -> Result<String, AllocError>
+pub fn shown_name(heap: Global, name: &str) -> Result<String, AllocError>
     ensures { IfOk result (λ text. string_bytes text ≡ shown_name name.now) }
 {
     let mut text = String::new(heap);

@@ -26,9 +26,9 @@ abbrev pub IsDocumentRefusal : List ℕ → StudyError → Type 0
 IsDocumentRefusal bytes error = (fault : DocumentError) × (document_of bytes ≡ Err fault) × (error ≡ told_as fault)
 
 -- the refusal of a file that can't be loaded, with the program's name
-abbrev pub unloaded_as : String Global → ImageError → StudyError
-unloaded_as name images.Memory = Memory
-unloaded_as name error = Image name error
+abbrev pub load_error : String Global → ImageError → StudyError
+load_error name images.Memory = Memory
+load_error name error = Image name error
 
 -- and that of a program whose run faults or doesn't end
 abbrev pub unfit_as : String Global → ProgramError → StudyError

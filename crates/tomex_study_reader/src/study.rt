@@ -4,7 +4,7 @@ ghost use Rattle.std.specs.Prelude.{◌≡◌, ◌≢◌, ◌≤◌, ◌⊎◌, 
 ghost use Rattle.tomex_image.specs.Loading.{placed, refused};
 ghost use Rattle.tomex_config.specs.Grid.{grid_of};
 ghost use Rattle.tomex_study.specs.Study.{costs_of};
-ghost use Rattle.tomex_study_reader.specs.Refusals.{unfit_as, unloaded_as};
+ghost use Rattle.tomex_study_reader.specs.Refusals.{unfit_as, load_error};
 ghost use Rattle.tomex_study_reader.specs.Study.{AreProgramsOf, IsFileRefusal, IsFirstRefusal};
 ghost use Rattle.tomex_study_reader.specs.Study.{IsProgramOf, IsRefusalOfFiles, IsStudyOf, IsStudyRefusal};
 
@@ -17,8 +17,8 @@ use tomex_study::{Program, ProgramError, Study};
 
 /// The refusal of a file that can't be loaded, with the program's name. Out of memory only if
 /// loading ran out of it, or if there was none for the name.
-fn unloaded(name: Result<String, AllocError>, error: ImageError) -> StudyError
-    ensures told { IfOk name (λ name. result ≡ unloaded_as name error) }
+fn load_error(name: Result<String, AllocError>, error: ImageError) -> StudyError
+    ensures told { IfOk name (λ name. result ≡ load_error name error) }
     ensures untold { OnErr name (result ≡ StudyError.Memory) }
 {
     let Ok(name) = name else {
@@ -44,7 +44,7 @@ fn image_of<A: Allocator + Clone>(
 {
     match load(alloc, file, entry.window()) {
         Ok(image) => Ok(image),
-        Err(error) => Err(unloaded(String::from_str(heap, entry.name()), error)),
+        Err(error) => Err(load_error(String::from_str(heap, entry.name()), error)),
     }
 }
 

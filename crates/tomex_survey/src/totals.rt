@@ -40,7 +40,7 @@ fn totals_on_row<'s, A: Allocator + Clone, G: Gate>(
 {
     gate.before(worker, row);
     let config = &study.rows()[row];
-    let known = knowledge.known(config);
+    let known = knowledge.known_totals(config);
     gate.runs(worker, row, count_unknown(study.programs().len(), &known));
     knowledge.learn(config, known)
 }
@@ -65,7 +65,7 @@ fn totals_in_stretch<A: Allocator + Clone, G: Gate>(
 }
 
 /// The totals of all parts, one after another.
-fn joined<A: Allocator>(
+fn join_parts<A: Allocator>(
     alloc: A,
     parts: Vec<Vec<[u64; 8], A>, A>,
 ) -> Result<Vec<[u64; 8], A>, AllocError>
@@ -123,5 +123,5 @@ pub(crate) fn all_totals<
     study.keeps_limits();
     let stretches = stretches(alloc.clone()?, study.rows().len(), workers)?;
     let parts = parts(rt, alloc.clone()?, study, gate, stretches.as_slice())?;
-    joined(alloc, parts)
+    join_parts(alloc, parts)
 }

@@ -12,9 +12,9 @@ use Rattle.tomex_board.specs.Known.{Known}
 use Rattle.tomex_board.specs.Marks.{AreLawful}
 use Rattle.tomex_board.specs.Views.{IsWhole}
 use Rattle.tomex_board.specs.declared.mark.Mark.{Mark}
-use Rattle.tomex_lanes.specs.Lanes.{Dealt, dealt}
+use Rattle.tomex_lanes.specs.Lanes.{Dealt, deal}
 use Rattle.tomex_lanes.specs.Parts.{Equipped, Returned, AreSeated, AreWhole}
-use Rattle.tomex_lanes.proofs.Dealing.{dealt-counts, each_is_dealt}
+use Rattle.tomex_lanes.proofs.Dealing.{deal-counts, each_is_dealt}
 use Rattle.tomex_study.specs.Study.{DesignSpace, IsStudy}
 use Rattle.tomex_row_runs.specs.Cycles.{cycles_on, cycles_of}
 use Rattle.tomex_workers.specs.Plans.{IsPlanOf}
@@ -59,13 +59,13 @@ all_can board count (w ∷ ws) boards hands counts =
 
 -- the workers can start
 pub can_run : (s : DesignSpace) (costs cycles : List ℕ) (board : TableId) (workers : List Equipped) (lanes : List Dealt)
-    (count many : ℕ) → IsPlanOf s costs cycles → count ≡ length s.costs → lanes ≡ dealt many count many
+    (count many : ℕ) → IsPlanOf s costs cycles → count ≡ length s.costs → lanes ≡ deal many count many
     → map (λ (w : Equipped). w.lane) workers ≡ lanes → AreSeated board (map (λ (w : Equipped). w.seat) workers)
     → CanRun s costs cycles board workers
 can_run s costs cycles board workers lanes count many plan long is same seats =
     let count_is : count ≡ length costs = long ∙ ap length plan.its_costs in
     let counts : All (λ (l : Dealt). l.count ≡ count) (map (λ (w : Equipped). w.lane) workers) =
-    subst (All (λ (l : Dealt). l.count ≡ count)) (sym (same ∙ is)) (dealt-counts many count many) in
+    subst (All (λ (l : Dealt). l.count ≡ count)) (sym (same ∙ is)) (deal-counts many count many) in
     record {
       plan = plan;
       all = all_can board (length costs) workers seats.boards seats.hands
@@ -87,7 +87,7 @@ same_lists h parts workers same = sym (flat_map-map h given_by parts)
 -- the parts have all rows and all numbers
 pub parts_whole : (s : DesignSpace) (costs cycles : List ℕ) (board : TableId) (parts : List Returned)
     (workers : List Equipped) (lanes : List Dealt) (count many : ℕ) → IsPlanOf s costs cycles → count ≡ length s.costs
-    → 1 ≤ many → lanes ≡ dealt many count many
+    → 1 ≤ many → lanes ≡ deal many count many
     → map (λ (w : Equipped). w.lane) workers ≡ lanes → AreSeated board (map (λ (w : Equipped). w.seat) workers)
     → map given_by parts ≡ map owed_by workers → AreWhole board (length costs) parts
 parts_whole s costs cycles board parts workers lanes count many plan long some is same seats owed =
@@ -97,7 +97,7 @@ parts_whole s costs cycles board parts workers lanes count many plan long some i
     (map (λ (w : Equipped). w.seat) workers) =
     same_lists (λ o. o.2) parts workers owed
     ∙ sym (flat_map-map (λ (q : Known). q.view.share) (λ (w : Equipped). w.seat) workers) in
-    let rows : flat_map (λ (p : Returned). p.rows) parts ≡ flat_map (λ (l : Dealt). l.rows) (dealt many count many) =
+    let rows : flat_map (λ (p : Returned). p.rows) parts ≡ flat_map (λ (l : Dealt). l.rows) (deal many count many) =
     same_lists (λ o. o.0) parts workers owed
     ∙ (sym (flat_map-map (λ (l : Dealt). l.rows) (λ (w : Equipped). w.lane) workers)
     ∙ ap (flat_map (λ (l : Dealt). l.rows)) (same ∙ is)) in

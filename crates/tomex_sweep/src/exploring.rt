@@ -15,7 +15,7 @@ use std::marker::Brand;
 use std::sync::Wait;
 use std::thread::Threads;
 use tomex_board::{Board, Mark, Plan};
-use tomex_lanes::{deal, seated, settle};
+use tomex_lanes::{deal, seat_workers, settle};
 use tomex_pareto::front;
 use tomex_study::Study;
 use tomex_workers::Gate;
@@ -45,7 +45,7 @@ fn marks_of_workers<
     let costs = study.costs();
     let lanes = deal(alloc.clone()?, workers, costs.len())?;
     let (board, seat) = Board::<J, A>::new(alloc.clone()?, costs)?;
-    let crew = seated(alloc.clone()?, &board, seat, lanes)?;
+    let crew = seat_workers(alloc.clone()?, &board, seat, lanes)?;
     let parts = run_workers(rt, alloc, study, &board, crew, gate, stacks)?;
     Ok(settle(board, parts))
 }

@@ -10,8 +10,8 @@ use Rattle.tomex_tags.specs.declared.wait_sets.WaitSets.{WaitSets}
 use Rattle.tomex_tags.specs.declared.station.Station.{Station}
 use Rattle.tomex_timing.specs.declared.tables.Field.{Field}
 use Rattle.tomex_timing.specs.declared.tables.Field.TheVariants.{Value, Waits, Unread}
-use Rattle.tomex_tags.specs.Contents.{hears, is_memory_op, is_ready, lacks_address, started, with_address}
-use Rattle.tomex_tags.specs.Operands.{heard, is_there}
+use Rattle.tomex_tags.specs.Contents.{hears, is_memory_op, is_ready, lacks_address, with_start, with_address}
+use Rattle.tomex_tags.specs.Operands.{field_after, is_there}
 use Rattle.tomex_tags.specs.Pools.{AreBusy}
 use Rattle.tomex_tags.specs.WaitSets.{AreWaitSets, HasEntered, IsWithMember, KeepsOthers, IsSetOf, waits, writes}
 
@@ -55,13 +55,13 @@ kept test slots old new x v w l of at same e y m = elim (cases_Bool (x == y)) [
 
 pub start_entered : (slots : List (Option Station)) (x finish value : ℕ) (s : Station) (old new : WaitSets) → x < 128
     → AreWaitSets slots old → slice_index_or slots x None ≡ Some s → IsWithMember x false old.waiting new.waiting
-    → KeepsOthers old new → HasEntered x (Some (started finish value s)) old new
+    → KeepsOthers old new → HasEntered x (Some (with_start finish value s)) old new
 start_entered slots x finish value s old new l wait_sets at entered same = record {
-  lacking = kept lacks_address slots old.lacking new.lacking x (Some (started finish value s)) (Some s) l
+  lacking = kept lacks_address slots old.lacking new.lacking x (Some (with_start finish value s)) (Some s) l
       wait_sets.lacking at refl same.lacking;
   waiting = entered;
-  writing = kept writes slots old.writing new.writing x (Some (started finish value s)) (Some s) l wait_sets.writing at
-      refl same.writing;
+  writing = kept writes slots old.writing new.writing x (Some (with_start finish value s)) (Some s) l
+      wait_sets.writing at refl same.writing;
 }
 
 address_writes : (s : Station) → writes (Some (with_address s)) ≡ writes (Some s)
@@ -105,7 +105,7 @@ hear_entered slots x sent o old new l wait_sets at entered same = record {
     writes_still (Some s) = refl
 
 -- an operand that is there receives nothing
-still_there : (sent : ℕ → Option ℕ) (f : Field) → is_there f ≡ true → is_there (heard sent f) ≡ true
+still_there : (sent : ℕ → Option ℕ) (f : Field) → is_there f ≡ true → is_there (field_after sent f) ≡ true
 still_there sent (Value v) e = refl
 still_there sent Unread e = refl
 still_there sent (Waits tag) e = absurd (cc)

@@ -11,7 +11,7 @@ use Rattle.tomex_timing.specs.declared.tables.Field.TheVariants.{Value, Waits, U
 use Rattle.tomex_sets.proofs.Members.{none_rest}
 use Rattle.tomex_tags.specs.Contents.{hears}
 use Rattle.tomex_tags.specs.Listeners.{awaits}
-use Rattle.tomex_tags.specs.Operands.{comes_from, heard, only}
+use Rattle.tomex_tags.specs.Operands.{comes_from, field_after, only}
 use Rattle.tomex_tags.specs.Places.{place_of_tag}
 use Rattle.tomex_tags.proofs.Listening.{hears_none}
 use Rattle.tomex_tags.specs.Pools.{AreBusy, Pools}
@@ -26,7 +26,7 @@ pub record AreHearing (sent : ℕ → Option ℕ) (rest : ℕ) (old new : Pools)
   pub issue_numbers : new.issue_numbers ≡ old.issue_numbers
 
 -- an operand that isn't to come from a place is unchanged by what it sends
-there : (from value : ℕ) (f : Field) → comes_from from f ≡ false → heard (only from (Some value)) f ≡ f
+there : (from value : ℕ) (f : Field) → comes_from from f ≡ false → field_after (only from (Some value)) f ≡ f
 there from value (Value v) e = refl
 there from value Unread e = refl
 there from value (Waits tag) e = elim (cases_Bool (from == place_of_tag tag)) [

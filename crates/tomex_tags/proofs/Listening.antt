@@ -13,7 +13,7 @@ use Rattle.tomex_timing.specs.declared.tables.Tag.{Tag}
 use Rattle.tomex_tags.specs.declared.station.Station.{Station}
 use Rattle.tomex_tags.specs.Contents.{hears, with_address}
 use Rattle.tomex_tags.specs.Listeners.{AreListening, IsListening, awaits}
-use Rattle.tomex_tags.specs.Operands.{comes_from, heard, only}
+use Rattle.tomex_tags.specs.Operands.{comes_from, field_after, only}
 use Rattle.tomex_tags.specs.Places.{place_of_tag, pool_at}
 use Rattle.tomex_tags.specs.Pools.{AreOwn, IsOwn}
 
@@ -86,7 +86,8 @@ same_listens slots x s t sets l so here less =
     record { count = refl; kept = λ y z k e. e; added = λ y k e. so.each x y l k (ap (awaits y) here ∙ less y e) }
 
 -- an operand after a result comes from where it came before, or is there
-heard_less : (sent : ℕ → Option ℕ) (y : ℕ) (f : Field) → comes_from y (heard sent f) ≡ true → comes_from y f ≡ true
+heard_less : (sent : ℕ → Option ℕ) (y : ℕ) (f : Field) → comes_from y (field_after sent f) ≡ true
+    → comes_from y f ≡ true
 heard_less sent y (Value v) e = e
 heard_less sent y Unread e = e
 heard_less sent y (Waits tag) e = of (sent (place_of_tag tag)) refl
@@ -102,8 +103,8 @@ or_less false b false d f g e = g e
 
 pub hears_less : (sent : ℕ → Option ℕ) (s : Station) (y : ℕ) → awaits y (Some (hears sent s)) ≡ true
     → awaits y (Some s) ≡ true
-hears_less sent s y e = or_less (comes_from y (heard sent s.j)) (comes_from y (heard sent s.k)) (comes_from y s.j)
-    (comes_from y s.k) (heard_less sent y s.j) (heard_less sent y s.k) e
+hears_less sent s y e = or_less (comes_from y (field_after sent s.j)) (comes_from y (field_after sent s.k))
+    (comes_from y s.j) (comes_from y s.k) (heard_less sent y s.j) (heard_less sent y s.k) e
 
 pub address_same : (s : Station) (y : ℕ) → awaits y (Some (with_address s)) ≡ true → awaits y (Some s) ≡ true
 address_same s y e = of s.j refl
@@ -122,7 +123,7 @@ address_own x s own = of s.j refl
     of Unread g = rw g own
 
 -- after a place has sent, nothing comes from it
-heard_none : (y value : ℕ) (f : Field) → comes_from y (heard (only y (Some value)) f) ≡ false
+heard_none : (y value : ℕ) (f : Field) → comes_from y (field_after (only y (Some value)) f) ≡ false
 heard_none y value (Value v) = refl
 heard_none y value Unread = refl
 heard_none y value (Waits tag) = elim (cases_Bool (y == place_of_tag tag)) [

@@ -14,7 +14,7 @@ use Rattle.tomex_timing.specs.declared.tables.Field.{Field}
 use Rattle.tomex_timing.specs.declared.tables.Field.TheVariants.{Value, Waits, Unread}
 use Rattle.tomex_timing.specs.declared.tables.Tag.{Tag}
 use Rattle.tomex_tags.specs.declared.station.Station.{Station}
-use Rattle.tomex_tags.specs.Operands.{heard, is_there, value_in}
+use Rattle.tomex_tags.specs.Operands.{field_after, is_there, value_in}
 use Rattle.tomex_tags.specs.Places.{tag_at_place}
 
 -- the station in a place: none if it is free
@@ -22,8 +22,8 @@ abbrev pub slot : List (Option Station) → ℕ → Option Station
 slot slots place = slice_index_or slots place None
 
 -- stations after the one in a place has changed, if there is one
-abbrev pub changed : (Station → Station) → ℕ → List (Option Station) → List (Option Station)
-changed change place slots = slice_set slots place (option_map change (slot slots place))
+abbrev pub with_change : (Station → Station) → ℕ → List (Option Station) → List (Option Station)
+with_change change place slots = slice_set slots place (option_map change (slot slots place))
 
 -- loads and stores
 abbrev pub is_memory_op : Op → Bool
@@ -55,8 +55,8 @@ abbrev pub is_waiting : Station → Bool
 is_waiting s = is_none s.finish && is_ready s && (not (is_memory_op s.instr.op) || is_some s.address)
 
 -- a station whose operation has started: the cycle in which the unit is done, and the result
-abbrev pub started : ℕ → ℕ → Station → Station
-started finish value s = record s { finish = Some finish; value = value }
+abbrev pub with_start : ℕ → ℕ → Station → Station
+with_start finish value s = record s { finish = Some finish; value = value }
 
 abbrev pub address_from : Station → Field → Station
 address_from s (Value base) = record s { address = Some (sum base s.instr.imm) }
@@ -69,7 +69,7 @@ with_address s = address_from s s.j
 
 -- a station after the values that are sent, by place
 abbrev pub hears : (ℕ → Option ℕ) → Station → Station
-hears sent s = record s { j = heard sent s.j; k = heard sent s.k }
+hears sent s = record s { j = field_after sent s.j; k = field_after sent s.k }
 
 -- A: the immediate before the address is known
 abbrev pub a_from : Bool → Option ℕ → ℕ → Option ℕ
@@ -92,5 +92,5 @@ abbrev pub shown_at : List (Option Station) → ℕ → Option Busy
 shown_at slots place = option_map (busy_from (tag_at_place place)) (slot slots place)
 
 -- the station that an instruction's issue fills
-abbrev pub issued : Instr → ℕ → Field → Field → Station
-issued instr pc j k = record { instr = instr; pc = pc; j = j; k = k; address = None; finish = None; value = 0 }
+abbrev pub new_station : Instr → ℕ → Field → Field → Station
+new_station instr pc j k = record { instr = instr; pc = pc; j = j; k = k; address = None; finish = None; value = 0 }

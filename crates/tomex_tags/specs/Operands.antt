@@ -17,15 +17,15 @@ value_in (Value v) = v
 value_in (Waits tag) = 0
 value_in Unread = 0
 
-abbrev pub taken : Option ℕ → Tag → Field
-taken None tag = Waits tag
-taken (Some v) tag = Value v
+abbrev pub value_or_tag : Option ℕ → Tag → Field
+value_or_tag None tag = Waits tag
+value_or_tag (Some v) tag = Value v
 
 -- an operand after the values that are sent, by place
-abbrev pub heard : (ℕ → Option ℕ) → Field → Field
-heard sent (Waits tag) = taken (sent (place_of_tag tag)) tag
-heard sent (Value v) = Value v
-heard sent Unread = Unread
+abbrev pub field_after : (ℕ → Option ℕ) → Field → Field
+field_after sent (Waits tag) = value_or_tag (sent (place_of_tag tag)) tag
+field_after sent (Value v) = Value v
+field_after sent Unread = Unread
 
 -- only place x sends
 abbrev pub only : ℕ → Option ℕ → ℕ → Option ℕ

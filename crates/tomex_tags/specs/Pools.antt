@@ -7,7 +7,7 @@ use Rattle.tomex_rvdec.specs.Operands.{pool_of}
 use Rattle.tomex_rvdec.specs.Parts.{place_of_pool}
 use Rattle.tomex_rvdec.specs.declared.pool.PoolId.{PoolId}
 use Rattle.tomex_tags.specs.declared.station.Station.{Station}
-use Rattle.tomex_tags.specs.Contents.{changed, hears, slot}
+use Rattle.tomex_tags.specs.Contents.{with_change, hears, slot}
 use Rattle.tomex_tags.specs.declared.wait_sets.WaitSets.{WaitSets}
 use Rattle.tomex_tags.specs.Listeners.{AreListening}
 use Rattle.tomex_tags.specs.Places.{pool_at}
@@ -61,7 +61,7 @@ is_open slots pool n = is_none (slot slots (16 * place_of_pool pool + n))
 
 -- the station in a place changes, if there is one, and nothing else does
 pub record ChangesStation (place : ℕ) (change : Station → Station) (old new : Pools) : Type 0 where
-  pub slots : new.slots ≡ changed change place old.slots
+  pub slots : new.slots ≡ with_change change place old.slots
   pub busy : new.busy ≡ old.busy
   pub issue_numbers : new.issue_numbers ≡ old.issue_numbers
 

@@ -9,7 +9,7 @@ use Rattle.tomex_timing.specs.declared.tables.Field.TheVariants.{Unread}
 use Rattle.tomex_timing.specs.declared.tables.Tag.{Tag}
 use Rattle.tomex_tags.specs.declared.register_status.RegStatus.{RegStatus}
 use Rattle.tomex_tags.specs.declared.station.Station.{Station}
-use Rattle.tomex_tags.specs.Contents.{issued}
+use Rattle.tomex_tags.specs.Contents.{new_station}
 use Rattle.tomex_tags.specs.Places.{place_at}
 
 -- the operand that the registers give: the value if Qi is empty, else the tag that Qi names
@@ -18,9 +18,9 @@ operand_in registers None = Unread
 operand_in registers (Some r) = field_from (slice_index registers.values r) (slice_index_or registers.tags r None)
 
 -- the station that an instruction's issue fills: its operands are read from these registers
-abbrev pub issued_from : RegStatus → Instr → ℕ → Station
-issued_from registers instr pc =
-    issued instr pc (operand_in registers (sources_of instr).j) (operand_in registers (sources_of instr).k)
+abbrev pub station_from : RegStatus → Instr → ℕ → Station
+station_from registers instr pc =
+    new_station instr pc (operand_in registers (sources_of instr).j) (operand_in registers (sources_of instr).k)
 
 -- the register status once a destination waits for a station
 abbrev pub tags_with : List (Option Tag) → Option ℕ → Tag → List (Option Tag)
@@ -33,8 +33,8 @@ names registers r x = is_number (place_at (slice_index_or registers.tags r None)
 
 -- the registers after a place sends a value: if the register's Qi still names the place, it is written and Qi is
 -- emptied
-abbrev pub received : RegStatus → ℕ → ℕ → ℕ → RegStatus
-received registers r x value =
+abbrev pub registers_after : RegStatus → ℕ → ℕ → ℕ → RegStatus
+registers_after registers r x value =
     if names registers r x
     then record { values = slice_set registers.values r value; tags = slice_set registers.tags r None }
     else registers

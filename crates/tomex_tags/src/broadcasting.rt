@@ -3,7 +3,7 @@
 ghost use Rattle.std.specs.Prelude.{◌≡◌, ◌<◌, Some};
 ghost use Rattle.tomex_tags.specs.Operands.{only};
 ghost use Rattle.tomex_tags.specs.Pools.{HaveHeard};
-ghost use Rattle.tomex_tags.specs.Registers.{received};
+ghost use Rattle.tomex_tags.specs.Registers.{registers_after};
 
 use crate::pools::Pools;
 use crate::register_status::RegStatus;
@@ -22,7 +22,7 @@ pub fn broadcast(
 )
     requires { register < 32 }
     ensures stations { HaveHeard (only place (Some value)) pools.old pools.new }
-    ensures registers { registers.new ≡ received registers.old register place value }
+    ensures registers { registers.new ≡ registers_after registers.old register place value }
 {
     pools.hear(place, value);
     registers.receive(register, place, value);

@@ -5,7 +5,7 @@ ghost use Rattle.tomex_rvdec.specs.Operands.{sources_of, dest_of, pool_of};
 ghost use Rattle.tomex_sets.specs.Sets.{IsWith};
 ghost use Rattle.tomex_tags.specs.Places.{place_of_tag};
 ghost use Rattle.tomex_tags.specs.Contents.{slot};
-ghost use Rattle.tomex_tags.specs.Registers.{issued_from, tags_with};
+ghost use Rattle.tomex_tags.specs.Registers.{station_from, tags_with};
 
 use crate::places::place;
 use crate::pools::Pools;
@@ -31,7 +31,7 @@ pub fn issue(
     requires own { pool_of instr.op ≡ Some tag.pool }
     requires open { slot pools.old.slots (place_of_tag tag) ≡ None }
     ensures slots { pools.new.slots
-        ≡ slice_set pools.old.slots (place_of_tag tag) (Some (issued_from registers.old instr pc)) }
+        ≡ slice_set pools.old.slots (place_of_tag tag) (Some (station_from registers.old instr pc)) }
     ensures busy { IsWith pools.old.busy (place_of_tag tag) pools.new.busy }
     ensures issue_numbers { pools.new.issue_numbers
         ≡ slice_set pools.old.issue_numbers (place_of_tag tag) issue_number }

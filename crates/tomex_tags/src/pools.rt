@@ -6,7 +6,7 @@ ghost use Rattle.tomex_timing.specs.Recurrence.{IsLeast};
 ghost use Rattle.tomex_sets.specs.Sets.{IsWith, IsWithout, has};
 ghost use Rattle.tomex_rvdec.specs.Operands.{dest_of, pool_of, unit_of, unit_of_pool};
 ghost use Rattle.tomex_tags.specs.Places.{pool_at};
-ghost use Rattle.tomex_tags.specs.Contents.{hears, lacks_address, shown_at, slot, started, with_address};
+ghost use Rattle.tomex_tags.specs.Contents.{hears, lacks_address, shown_at, slot, with_start, with_address};
 ghost use Rattle.tomex_tags.specs.Listeners.{awaits};
 ghost use Rattle.tomex_tags.specs.Operands.{only};
 ghost use Rattle.tomex_tags.specs.Pools.{AreBusy, AreOwn, ChangesStation, HaveHeard, is_open};
@@ -109,7 +109,7 @@ impl Pools {
 
     /// The places of the loads and stores whose address isn't computed yet.
     #[inline(always)]
-    pub fn lacking(&self) -> u128
+    pub fn places_without_address(&self) -> u128
         ensures set { IsSetOf lacks_address self.now.slots result }
         ensures busy { AreBusy self.now.slots self.now.busy self.now.issue_numbers }
     {
@@ -118,7 +118,7 @@ impl Pools {
 
     /// The places of the loads and stores whose address is computed.
     #[inline(always)]
-    pub fn addressed(&self) -> u128
+    pub fn places_with_address(&self) -> u128
         ensures set { IsSetOf has_address self.now.slots result }
         ensures busy { AreBusy self.now.slots self.now.busy self.now.issue_numbers }
     {
@@ -139,7 +139,7 @@ impl Pools {
 
     /// The places whose stations have a result to send: their instructions write a register.
     #[inline(always)]
-    pub fn writing(&self) -> u128
+    pub fn writers(&self) -> u128
         ensures set { IsSetOf writes self.now.slots result }
         ensures busy { AreBusy self.now.slots self.now.busy self.now.issue_numbers }
     {
@@ -148,7 +148,7 @@ impl Pools {
 
     /// The places whose operations wait only for a unit and for older accesses.
     #[inline(always)]
-    pub fn waiting(&self) -> u128
+    pub fn waiters(&self) -> u128
         ensures set { IsSetOf waits self.now.slots result }
         ensures busy { AreBusy self.now.slots self.now.busy self.now.issue_numbers }
         ensures own { AreOwn self.now.slots }
@@ -156,13 +156,13 @@ impl Pools {
         self.wait_sets.waiting
     }
 
-    /// Of the places of `waiting`, those whose operations this kind of unit runs.
+    /// Of `waiters`, those whose operations this kind of unit runs.
     #[inline(always)]
     pub fn waiting_for(&self, unit: UnitId) -> u128
         ensures set { IsSetOf (waits_for unit) self.now.slots result }
         ensures busy { AreBusy self.now.slots self.now.busy self.now.issue_numbers }
     {
-        both(self.waiting(), served_by(unit))
+        both(self.waiters(), served_by(unit))
     }
 
     /// For each place, how many instructions had issued before the one there.
@@ -189,7 +189,7 @@ impl Pools {
     #[inline(always)]
     pub fn start(&mut self, place: usize, finish: u64, value: u32)
         requires { IsSome (slot self.old.slots place) }
-        ensures { ChangesStation place (started finish value) self.old self.new }
+        ensures { ChangesStation place (with_start finish value) self.old self.new }
     {
         if place < 96 {
             self.pools[place / 16].start(place % 16, finish, value);
@@ -246,7 +246,7 @@ impl Pools {
     }
 
     /// The tables' entry for each place.
-    pub fn shown(&self) -> [Option<Busy>; 96]
+    pub fn busy_entries(&self) -> [Option<Busy>; 96]
         ensures count { length result ≡ 96 }
         ensures each { (x : ℕ) → x < 96 → slice_index_or result x None ≡ shown_at self.now.slots x }
     {
@@ -261,7 +261,7 @@ impl Pools {
         ensures { result ≡ shown_at self.now.slots place }
     {
         match self.at(place) {
-            Some(station) => Some(station.shown(tag(place))),
+            Some(station) => Some(station.busy_entry(tag(place))),
             None => None,
         }
     }

@@ -3,7 +3,7 @@
 ghost use Rattle.std.specs.Prelude.{◌≡◌, ◌<◌, None, IfSome, replicate, slice_set};
 ghost use Rattle.tomex_steps.specs.Steps.{is_number};
 ghost use Rattle.tomex_tags.specs.Places.{place_at};
-ghost use Rattle.tomex_tags.specs.Registers.{operand_in, received, tags_with};
+ghost use Rattle.tomex_tags.specs.Registers.{operand_in, registers_after, tags_with};
 
 use crate::places::place;
 use tomex_timing::{Field, Tag};
@@ -71,7 +71,7 @@ impl RegStatus {
     #[inline(always)]
     pub(crate) fn receive(&mut self, register: u8, from: usize, value: u32)
         requires { register < 32 }
-        ensures { self.new ≡ received self.old register from value }
+        ensures { self.new ≡ registers_after self.old register from value }
     {
         let register = register as usize;
         if names(self.tags[register], from) {

@@ -1,7 +1,7 @@
 //! A busy reservation station.
 
 ghost use Rattle.std.specs.Prelude.{◌≡◌, Some};
-ghost use Rattle.tomex_tags.specs.Operands.{is_there, value_in, heard, only};
+ghost use Rattle.tomex_tags.specs.Operands.{is_there, value_in, field_after, only};
 ghost use Rattle.tomex_tags.specs.Contents.{bytes_in, busy_from, is_memory_op, is_ready};
 ghost use Rattle.tomex_tags.specs.Contents.{is_waiting, lacks_address, step_in};
 
@@ -52,8 +52,8 @@ fn value(field: Field) -> u32
 
 /// The operand after a place has sent a value.
 #[inline(always)]
-pub(crate) fn heard(field: Field, from: usize, value: u32) -> Field
-    ensures { result ≡ heard (only from (Some value)) field }
+pub(crate) fn field_after(field: Field, from: usize, value: u32) -> Field
+    ensures { result ≡ field_after (only from (Some value)) field }
 {
     match field {
         Field::Waits(tag) => {
@@ -136,7 +136,7 @@ impl Station {
     }
 
     /// The tables' entry for it.
-    pub fn shown(&self, tag: Tag) -> Busy
+    pub fn busy_entry(&self, tag: Tag) -> Busy
         ensures { result ≡ busy_from tag self.now }
     {
         let a = if self.is_memory() {

@@ -1,11 +1,11 @@
 //! The reservation stations of one pool.
 
 ghost use Rattle.std.specs.Prelude.{◌≡◌, ◌<◌, None, Some, option_map, replicate, slice_set};
-ghost use Rattle.tomex_tags.specs.Contents.{changed, hears, slot, started, with_address};
+ghost use Rattle.tomex_tags.specs.Contents.{with_change, hears, slot, with_start, with_address};
 ghost use Rattle.tomex_tags.specs.Operands.{only};
 ghost use Rattle.tomex_tags.specs.WaitSets.{waits};
 
-use crate::station::{Station, heard};
+use crate::station::{Station, field_after};
 use arrayvec::ArrayVec;
 use std::marker::Model;
 use tomex_timing::Field;
@@ -59,7 +59,7 @@ impl Stations {
     #[inline(always)]
     pub fn address(&mut self, number: usize)
         requires { number < 16 }
-        ensures { self.new ≡ changed with_address number self.old }
+        ensures { self.new ≡ with_change with_address number self.old }
     {
         if let Some(station) = &mut self.stations[number] {
             if let Field::Value(base) = station.j {
@@ -73,13 +73,13 @@ impl Stations {
     #[inline(always)]
     pub fn hear(&mut self, number: usize, from: usize, value: u32) -> bool
         requires { number < 16 }
-        ensures heard { self.new ≡ changed (hears (only from (Some value))) number self.old }
+        ensures heard { self.new ≡ with_change (hears (only from (Some value))) number self.old }
         ensures waits { result
             ≡ waits (option_map (hears (only from (Some value))) (slot self.old number)) }
     {
         if let Some(station) = &mut self.stations[number] {
-            station.j = heard(station.j, from, value);
-            station.k = heard(station.k, from, value);
+            station.j = field_after(station.j, from, value);
+            station.k = field_after(station.k, from, value);
             return station.is_waiting();
         }
         false
@@ -89,7 +89,7 @@ impl Stations {
     #[inline(always)]
     pub fn start(&mut self, number: usize, finish: u64, value: u32)
         requires { number < 16 }
-        ensures { self.new ≡ changed (started finish value) number self.old }
+        ensures { self.new ≡ with_change (with_start finish value) number self.old }
     {
         if let Some(station) = &mut self.stations[number] {
             station.finish = Some(finish);

@@ -7,7 +7,7 @@ use Rattle.std.proofs.lemmas.List.{length-reverse}
 use Rattle.tomex_image.specs.Image.{Loaded, IsLoaded}
 use Rattle.tomex_rvexec.specs.declared.outcome.EndKind.{EndKind}
 use Rattle.tomex_steps.specs.declared.step.Step.{Step}
-use Rattle.tomex_rvexec.specs.History.{history, moved, state_after, step_after}
+use Rattle.tomex_rvexec.specs.History.{history, next_state, state_after, step_after}
 use Rattle.tomex_rvexec.specs.Machine.{State, Outcome, Ends, step_of}
 use Rattle.tomex_rvexec.specs.Run.{EndsWithin, RunEnds, start_of}
 use Rattle.tomex_rvexec.specs.Trace.{onto, steps_from}
@@ -16,7 +16,7 @@ use Rattle.tomex_rvexec.proofs.FlowRuns.{run_leaves, run_state}
 use Rattle.tomex_study.specs.Program.{IsProgram, Workload}
 use Rattle.tomex_texts.specs.Ends.{count_of, last_state}
 
-stays : (o : Outcome) (x : State) (kind : EndKind) → o ≡ Ends kind → moved o x ≡ x
+stays : (o : Outcome) (x : State) (kind : EndKind) → o ≡ Ends kind → next_state o x ≡ x
 stays o x kind e = rw e refl
 
 -- after its end a run stays as it is

@@ -64,9 +64,9 @@ row_fields wide r config =
     ++ (flat_map (unit_fields config) all_units ++ (decimal config.buses ∷ if_wide wide (decimal config.width))))
 
 -- texts joined by one space, or `-` if there is none
-abbrev pub joined : List (List ℕ) → List ℕ
-joined [] = codes "-"
-joined (x ∷ xs) = x ++ flat_map (λ y. 32 ∷ y) xs
+abbrev pub join_texts : List (List ℕ) → List ℕ
+join_texts [] = codes "-"
+join_texts (x ∷ xs) = x ++ flat_map (λ y. 32 ∷ y) xs
 
 -- the registers from this one on that aren't zero, as `x3=00000023`
 abbrev pub nonzero_from : ℕ → List ℕ → List (List ℕ)
@@ -93,8 +93,8 @@ watch_texts (range ∷ ranges) bytes =
 -- the fields of the end of a program that watches these ranges
 abbrev pub end_fields : {A : Type 0} → List WatchRange → ProgramEnd A → List (List ℕ)
 end_fields ranges e =
-    decimal e.steps ∷ decimal e.total ∷ name_of_end e.kind ∷ joined (nonzero_from 0 e.regs)
-    ∷ joined (watch_texts ranges e.watched.items) ∷ []
+    decimal e.steps ∷ decimal e.total ∷ name_of_end e.kind ∷ join_texts (nonzero_from 0 e.regs)
+    ∷ join_texts (watch_texts ranges e.watched.items) ∷ []
 
 -- the fields of a program on a configuration
 unfoldable pub program_fields : Bool → Configuration → Workload → List (List ℕ)
@@ -103,7 +103,7 @@ program_fields wide config p =
     p.name
     ∷ (if_wide wide (decimal p.weight)
     ++ (decimal (count_of p.image) ∷ decimal (total config p.image) ∷ end_text (step_of s)
-    ∷ joined (nonzero_from 0 s.regs) ∷ joined (map (watch_text p.image.window.base s.memory) p.watch) ∷ []))
+    ∷ join_texts (nonzero_from 0 s.regs) ∷ join_texts (map (watch_text p.image.window.base s.memory) p.watch) ∷ []))
 
 -- a program's record on a front row
 abbrev pub program_record : Bool → FrontRow → Configuration → Workload → List ℕ

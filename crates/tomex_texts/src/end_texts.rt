@@ -5,15 +5,15 @@ ghost use Rattle.std.specs.List.{flat_map};
 ghost use Rattle.std.specs.Fmt.{decimal};
 ghost use Rattle.tomex_rvexec.specs.Texts.{hex2, hex8};
 ghost use Rattle.tomex_study.specs.Watch.{watched_bytes};
-ghost use Rattle.tomex_texts.specs.FrontReport.{joined, nonzero_from, watch_texts};
+ghost use Rattle.tomex_texts.specs.FrontReport.{join_texts, nonzero_from, watch_texts};
 
 use std::alloc::{AllocError, Global};
 use std::fmt::Write;
 use tomex_study::WatchRange;
 
 /// Texts joined by one space, or `-` if there is none.
-fn joined(heap: Global, texts: &[String]) -> Result<String, AllocError>
-    ensures { IfOk result (λ s. string_bytes s ≡ joined (map string_bytes texts.now)) }
+fn join_texts(heap: Global, texts: &[String]) -> Result<String, AllocError>
+    ensures { IfOk result (λ s. string_bytes s ≡ join_texts (map string_bytes texts.now)) }
 {
     let mut text = String::new(heap);
     let Some((first, rest)) = texts.split_first() else {
@@ -51,10 +51,10 @@ fn register_texts(heap: Global, registers: &[u32]) -> Result<Vec<String>, AllocE
 
 /// The registers that aren't zero, as `x3=00000023`.
 pub fn registers_text(heap: Global, registers: &[u32]) -> Result<String, AllocError>
-    ensures { IfOk result (λ s. string_bytes s ≡ joined (nonzero_from 0 registers.now)) }
+    ensures { IfOk result (λ s. string_bytes s ≡ join_texts (nonzero_from 0 registers.now)) }
 {
     let texts = register_texts(heap, registers)?;
-    joined(heap, texts.as_slice())
+    join_texts(heap, texts.as_slice())
 }
 
 /// A range and its bytes.
@@ -88,8 +88,8 @@ fn range_texts(heap: Global, ranges: &[WatchRange], bytes: &[u8]) -> Result<Vec<
 /// The watched ranges, as `00000100:00030000`, from their bytes, range by range.
 pub fn watch_text(heap: Global, ranges: &[WatchRange], bytes: &[u8]) -> Result<String, AllocError>
     requires { length bytes.now ≡ watched_bytes ranges.now }
-    ensures { IfOk result (λ s. string_bytes s ≡ joined (watch_texts ranges.now bytes.now)) }
+    ensures { IfOk result (λ s. string_bytes s ≡ join_texts (watch_texts ranges.now bytes.now)) }
 {
     let texts = range_texts(heap, ranges, bytes)?;
-    joined(heap, texts.as_slice())
+    join_texts(heap, texts.as_slice())
 }

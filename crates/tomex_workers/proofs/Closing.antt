@@ -12,7 +12,7 @@ use Rattle.tomex_board.specs.Views.{Has, KnowsNotOpen, Grows, without}
 use Rattle.tomex_board.proofs.Closes.{grows_on}
 use Rattle.tomex_config.specs.Configuration.{Configuration}
 use Rattle.tomex_study.specs.Study.{DesignSpace, IsStudy}
-use Rattle.tomex_row_runs.specs.Cycles.{cycles_of, plain_on, totals_on, weighed}
+use Rattle.tomex_row_runs.specs.Cycles.{cycles_of, plain_on, totals_on, weighted_cycles}
 use Rattle.tomex_row_runs.specs.Knowledge.{AreTotalsOn}
 use Rattle.tomex_row_runs.specs.Looks.{IsKnownRow, LastLookSeesMost, last_look}
 use Rattle.tomex_row_runs.specs.declared.known_row.KnownRow.{KnownRow}
@@ -83,7 +83,7 @@ known_made s row item known law at is =
     (if_looked (nat_lt 1024 (plain_on s.programs item)) refl)
   where
     if_looked : (b : Bool) → nat_lt 1024 (plain_on s.programs item) ≡ b
-        → IfSome (cond b (Some (weighed s.programs item (last_look (plain_on s.programs item)))) None)
+        → IfSome (cond b (Some (weighted_cycles s.programs item (last_look (plain_on s.programs item)))) None)
         (λ n. n ≤ get_or (cycles_of s) row 0)
     if_looked true looks =
         let more : 1024 < plain_on s.programs item = ltb-true 1024 (plain_on s.programs item) looks in

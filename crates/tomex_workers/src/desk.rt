@@ -99,7 +99,7 @@ impl<'s, J: Plan, A: Allocator + Clone, G: Gate> Desk<'s, J, A, G> {
     {
         self.study.keeps_limits();
         let config = &self.study.rows()[row];
-        let known = knowledge.known(config);
+        let known = knowledge.known_totals(config);
         let unknown = count_unknown(self.study.programs().len(), &known);
         self.gate.runs(self.worker, row, unknown);
         let totals = knowledge.learn(config, known)?;

@@ -10,8 +10,8 @@ abbrev pub sign_of : ℕ → ℕ → List ℕ
 sign_of a b = if nat_lt a b then codes "+" else codes "-"
 
 -- b - a as a text: `+6`, `-9426`, `0`
-unfoldable pub signed : ℕ → ℕ → List ℕ
-signed a b = if a == b then codes "0" else sign_of a b ++ decimal (distance a b)
+unfoldable pub signed_difference : ℕ → ℕ → List ℕ
+signed_difference a b = if a == b then codes "0" else sign_of a b ++ decimal (distance a b)
 
 -- a number of tenths, with one digit after the point
 unfoldable pub tenths : ℕ → List ℕ

@@ -18,7 +18,7 @@ use Rattle.tomex_timing.specs.Needs.{count_of}
 use Rattle.tomex_timing.specs.declared.part.Part.{Part}
 use Rattle.tomex_timing.specs.declared.part.Part.TheVariants.{Stations, Units, Buses, Width}
 use Rattle.tomex_worth.specs.Changes.{changes_of, config_at}
-use Rattle.tomex_worth.specs.Differences.{distance, percent, signed}
+use Rattle.tomex_worth.specs.Differences.{distance, percent, signed_difference}
 use Rattle.tomex_worth.specs.declared.changes.Change.{Change}
 use Rattle.tomex_worth.specs.declared.heading.Heading.{Heading}
 use Rattle.tomex_worth.specs.declared.heading.Heading.TheVariants as headings
@@ -73,8 +73,8 @@ text_under s own headings.Part c = name_of_list c.part
 text_under s own headings.From c = entry_text (config_at s own.row) c.part
 text_under s own headings.To c = entry_text (config_at s c.row.row) c.part
 text_under s own headings.Row c = decimal c.row.row
-text_under s own headings.Cost c = signed own.cost c.row.cost
-text_under s own headings.Cycles c = signed own.cycles c.row.cycles
+text_under s own headings.Cost c = signed_difference own.cost c.row.cost
+text_under s own headings.Cycles c = signed_difference own.cycles c.row.cycles
 text_under s own headings.Percent c = percent own.cycles c.row.cycles
 text_under s own headings.Rate c = rate_text own c.row
 text_under s own headings.Front c = front_text s c.row
@@ -98,7 +98,7 @@ unfoldable pub program_column : DesignSpace → FrontRow → Workload → TableC
 program_column s own p = record {
   name = p.name;
   entries = decimal (total_at s p own.row)
-      ∷ map (λ c. signed (total_at s p own.row) (total_at s p c.row.row)) (changes_of s own);
+      ∷ map (λ c. signed_difference (total_at s p own.row) (total_at s p c.row.row)) (changes_of s own);
 }
 
 -- a column for each program if there are several

@@ -2,7 +2,7 @@
 
 ghost use Rattle.std.specs.Prelude.{◌≡◌, ◌++◌, IfOk, OnOk, string_bytes};
 ghost use Rattle.tomex_pareto.specs.Front.{dominates};
-ghost use Rattle.tomex_worth.specs.Differences.{distance, percent, sign_of, signed, tenths};
+ghost use Rattle.tomex_worth.specs.Differences.{distance, percent, sign_of, signed_difference, tenths};
 ghost use Rattle.tomex_worth.specs.Worth.{rate_text};
 
 use std::alloc::{AllocError, Allocator, Global};
@@ -18,9 +18,9 @@ fn sign_of(a: u64, b: u64) -> &'static str
 }
 
 /// Adds `b - a`, as in `+6`, `-9426` and `0`.
-#[tactic(auto, unfolding(crate::specs::Differences::signed))]
+#[tactic(auto, unfolding(crate::specs::Differences::signed_difference))]
 pub fn push_signed<A: Allocator>(text: &mut String<A>, a: u64, b: u64) -> Result<(), AllocError>
-    ensures { OnOk result (string_bytes text.new ≡ string_bytes text.old ++ signed a b) }
+    ensures { OnOk result (string_bytes text.new ≡ string_bytes text.old ++ signed_difference a b) }
 {
     if a == b {
         return text.push_str("0");
@@ -30,8 +30,8 @@ pub fn push_signed<A: Allocator>(text: &mut String<A>, a: u64, b: u64) -> Result
 }
 
 /// The text of `b - a`.
-pub fn signed(heap: Global, a: u64, b: u64) -> Result<String, AllocError>
-    ensures { IfOk result (λ text. string_bytes text ≡ signed a b) }
+pub fn signed_difference(heap: Global, a: u64, b: u64) -> Result<String, AllocError>
+    ensures { IfOk result (λ text. string_bytes text ≡ signed_difference a b) }
 {
     let mut text = String::new(heap);
     push_signed(&mut text, a, b)?;

@@ -11,7 +11,7 @@ ghost use Rattle.tomex_worth.specs.Worth.{all_headings, heading_column, own_unde
 ghost use Rattle.tomex_worth.specs.Worth.{text_under, total_at, worth_table_of};
 
 use crate::changes::{Change, changes_of};
-use crate::differences::{percent, rate_text, signed};
+use crate::differences::{percent, rate_text, signed_difference};
 use crate::heading::{Heading, entry_text, name_of_list};
 use std::alloc::{AllocError, Allocator, Global};
 use tomex_pareto::FrontRow;
@@ -88,8 +88,8 @@ fn text_under<A: Allocator>(
         Heading::From => entry_text(heap, &study.rows()[own.row], change.part),
         Heading::To => entry_text(heap, &study.rows()[number], change.part),
         Heading::Row => format!(in heap; "{number}"),
-        Heading::Cost => signed(heap, own.cost, other.cost),
-        Heading::Cycles => signed(heap, own.cycles, other.cycles),
+        Heading::Cost => signed_difference(heap, own.cost, other.cost),
+        Heading::Cycles => signed_difference(heap, own.cycles, other.cycles),
         Heading::Percent => percent(heap, own.cycles, other.cycles),
         Heading::Rate => rate_text(heap, own, other),
         Heading::Front => front_text(heap, front, number),
@@ -174,7 +174,7 @@ fn program_column<A: Allocator>(
     column.push(format!(in heap; "{total}")?)?;
     for change in machine.changes {
         let other = total_at(study, survey, place, program, change.row.row);
-        column.push(signed(heap, total, other)?)?;
+        column.push(signed_difference(heap, total, other)?)?;
     }
     Ok(column)
 }

@@ -112,7 +112,7 @@ impl<A: Allocator> Entry<A> {
     }
 
     /// True if the study gives the weight.
-    pub fn weighed(&self) -> bool
+    pub fn gives_weight(&self) -> bool
         ensures value { result ≡ self.now.weighed }
     {
         self.weighed

@@ -2,7 +2,7 @@
 
 ghost use Rattle.std.specs.Prelude.{◌≡◌, ◌≤◌};
 ghost use Rattle.std.specs.List.{fold};
-ghost use Rattle.tomex_front_views.specs.Axes.{along, axes_of, only, point_of, widened, with_row, x_of, y_of};
+ghost use Rattle.tomex_front_views.specs.Axes.{along, axes_of, only, point_of, with_value, with_row, x_of, y_of};
 
 use tomex_pareto::FrontRow;
 
@@ -39,8 +39,8 @@ impl Span {
     }
 
     /// Extends the span to include `value`.
-    fn widened(self, value: u64) -> Self
-        ensures { result ≡ widened self value }
+    fn with_value(self, value: u64) -> Self
+        ensures { result ≡ with_value self value }
     {
         Self {
             least: self.least.min(value),
@@ -69,8 +69,8 @@ impl Axes {
         ensures { result ≡ with_row self row }
     {
         Self {
-            costs: self.costs.widened(row.cost),
-            cycles: self.cycles.widened(row.cycles),
+            costs: self.costs.with_value(row.cost),
+            cycles: self.cycles.with_value(row.cycles),
         }
     }
 

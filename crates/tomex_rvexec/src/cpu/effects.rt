@@ -40,7 +40,7 @@ impl<'a, A: Allocator> Cpu<'a, A> {
 
     /// The target of a jump, which must be a multiple of 4. The next fetch tests that it is in
     /// memory.
-    fn aligned(&self, target: u32) -> Result<u32, Fault>
+    fn aligned_target(&self, target: u32) -> Result<u32, Fault>
         ensures ok { IfOk result (λ t. (t ≡ target) × (nat_eq (target % 4) 0 ≡ true)) }
         ensures err { IfErr result (λ e. (nat_eq (target % 4) 0 ≡ false)
             × (e ≡ record { kind = FaultKind.MisalignedTarget; pc = self.now.pc })) }
@@ -57,7 +57,7 @@ impl<'a, A: Allocator> Cpu<'a, A> {
         requires { r < 32 }
         ensures { Answers (jumps self.old r target) self.old result self.new }
     {
-        let target = self.aligned(target)?;
+        let target = self.aligned_target(target)?;
         let link = self.pc.wrapping_add(4);
         self.write_register(r, link);
         self.pc = target;
@@ -71,7 +71,7 @@ impl<'a, A: Allocator> Cpu<'a, A> {
         if !taken {
             return Ok(self.go_on());
         }
-        self.pc = self.aligned(target)?;
+        self.pc = self.aligned_target(target)?;
         Ok(Stepped::Next)
     }
 

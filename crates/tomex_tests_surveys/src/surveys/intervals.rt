@@ -61,7 +61,7 @@ fn is_exact(
     random: &mut Random,
 ) -> Result<bool, Fail> {
     let row = *plain.get(row).ok_or("no such row")?;
-    for value in values(range, price.stated(&study.prices()), random) {
+    for value in values(range, price.amount(&study.prices()), random) {
         let is_within = range.least <= value && value <= range.most;
         if value <= 1_000_000 && stays(study, plain, row, (price, value))? != is_within {
             return Ok(false);

@@ -114,7 +114,7 @@ fn move_of(
     for (price, range) in ranges {
         let share = random.to(left.min(100));
         left = left.saturating_sub(share);
-        let stated = price.stated(&study.prices());
+        let stated = price.amount(&study.prices());
         moved.push((*price, moved_by(stated, *range, random.to(1) == 0, share)))?;
     }
     Ok(moved)

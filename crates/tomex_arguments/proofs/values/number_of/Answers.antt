@@ -70,7 +70,7 @@ number_is f id least greatest (Some m) number none value (t, found, parses, from
 
 pub returns-in_default-clause-refused : goal.returns-in_default-clause-refused
 returns-in_default-clause-refused c =
-    refused_if _ c.refused.result c.refused.ensures (λ number is.
+    refused_if _ c.refusal_of.result c.refusal_of.ensures (λ number is.
     let read = number_is (found_of c.args.matches.now) c.args.name.now c.args.bounds.least c.args.bounds.greatest
     c.get_one.result number c.get_one.ensures.none c.get_one.ensures.value is in
     let out = within_bounds (rows_of (found_of c.args.matches.now)) c.args.name.now c.args.bounds.least

@@ -12,7 +12,7 @@ returns-in-Some-clause-word c =
 
 pub returns-in-None-clause-refused : goal.returns-in-None-clause-refused
 returns-in-None-clause-refused c =
-    refused_if _ c.refused.result c.refused.ensures (λ word is.
+    refused_if _ c.refusal_of.result c.refusal_of.ensures (λ word is.
     let found = first_value-rows (found_of c.args.matches.now) c.args.name.now ∙ is in
     let none = sym c.get_str.ensures ∙ ap (option_map (λ s. s.now)) c.in-None.is in
     let bad = sym none ∙ found in absurd (cc))

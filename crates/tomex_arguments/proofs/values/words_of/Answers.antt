@@ -4,7 +4,7 @@ use Rattle.std.specs.Borrow.{Bor}
 use Rattle.std.specs.List.{flat_map, join_by}
 use Rattle.clap.specs.Words.{Text, found_of}
 use Rattle.clap.proofs.WalkLemmas.{raw_values-rows}
-use Rattle.tomex_arguments.specs.Values.{spaced}
+use Rattle.tomex_arguments.specs.Values.{words_text}
 use Rattle.tomex_arguments.proofs.values.words_of.Goals as goal
 
 rest_is : (between : Text) (words : List (Bor Text)) → flat_map (λ (w : Bor Text). between ++ w.now) words
@@ -22,10 +22,11 @@ pub returns-in_ok-join-in-Some : goal.returns-in_ok-join-in-Some
 returns-in_ok-join-in-Some c =
     let found = sym (raw_values-rows (found_of c.args.matches.now) c.args.name.now) ∙ sym c.get_strs.ensures
     ∙ ap (option_map (λ s. map (λ v. v.now) s.now)) c.in-Some.is in
-    ap Some (c.in_ok-join-in-Some.ensures.ok ∙ joined_is (codes " ") c.in-Some.words.now) ∙ sym (ap (option_map spaced) found)
+    ap Some (c.in_ok-join-in-Some.ensures.ok ∙ joined_is (codes " ") c.in-Some.words.now)
+    ∙ sym (ap (option_map words_text) found)
 
 pub returns-in-None : goal.returns-in-None
 returns-in-None c =
     let found = sym (raw_values-rows (found_of c.args.matches.now) c.args.name.now) ∙ sym c.get_strs.ensures
     ∙ ap (option_map (λ s. map (λ v. v.now) s.now)) c.in-None.is in
-    sym (ap (option_map spaced) found)
+    sym (ap (option_map words_text) found)

@@ -11,6 +11,6 @@ loop-cost-preserved g c = let i = c.loop-cost.cost-index in let cs = c.args.cost
 
 pub returns : goal.returns
 returns g c = let i = c.loop-cost.cost-index in let cs = c.args.costs.now in
-    subst (λ (l : List ℕ). IfOk c.listed.result (λ v. v.items ≡ l))
+    subst (λ (l : List ℕ). IfOk c.list_of.result (λ v. v.items ≡ l))
     (ap (λ (l : List ℕ). with_costs c.loop-cost.rising.keys l) (sym (all_dropped cs i (search rules)))
-    ∙ c.loop-cost.invariant) c.listed.ensures
+    ∙ c.loop-cost.invariant) c.list_of.ensures

@@ -265,7 +265,7 @@ returns-in_default-clause-refused c = elim c.in_default.branch [
   | in_default-via-in-Some+in_default w ↦
       let name = w.in_default.field-0.0.now in
       let rows = rows_of (found_of w.in_default.field-0.1.now) in
-      refused_if _ c.refused.result c.refused.ensures
+      refused_if _ c.refusal_of.result c.refusal_of.ensures
       (no_command name rows
       (found_is c.args.matches.now name rows
       (sym (ap (option_map (λ p. p.0.now)) w.in_default.is) ∙ c.subcommand.ensures.name)
@@ -275,5 +275,5 @@ returns-in_default-clause-refused c = elim c.in_default.branch [
   | in_default-via-in_default w ↦
       let none = none_found (subcommand_rows_of c.args.matches.now)
       (sym (ap (option_map (λ p. rows_of (found_of p.1.now))) w.in_default.is) ∙ c.subcommand.ensures.rows) in
-      refused_if _ c.refused.result c.refused.ensures (nothing none)
+      refused_if _ c.refusal_of.result c.refusal_of.ensures (nothing none)
 ]

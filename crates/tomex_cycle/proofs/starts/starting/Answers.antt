@@ -5,7 +5,7 @@ use Rattle.tomex_cycle.proofs.starts.starting.Goals as goal
 
 pub returns-then-waiting-eq0-clause-starting : goal.returns-then-waiting-eq0-clause-starting
 returns-then-waiting-eq0-clause-starting c = none_starts c.args.config.now c.args.pools.now c.args.cycle
-    c.waiting-waiting.result c.waiting-waiting.ensures.busy c.waiting-waiting.ensures.set c.if-waiting-eq0.true
+    c.waiters-waiting.result c.waiters-waiting.ensures.busy c.waiters-waiting.ensures.set c.if-waiting-eq0.true
 
 -- there is a unit for the one that waits
 pub returns-then-is_single-clause-starting : goal.returns-then-is_single-clause-starting
@@ -17,19 +17,19 @@ returns-then-is_single-clause-starting c =
     c.accessible-mem.result c.startable-bru.result c.together.result (c.startable-alu.ensures.startable c.args.cycle)
     (c.startable-mul.ensures.startable c.args.cycle) (c.startable-div.ensures.startable c.args.cycle)
     c.accessible-mem.ensures.startable (c.startable-bru.ensures.startable c.args.cycle) (single_of units.Alu slots
-    c.waiting-waiting.result c.startable-alu.result _ c.args.pools.now.issue_numbers single
-    c.waiting-waiting.ensures.set (units_low c.args.config.now units.Alu lawful)
+    c.waiters-waiting.result c.startable-alu.result _ c.args.pools.now.issue_numbers single
+    c.waiters-waiting.ensures.set (units_low c.args.config.now units.Alu lawful)
     (all_of units.Alu slots c.startable-alu.result c.startable-alu.ensures.wait)) (single_of units.Mul slots
-    c.waiting-waiting.result c.startable-mul.result _ c.args.pools.now.issue_numbers single
-    c.waiting-waiting.ensures.set (units_low c.args.config.now units.Mul lawful)
+    c.waiters-waiting.result c.startable-mul.result _ c.args.pools.now.issue_numbers single
+    c.waiters-waiting.ensures.set (units_low c.args.config.now units.Mul lawful)
     (all_of units.Mul slots c.startable-mul.result c.startable-mul.ensures.wait)) (single_of units.Div slots
-    c.waiting-waiting.result c.startable-div.result _ c.args.pools.now.issue_numbers single
-    c.waiting-waiting.ensures.set (units_low c.args.config.now units.Div lawful)
+    c.waiters-waiting.result c.startable-div.result _ c.args.pools.now.issue_numbers single
+    c.waiters-waiting.ensures.set (units_low c.args.config.now units.Div lawful)
     (all_of units.Div slots c.startable-div.result c.startable-div.ensures.wait)) (single_of units.Mem slots
-    c.waiting-waiting.result c.accessible-mem.result _ c.args.pools.now.issue_numbers single
-    c.waiting-waiting.ensures.set (units_low c.args.config.now units.Mem lawful) c.accessible-mem.ensures.wait)
-    (single_of units.Bru slots c.waiting-waiting.result c.startable-bru.result _ c.args.pools.now.issue_numbers single
-    c.waiting-waiting.ensures.set (units_low c.args.config.now units.Bru lawful)
+    c.waiters-waiting.result c.accessible-mem.result _ c.args.pools.now.issue_numbers single
+    c.waiters-waiting.ensures.set (units_low c.args.config.now units.Mem lawful) c.accessible-mem.ensures.wait)
+    (single_of units.Bru slots c.waiters-waiting.result c.startable-bru.result _ c.args.pools.now.issue_numbers single
+    c.waiters-waiting.ensures.set (units_low c.args.config.now units.Bru lawful)
     (all_of units.Bru slots c.startable-bru.result c.startable-bru.ensures.wait)) c.together.ensures
 
 pub returns-clause-starting : goal.returns-clause-starting

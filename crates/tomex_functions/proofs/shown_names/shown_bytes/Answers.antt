@@ -12,11 +12,11 @@ pub returns-in-Ok : goal.returns-in-Ok
 returns-in-Ok c =
     let bytes = c.args.bytes.now in
     subst
-    (λ (b : Bool). IfOk c.shown.result (λ text. string_bytes text
+    (λ (b : Bool). IfOk c.shown_name.result (λ text. string_bytes text
     ≡ cond b (shown_name bytes) (flat_map shown_byte bytes)))
     (sym (is_utf8-from_IsUtf8 bytes c.in-Ok.ensures.cases.1))
-    (subst (λ (name : List ℕ). IfOk c.shown.result (λ text. string_bytes text ≡ shown_name name))
-    c.in-Ok.ensures.cases.0 c.shown.ensures)
+    (subst (λ (name : List ℕ). IfOk c.shown_name.result (λ text. string_bytes text ≡ shown_name name))
+    c.in-Ok.ensures.cases.0 c.shown_name.ensures)
 
 pub returns-in-Err : goal.returns-in-Err
 returns-in-Err c =

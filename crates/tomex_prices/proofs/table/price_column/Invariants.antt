@@ -2,7 +2,7 @@
 use Rattle.std.proofs.Common.{◌≡◌, ◌∷◌, ◌++◌, drop, map}
 use Rattle.std.specs.Fmt.{decimal}
 use Rattle.tomex_prices.specs.Interval.{range_text}
-use Rattle.tomex_prices.specs.Price.{name_of_price, stated}
+use Rattle.tomex_prices.specs.Price.{name_of_price, amount}
 use Rattle.tomex_prices.specs.Studies.{interval_of}
 use Rattle.tomex_prices.proofs.table.price_column.Given as goal
 
@@ -10,5 +10,5 @@ abbrev pub invariant-loop-row : goal.invariant-loop-row
 invariant-loop-row g l = record {
   name : l.column.name ≡ name_of_price l.price;
   entries : l.column.entries ++ map (λ r. range_text (interval_of l.study l.price r)) (drop l.row-index l.front)
-      ≡ decimal (stated l.price l.study.prices) ∷ map (λ r. range_text (interval_of l.study l.price r)) l.front;
+      ≡ decimal (amount l.price l.study.prices) ∷ map (λ r. range_text (interval_of l.study l.price r)) l.front;
 }

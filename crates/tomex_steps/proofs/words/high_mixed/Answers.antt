@@ -5,19 +5,19 @@ use Rattle.std.proofs.lemmas.Int.{fits_signed_mul, ints, to_z-of_z}
 use Rattle.tomex_steps.specs.Words.{high_half}
 use Rattle.tomex_steps.proofs.words.high_mixed.Goals as goal
 
-pub overflow_mul-widened : goal.overflow_mul-widened
-overflow_mul-widened c =
-    let left : FitsSigned w64 c.widened.result = omega (arith, ints) in
+pub overflow_mul-sign_extend : goal.overflow_mul-sign_extend
+overflow_mul-sign_extend c =
+    let left : FitsSigned w64 c.sign_extend.result = omega (arith, ints) in
     let right : FitsSigned w64 c.from.result = omega (arith, ints) in
-    simp to_z-of_z (fits_signed_mul w64 c.widened.result c.from.result (2 ^ 31) 4294967295 (omega (arith, ints))
+    simp to_z-of_z (fits_signed_mul w64 c.sign_extend.result c.from.result (2 ^ 31) 4294967295 (omega (arith, ints))
     (omega (arith, ints)) (omega arith))
 
 pub returns : goal.returns
 returns c =
-    let left : FitsSigned w64 c.widened.result = omega (arith, ints) in
+    let left : FitsSigned w64 c.sign_extend.result = omega (arith, ints) in
     let right : FitsSigned w64 c.from.result = omega (arith, ints) in
-    let product = fits_signed_mul w64 c.widened.result c.from.result (2 ^ 31) 4294967295 (omega (arith, ints))
+    let product = fits_signed_mul w64 c.sign_extend.result c.from.result (2 ^ 31) 4294967295 (omega (arith, ints))
     (omega (arith, ints)) (omega arith) in
-    let high : c.high_half_of.result ≡ high_half (c.widened.result *ℤ c.from.result) =
+    let high : c.high_half_of.result ≡ high_half (c.sign_extend.result *ℤ c.from.result) =
     simp to_z-of_z at c.high_half_of.ensures in
-    high ∙ ap high_half (ap₂ ◌*ℤ◌ c.widened.ensures.value c.from.ensures)
+    high ∙ ap high_half (ap₂ ◌*ℤ◌ c.sign_extend.ensures.value c.from.ensures)

@@ -6,7 +6,7 @@ use Rattle.tomex_survey.proofs.totals.all_totals.Goals as goal
 
 pub returns : goal.returns
 returns g c =
-    IfOk-weaker c.joined.result _ _
+    IfOk-weaker c.join_parts.result _ _
     (λ v is. all_totals_are c.args.study.now c.args.workers _ _ _ _ v.items c.requires.some_workers
     (ap length c.rows.ensures.value) c.in_ok-stretches.ensures.are c.as_slice.ensures.value c.in_ok-parts.ensures is)
-    c.joined.ensures
+    c.join_parts.ensures

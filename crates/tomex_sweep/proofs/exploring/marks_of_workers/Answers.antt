@@ -1,23 +1,23 @@
 -- A board can be made for the study; the workers have all rows and all numbers, and so have their parts.
 use Rattle.std.proofs.Common.{◌≡◌, ◌≤◌, length, ap, ◌∙◌, arith}
-use Rattle.tomex_lanes.proofs.Dealing.{length-dealt}
+use Rattle.tomex_lanes.proofs.Dealing.{length-deal}
 use Rattle.tomex_sweep.proofs.Crewed.{board_plan, can_run, parts_whole, study_count, study_marks}
 use Rattle.tomex_sweep.proofs.exploring.marks_of_workers.Goals as goal
 
 pub new-requires-clause-plan : goal.new-requires-clause-plan
 new-requires-clause-plan g c = board_plan c.args.study.now _ _ c.keeps_limits.ensures c.requires.plan
 
-pub seated-requires-clause-some : goal.seated-requires-clause-some
-seated-requires-clause-some g c =
+pub seat_workers-requires-clause-some : goal.seat_workers-requires-clause-some
+seat_workers-requires-clause-some g c =
     let long : length c.in_ok-lanes.lanes.items ≡ c.args.workers = ap length c.in_ok-lanes.ensures
-    ∙ length-dealt _ _ _ in
+    ∙ length-deal _ _ _ in
     let some : 1 ≤ c.args.workers = c.requires.some_workers in
     omega arith
 
-pub seated-requires-clause-few : goal.seated-requires-clause-few
-seated-requires-clause-few g c =
+pub seat_workers-requires-clause-few : goal.seat_workers-requires-clause-few
+seat_workers-requires-clause-few g c =
     let long : length c.in_ok-lanes.lanes.items ≡ c.args.workers = ap length c.in_ok-lanes.ensures
-    ∙ length-dealt _ _ _ in
+    ∙ length-deal _ _ _ in
     let few : c.args.workers ≤ 32 = c.requires.few_workers in
     omega arith
 

@@ -1,7 +1,7 @@
 -- The entries so far, and the remaining ones.
 use Rattle.std.proofs.Common.{◌≡◌, ◌∷◌, ◌++◌, drop, map}
 use Rattle.std.specs.Fmt.{decimal}
-use Rattle.tomex_worth.specs.Differences.{signed}
+use Rattle.tomex_worth.specs.Differences.{signed_difference}
 use Rattle.tomex_worth.specs.Worth.{total_at}
 use Rattle.tomex_worth.proofs.table.program_column.Given as goal
 
@@ -9,9 +9,11 @@ abbrev pub invariant-loop-change : goal.invariant-loop-change
 invariant-loop-change g l = record {
   name : l.column.name ≡ l.program.name;
   entries : l.column.entries
-      ++ map (λ c. signed (total_at l.study l.program l.machine.own.row) (total_at l.study l.program c.row.row))
+      ++ map (λ c. signed_difference (total_at l.study l.program l.machine.own.row)
+      (total_at l.study l.program c.row.row))
       (drop l.change-index l.machine.changes.now)
       ≡ decimal (total_at l.study l.program l.machine.own.row)
-      ∷ map (λ c. signed (total_at l.study l.program l.machine.own.row) (total_at l.study l.program c.row.row))
+      ∷ map (λ c. signed_difference (total_at l.study l.program l.machine.own.row)
+      (total_at l.study l.program c.row.row))
       l.machine.changes.now;
 }

@@ -3,4 +3,4 @@ use Rattle.tomex_cycle.proofs.inner.Inner.tables.Goals as goal
 
 pub returns-clause-shown : goal.returns-clause-shown
 returns-clause-shown g c = λ i h config past issued slots status. tables_is _ _ past issued slots status
-    c.shown-busy.ensures.count c.shown-busy.ensures.each c.new.ensures.cycle c.new.ensures.busy c.new.ensures.registers
+    c.busy_entries-busy.ensures.count c.busy_entries-busy.ensures.each c.new.ensures.cycle c.new.ensures.busy c.new.ensures.registers

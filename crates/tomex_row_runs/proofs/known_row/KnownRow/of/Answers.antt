@@ -18,10 +18,11 @@ returns g c = λ config same.
     let plain : c.sum_of-plain.result ≡ plain_on c.args.programs.now config =
     c.sum_of-plain.ensures ∙ plain_sum c.args.programs.now config c.args.totals.now same in
     record {
-      cycles = row_is c.args.programs.now config _ _ plain (c.weighed-2.ensures config same);
+      cycles = row_is c.args.programs.now config _ _ plain (c.weighted_cycles-2.ensures config same);
       at_last_look = elim c.if-plain-gt-STRIDE.branch [
         | then-plain-gt-STRIDE w ↦ w.at_last_look-is
-            ∙ seen_late c.args.programs.now config _ _ plain w.if-plain-gt-STRIDE.true (w.weighed.ensures config same)
+            ∙ seen_late c.args.programs.now config _ _ plain w.if-plain-gt-STRIDE.true
+            (w.weighted_cycles.ensures config same)
         | else-plain-gt-STRIDE w ↦ w.at_last_look-is
             ∙ over_early c.args.programs.now config _ plain w.if-plain-gt-STRIDE.false
       ];

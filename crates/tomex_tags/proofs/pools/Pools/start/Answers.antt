@@ -1,5 +1,5 @@
 use Rattle.std.proofs.Common.{rules}
-use Rattle.tomex_tags.specs.Contents.{started}
+use Rattle.tomex_tags.specs.Contents.{with_start}
 use Rattle.tomex_tags.proofs.Slots.{changed_in}
 use Rattle.tomex_tags.proofs.Starting.{starts_filled}
 use Rattle.tomex_tags.proofs.pools.Pools.start.Goals as goal
@@ -14,7 +14,7 @@ invariant_of-self c = rw c.start.ensures
 pub returns-then-place-lt96 : goal.returns-then-place-lt96
 returns-then-place-lt96 c = record {
   slots = rw (c.start.ensures, ← c.self.view_is)
-      (changed_in (started c.args.finish c.args.value) c.self.inside.pools c.args.place c.index-self-place.result
+      (changed_in (with_start c.args.finish c.args.value) c.self.inside.pools c.args.place c.index-self-place.result
       c.self.invariant.six c.if-place-lt96.true);
   busy = search rules;
   issue_numbers = search rules;

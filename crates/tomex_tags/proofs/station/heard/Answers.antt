@@ -1,5 +1,0 @@
-use Rattle.std.proofs.Common.{rules}
-use Rattle.tomex_tags.proofs.station.heard.Goals as goal
-
-pub returns-then-from-place : goal.returns-then-from-place
-returns-then-from-place c = search rules fits 100
