@@ -15,24 +15,24 @@ use Rattle.tomex_functions.specs.Laws.{PlacesOfFunctionsAddUp, RowsAddUp, Sums}
 use Rattle.tomex_functions.specs.declared.rows.Row.{Row}
 
 module _ (column : Sum → ℕ) (value : Visit → ℕ) (is : Sums column value) (symbols : List Symbol) (calls : List Step)
-    where
-  one_row : (visits : List Visit)
-      → sum_by (λ row. column row.sum) (rows_of_visits symbols calls visits) ≡ sum_by value visits
-  one_row [] = refl
-  one_row (v ∷ visits) = omega (arith, is (v ∷ visits))
+  where
+    one_row : (visits : List Visit)
+        → sum_by (λ row. column row.sum) (rows_of_visits symbols calls visits) ≡ sum_by value visits
+    one_row [] = refl
+    one_row (v ∷ visits) = omega (arith, is (v ∷ visits))
 
-  all_rows : (visits : List Visit) (keys : List ℕ)
-      → sum_by (λ row. column row.sum) (rows_at symbols calls visits keys)
-      ≡ sum_by (λ k. sum_by value (visits_of (function_key symbols) k visits)) keys
-  all_rows visits [] = refl
-  all_rows visits (k ∷ keys) = omega (
-    arith,
-    sum_by-append (λ (row : Row). column row.sum)
-        (rows_of_visits symbols calls (visits_of (function_key symbols) k visits)) (rows_at symbols calls visits keys),
-    one_row (visits_of (function_key symbols) k visits),
-    all_rows visits keys,
-    sum_by-cons (λ k. sum_by value (visits_of (function_key symbols) k visits)) k keys,
-  )
+    all_rows : (visits : List Visit) (keys : List ℕ)
+        → sum_by (λ row. column row.sum) (rows_at symbols calls visits keys)
+        ≡ sum_by (λ k. sum_by value (visits_of (function_key symbols) k visits)) keys
+    all_rows visits [] = refl
+    all_rows visits (k ∷ keys) = omega (
+      arith,
+      sum_by-append (λ (row : Row). column row.sum)
+          (rows_of_visits symbols calls (visits_of (function_key symbols) k visits)) (rows_at symbols calls visits keys),
+      one_row (visits_of (function_key symbols) k visits),
+      all_rows visits keys,
+      sum_by-cons (λ k. sum_by value (visits_of (function_key symbols) k visits)) k keys,
+    )
 
 pub rows_add_up : RowsAddUp
 rows_add_up column value symbols calls visits rows is those =

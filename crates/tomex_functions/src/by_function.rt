@@ -150,11 +150,11 @@ fn text_of_listing<A: Allocator>(
     into_text(writer)
 }
 
-/// The stalls report of a program on a configuration by function: CSV with a header, a record for each function of the
-/// program's file that is the function of a step, with how often it is called, how many steps the run has in it, how many
-/// cycles they take, and for how many cycles they wait for what. Those with the most cycles come first, then those at lower
-/// addresses; a record without a name follows if steps have no function, then the cycles after the last issue, and last the
-/// sums of the columns.
+/// The stalls report of a program on a configuration by function: CSV with a header, a record for each function of
+/// the program's file that is the function of a step, with how often it is called, how many steps the run has in it,
+/// how many cycles they take, and for how many cycles they wait for what. Those with the most cycles come first, then
+/// those at lower addresses; a record without a name follows if steps have no function, then the cycles after the
+/// last issue, and last the sums of the columns.
 ///
 /// `file` is the whole file of the program. What `csv` needs for its records it takes of `heap`.
 pub fn stalls_by_function<A: Allocator + Clone>(

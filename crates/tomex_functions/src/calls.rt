@@ -1,6 +1,7 @@
 //! How often functions are called.
 
-ghost use Rattle.std.specs.Prelude.{◌≡◌, ◌<◌, ◌≤◌, ◌==◌, ◌&&◌, ◌||◌, ◌+◌, ◌^◌, if◌then◌else◌, not, is_some, unwrap_or, IfOk, OnOk, ℕ, List, None, length, map, slice_index_or};
+ghost use Rattle.std.specs.Prelude.{◌≡◌, ◌<◌, ◌≤◌, ◌==◌, ◌&&◌, ◌||◌, ◌+◌, ◌^◌, if◌then◌else◌, not, is_some};
+ghost use Rattle.std.specs.Prelude.{unwrap_or, IfOk, OnOk, ℕ, List, None, length, map, slice_index_or};
 ghost use Rattle.std.specs.BTreeMap.{get};
 ghost use Rattle.std.specs.Ordering.{nat_cmp};
 ghost use Rattle.tomex_steps.specs.Steps.{step_dest};
@@ -41,8 +42,8 @@ fn begins(pc: u32, function: &Option<Symbol>) -> bool
     }
 }
 
-/// True if a step of some function leads to a call if the first address of another, or of the same, comes next: it jumps,
-/// and leaves a return address or goes to another function.
+/// True if a step of some function leads to a call if the first address of another, or of the same, comes next: it
+/// jumps, and leaves a return address or goes to another function.
 fn leads_to_call(step: &Step, function: &Option<Symbol>, next: &Option<Symbol>) -> bool
     ensures { result ≡ is_jump step.now.instr.op
         && (is_some (step_dest step.now) || not (key_of function.now == key_of next.now)) }

@@ -46,8 +46,8 @@ fn shown_bytes(heap: Global, bytes: &[u8]) -> Result<String, AllocError>
     }
 }
 
-/// The name of a symbol of a file: its first 256 bytes, `..` after them if there are more. No control character is left in
-/// it, and no more of the name is looked at.
+/// The name of a symbol of a file: its first 256 bytes, `..` after them if there are more. No control character is
+/// left in it, and no more of the name is looked at.
 pub fn shown_function(heap: Global, bytes: &[u8], symbol: &Symbol) -> Result<String, AllocError>
     ensures { IfOk result (λ text. string_bytes text ≡ shown_function bytes.now symbol.now) }
 {

@@ -1,5 +1,5 @@
-//! Reports by function of a small run: `_start` calls `work` and `last`, which counts down from 3. The cycles are counted
-//! by hand, on a machine with one of each part.
+//! Reports by function of a small run: `_start` calls `work` and `last`, which counts down from 3. The cycles are
+//! counted by hand, on a machine with one of each part.
 
 use crate::files::WHOLE;
 use std::alloc::{AllocError, Allocator, Global};
