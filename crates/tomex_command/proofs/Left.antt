@@ -2,7 +2,8 @@
 use Rattle.std.proofs.Common.{◌≡◌, List, ℕ, Bool, true, false, refl, sym, subst}
 use Rattle.tomex_command_line.specs.declared.line.Line.{Line}
 use Rattle.tomex_command_line.specs.declared.line.Line.TheVariants.{Run, Times, Stalls, Pipeline, Tables, Animate}
-use Rattle.tomex_command_line.specs.declared.line.Line.TheVariants.{All, Explore, Front, Plot, Rows, Worth, Prices, Page, Explain}
+use Rattle.tomex_command_line.specs.declared.line.Line.TheVariants.{All, Explore, Front, Plot, Rows, Worth, Prices}
+use Rattle.tomex_command_line.specs.declared.line.Line.TheVariants.{Page, Explain}
 use Rattle.tomex_streams.specs.Files.{Told}
 use Rattle.tomex_streams.specs.Sinks.{Seen}
 use Rattle.tomex_command.specs.Commands.{IsFailure, IsLeft}

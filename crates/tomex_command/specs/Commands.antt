@@ -20,7 +20,7 @@ use Rattle.tomex_command.specs.RunLines.{IsRunOf, IsRunFailure}
 use Rattle.tomex_command.specs.SurveyLines.{IsPlotFailure, IsPlotOf, IsSurveyFailure, IsSurveyOf}
 use Rattle.tomex_command.specs.StallsLines.{IsStallsOf, IsStallsFailure}
 use Rattle.tomex_command.specs.TablesLines.{IsTablesOf, IsTablesFailure}
-use Rattle.tomex_command.specs.Telling.{IsFailureTold, IsSaid, IsTold}
+use Rattle.tomex_command.specs.Reporting.{IsFailureReported, IsSaid, IsFaultReported}
 use Rattle.tomex_command.specs.TimesLines.{IsTimesOf, IsTimesFailure}
 
 -- this text is what the line asks for, given the files by their names
@@ -80,7 +80,7 @@ IsLeft file line failure old new = IsFailure file line failure × (new ≡ old)
 pub record IsToldOnly (words : List (List ℕ)) (status : ℕ) (out-old out err-old err : Seen) : Type 0 where
   pub fault : LineFault
   pub no_command : IsNoCommand words fault
-  pub told : IsTold fault status out-old out
+  pub told : IsFaultReported fault status out-old out
   pub said : IsSaid fault status err-old err
 
 -- the line that the words ask for was carried out
@@ -99,7 +99,7 @@ pub record HasFailed (words : List (List ℕ)) (file : List ℕ → Told) (statu
   pub asked : IsAsked words line
   pub failure : Failure
   pub left : IsLeft file line failure out-old out
-  pub told : IsFailureTold failure status err-old err
+  pub told : IsFailureReported failure status err-old err
 
 -- the end of a run of the program
 abbrev pub IsEnd : List (List ℕ) → (List ℕ → Told) → ℕ → Seen → Seen → Seen → Seen → Type 0

@@ -12,5 +12,5 @@ pub mod StudyFiles
 pub mod SurveyLines
 pub mod StallsLines
 pub mod TablesLines
-pub mod Telling
+pub mod Reporting
 pub mod TimesLines

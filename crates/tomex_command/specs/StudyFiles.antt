@@ -1,4 +1,4 @@
--- The study that a file of some name stands for, with the files that it names itself.
+-- The study in a file of some name, with the files that it names itself.
 use Rattle.std.specs.Prelude.{◌≡◌, ◌≢◌, ◌⊎◌, ℕ, List, Ok, string_bytes}
 use Rattle.tomex_study.specs.Study.{DesignSpace}
 use Rattle.tomex_document.specs.Document.{file_names_of}

@@ -22,7 +22,7 @@ pub mod times;
 
 use crate::failure::Failure;
 use crate::heaps::Heaps;
-use crate::telling::{report_failure, report_line_fault};
+use crate::reporting::{report_failure, report_line_fault};
 use all::text_of_all;
 use animate::text_of_animate;
 use explain::text_of_explain;

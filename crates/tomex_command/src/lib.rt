@@ -6,12 +6,12 @@ mod failure;
 mod heaps;
 mod metered;
 mod process;
+mod reporting;
 mod run;
-mod telling;
 
 pub use commands::command;
 pub use failure::Failure;
 pub use heaps::Heaps;
 pub use process::{run_of, run_words};
+pub use reporting::{report_failure, report_line_fault};
 pub use run::{RunRefusal, run_text};
-pub use telling::{report_failure, report_line_fault};

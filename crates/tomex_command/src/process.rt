@@ -2,11 +2,11 @@
 ghost use Rattle.std.specs.Prelude.{◌≡◌, ◌≤◌, map, string_bytes, IfOk, IfErr};
 ghost use Rattle.std.specs.Process.{exit_status};
 ghost use Rattle.tomex_command.specs.Commands.{IsEnd};
-ghost use Rattle.tomex_command.specs.Telling.{IsSaid, IsTold};
+ghost use Rattle.tomex_command.specs.Reporting.{IsSaid, IsFaultReported};
 
 use crate::commands::command;
 use crate::heaps::Heaps;
-use crate::telling::report_line_fault;
+use crate::reporting::report_line_fault;
 use std::alloc::Allocator;
 use std::env;
 use std::io::{ErrorKind, Stderr, Stdout};
@@ -43,7 +43,7 @@ pub fn run_words<
 ) -> ExitCode
     ensures end { IfOk words (λ words. IsEnd (map string_bytes words.items) (F.file files.now) (exit_status result)
         (O.seen out.old) (O.seen out.new) (E.seen err.old) (E.seen err.new)) }
-    ensures told { IfErr words (λ fault. IsTold fault (exit_status result) (O.seen out.old) (O.seen out.new)) }
+    ensures told { IfErr words (λ fault. IsFaultReported fault (exit_status result) (O.seen out.old) (O.seen out.new)) }
     ensures said { IfErr words (λ fault. IsSaid fault (exit_status result) (E.seen err.old) (E.seen err.new)) }
     ensures statuses { exit_status result ≤ 3 }
 {

@@ -6,12 +6,14 @@ use Rattle.clap.specs.declared.error.kind.ErrorKind.{ErrorKind}
 use Rattle.clap.specs.declared.error.kind.ErrorKind.TheVariants.{DisplayHelp, DisplayVersion}
 use Rattle.tomex_command_line.specs.declared.line.Line.{Line}
 use Rattle.tomex_command_line.specs.declared.line.Line.TheVariants.{Run, Times, Stalls, Pipeline, Tables, Animate}
-use Rattle.tomex_command_line.specs.declared.line.Line.TheVariants.{All, Explore, Front, Plot, Rows, Worth, Prices, Page, Explain}
+use Rattle.tomex_command_line.specs.declared.line.Line.TheVariants.{All, Explore, Front, Plot, Rows, Worth, Prices}
+use Rattle.tomex_command_line.specs.declared.line.Line.TheVariants.{Page, Explain}
 use Rattle.tomex_arguments.specs.declared.fault.LineFault.{LineFault}
 use Rattle.tomex_arguments.specs.declared.fault.LineFault.TheVariants.{Help, Usage, Memory}
 use Rattle.tomex_command_line.specs.Grammar.{tomex_app}
 use Rattle.tomex_command_line.specs.Values.{IsRunAsked, IsOneRunAsked, IsStallsAsked, IsPipelineAsked, IsTablesAsked}
-use Rattle.tomex_command_line.specs.Values.{IsAnimateAsked, IsAllAsked, IsExploreAsked, IsPlotAsked, IsWorthAsked, IsExplainAsked}
+use Rattle.tomex_command_line.specs.Values.{IsAnimateAsked, IsAllAsked, IsExploreAsked, IsPlotAsked, IsWorthAsked}
+use Rattle.tomex_command_line.specs.Values.{IsExplainAsked}
 use Rattle.tomex_command_line.specs.Values.{IsNoRun, IsNoOneRun, IsNoStalls, IsNoPipeline, IsNoTables, IsNoAll}
 use Rattle.tomex_command_line.specs.Values.{IsNoAnimate, IsNoExplore, IsNoPlot, IsNoWorth}
 

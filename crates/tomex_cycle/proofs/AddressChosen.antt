@@ -49,7 +49,7 @@ or_none : (a b : Option ℕ) → or_else a b ≡ None → (a ≡ None) × (b ≡
 or_none None b e = (refl, e)
 or_none (Some x) b e = absurd (cc)
 
--- where none waits all addresses are made
+-- if none waits, all addresses are made
 pub none_waits : {config : Configuration} (t : ℕ) (h : List Done) → IsWithinLimits config → AreTimed config h
     → AreIssuedBy t h → chosen t h ≡ None → last_address h ≤ t
 none_waits t [] good timed issued e = omega arith
@@ -96,7 +96,7 @@ some_waits_by t y d None timed e before f = elim (cases_Bool (waits_for_address 
       rw b.0 l
 ]
 
--- and where one waits the last address is still to come
+-- and if one waits, the last address is still to come
 pub some_waits : (config : Configuration) (t y : ℕ) (h : List Done) → AreTimed config h → chosen t h ≡ Some y
     → t < last_address h
 some_waits config t y [] timed e = absurd (cc)
@@ -118,7 +118,7 @@ pub chosen_held : (t y : ℕ) (h : List Done) → chosen t h ≡ Some y → is_v
 chosen_held t y [] e free = cc
 chosen_held t y (d ∷ older) e free = chosen_by t y d older (chosen t older) refl (chosen_held t y older) e free
 
--- the address test of the next cycle, where no older address is to come
+-- the address test of the next cycle, if no older address is to come
 pub test_is : {config : Configuration} (t u : ℕ) (d : Done) {older : List Done} → IsTimed config older d.step d.at
     → AreTimed config older → AreIssuedBy t (d ∷ older) → u ≡ t + 1 → is_memory d.step ≡ true → last_address older ≤ t
     → t < cycle_of d.at.address → is_there (field_of t older (j_of d.step)) ≡ (cycle_of d.at.address == u)

@@ -1,4 +1,4 @@
--- The oldest load or store without an address gets it just where the recurrence says.
+-- The oldest load or store without an address gets it exactly when the recurrence says.
 use Rattle.std.proofs.Common.{length, slice_index_or, slice_set, append_assoc, ℕ, ◌+◌, ◌<◌, ◌≤◌, ◌≡◌, ◌∙◌, Bool, true}
 use Rattle.std.proofs.Common.{false, arith, refl, List, [], ◌∷◌, ◌++◌, Option, Some, None, ap, sym, inl, inr}
 use Rattle.std.proofs.Common.{slice_index}
@@ -53,7 +53,7 @@ free_by : (t x : ℕ) (d : Done) (o : Option ℕ) (s : Option Station) → holds
     → given_at o x s ≡ given_at (or_else o (if waits_for_address t d then place_of d else None)) x s
 free_by t x d o s h5 = grind (arith, nat_tests)
 
--- a busy step's station, where an older step waits or none does
+-- a busy step's station, if an older step waits or none does
 held_by : (i : Loaded) {config : Configuration} (t u x : ℕ) (d : Done) (older : List Done) (o : Option ℕ)
     → IsWithinLimits config → AreTimed config (d ∷ older) → AreIssuedBy t (d ∷ older) → u ≡ t + 1
     → holds_place t x d ≡ true → chosen t older ≡ o

@@ -39,7 +39,7 @@ ends_silent p old new s l here dest slots issue_numbers count = record {
   issue_numbers = issue_numbers;
 }
 
--- The register of its destination, where its Qi still names the place.
+-- The register of its destination, if its Qi still names the place.
 
 received_hears : (p r v : ℕ) (rg : RegStatus) → r < 32 → ((q : ℕ) → q < 32 → names rg q p ≡ true → q ≡ r)
     → Hears (only p (Some v)) rg (registers_after rg r p v)

@@ -50,7 +50,7 @@ pub none_over : (slots : List (Option Station)) (next ending : ℕ) (f : Finishe
 none_over slots next ending f count leaves e = leaves slots (λ y. None) count
     (λ x l. rw (e, none_in x) (hears_none (λ y. None) (slice_index_or slots x None) (λ y. refl)))
 
--- where nothing finishes, no branch is followed
+-- if nothing finishes, no branch is followed
 pub none_followed : (next due : ℕ) (slots : List (Option Station)) (fetch : Fetch) → AreDone slots next due → due ≡ 0
     → Follows next slots fetch fetch
 none_followed next due slots fetch h4 h5 = grind (arith, nat_tests)

@@ -162,7 +162,7 @@ idle_ends t u x (d ∷ older) e free = elim (cases_Bool (is_number (place_of d) 
       absurd (cc)
 ]
 
--- what sends and what ends alone end in the cycle
+-- steps that send and steps that end without a result end in the cycle
 both_end : (i : Loaded) {config : Configuration} (t u x : ℕ) (h : List Done) → IsWithinLimits config → AreTimed config h
     → AreIssuedBy u h → u ≡ t + 1
     → (goes_at t (sends_in u) h x || ends_alone u (station_at i (clocks u u t) h x)) ≡ ends_in u h x

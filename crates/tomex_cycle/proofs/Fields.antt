@@ -43,7 +43,7 @@ there_from : (v : ℕ) (tag : Option Tag) → is_there (field_from v tag) ≡ is
 there_from v None = refl
 there_from v (Some tag) = refl
 
--- an operand is there after cycle t just where its producer has ended before the next one: the recurrence's test
+-- an operand is there after cycle t exactly if its producer has ended before the next one: the recurrence's test
 pub there_test : (config : Configuration) (t : ℕ) (h : List Done) (o : Option Operand) → AreTimed config h
     → AreIssuedBy t h → is_there (field_of t h o) ≡ nat_lt (source_end h o) (t + 1)
 there_test config t h None timed issued = rw (lt-ltb 0 (t + 1) (omega arith)) refl

@@ -242,7 +242,7 @@ run_happens {config} {i} {n} k u run l some =
     let more = events_older u part.0 (first_timed config i k) in
     rw part.1 (omega arith)
 
--- a cycle whose phases tell of something has an event
+-- a cycle whose phases report something has an event
 pub cycle_happens : {i : Loaded} {config : Configuration} {n t next count c : ℕ} {fault : Option Fault}
     {any addressed ended : Bool} {st0 st1 st3 : Pools} {rg0 rg1 : RegStatus} {ft0 ft1 : Fetch} {m0 m1 : Bytes}
     → MakesStarts config next st0 m0 fault st1 m1 → (any ≡ true → StartsHappen config next st0)

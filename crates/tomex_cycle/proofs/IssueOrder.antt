@@ -12,7 +12,7 @@ use Rattle.tomex_bus.proofs.Listings.{in_head, in_tail}
 
 -- Lists that rise.
 
--- the middle of a list that rises is older than what is behind it, and younger than what is before
+-- the middle of a rising list is older than what comes after it, and younger than what comes before
 pub older_in : (issue_numbers older younger : List ℕ) (x y : ℕ) → Rises issue_numbers (older ++ (x ∷ younger))
     → is_listed (older ++ (x ∷ younger)) y ≡ true → slice_index issue_numbers y < slice_index issue_numbers x
     → is_listed older y ≡ true
@@ -95,7 +95,7 @@ clear_all {slots} {busy} {issue_numbers} older younger place s next filled by cl
           (older_in issue_numbers older younger place x by.rises (sym (by.members x l) ∙ e) less)
     ]
 
--- no older one is in its way just where none of a listing in issue order is
+-- no older one blocks it exactly if none of a listing in issue order does
 pub clear_is : (b : Bool) {slots : List (Option Station)} {busy : ℕ} {issue_numbers : List ℕ} (older younger : List ℕ)
     (place : ℕ) (s : Station) (next : ℕ) → AreBusy slots busy issue_numbers
     → IsInIssueOrder busy issue_numbers (older ++ (place ∷ younger))
@@ -129,7 +129,7 @@ alone_clear slots {issue_numbers} older younger place next s single l here acces
 
 -- Addresses.
 
--- of the stations in these places, the first that lacks its address
+-- of the stations in these places, the first without its address
 abbrev pub first_waiting : List (Option Station) → List ℕ → Option ℕ
 first_waiting slots [] = None
 first_waiting slots (x ∷ xs) = if lacks_address (slice_index_or slots x None) then Some x else first_waiting slots xs

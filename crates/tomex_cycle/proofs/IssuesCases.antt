@@ -56,7 +56,7 @@ fault_case i config count st rg ft pc why fault at bad n t u run e slot old =
 place_small : (p : PoolId) (n : ℕ) → n < 16 → 16 * place_of_pool p + n < 96
 place_small p n l = let k : place_of_pool p < 6 = pool_low p in omega arith
 
--- what stands in the stations says which numbers are free
+-- the stations say which numbers are free
 pub open_is : {i : Loaded} {config : Configuration} (t u n : ℕ) (p : PoolId) {h : List Done} {st : Pools}
     → IsWithinLimits config → AreTimed config h → u ≡ t + 1 → n < 16 → ShowsStations i (clocks u u t) h st
     → is_open st.slots p n ≡ is_free p h u n

@@ -136,7 +136,7 @@ all_below config p u (d ∷ older) timed =
           rw (sum_by-cons, sum_by-cons, e, f) (omega arith)
     ]
 
--- where a number of the pool is free, fewer stations are held than there are
+-- if a number of the pool is free, fewer stations are held than there are
 pub room : (config : Configuration) (p : PoolId) (u n : ℕ) (h : List Done) → AreTimed config h → AreIssuedBy u h
     → n < stations_of config p → is_free p h u n ≡ true → count_by (is_held p u) h < stations_of config p
 room config p u n h timed issued l free =
@@ -145,7 +145,7 @@ room config p u n h timed issued l free =
     n h (λ k. one_each config p u k h timed issued) l (none_counted (numbered p u n) h free) in
     omega arith
 
--- A number is free just where no station stands in its place.
+-- A number is free exactly if its place is empty.
 
 still : (t u end : ℕ) → u ≡ t + 1 → nat_le u end ≡ nat_lt t end
 still t u end e = grind (arith, nat_tests)

@@ -48,7 +48,7 @@ can_from : (config : Configuration) (h : List Done) (x : Step) (u : ℕ) (b s : 
     → can_issue config h x u ≡ (b && s)
 can_from config h x u b s l slot e f = rw (lt-ltb 0 u l, slot, e, f) refl
 
--- the test for issue in the cycle, where the width leaves one
+-- the test for issue in the cycle, if the width leaves one
 pub can_is : (config : Configuration) (h : List Done) (x : Step) (t u : ℕ) → AreTimed config h → AreIssuedBy u h → u ≡ t
     + 1 → can_issue_another config h u ≡ true
     → can_issue config h x u ≡ (not (is_waiting t h) && has_station config h (step_pool x) u)

@@ -1,5 +1,5 @@
 -- What is known of the finishes ahead, as stations come and their operations start. It follows from the stations and
--- the cycle alone.
+-- only the cycle.
 use Rattle.std.proofs.Common.{ℕ, ◌+◌, ◌-◌, ◌*◌, ◌<◌, ◌≤◌, ◌≡◌, ◌∙◌, Bool, true, false, arith, refl, ap, sym, inl, inr}
 use Rattle.std.proofs.Common.{List, Option, Some, None, length, slice_index_or, slice_set, option_map, replicate}
 use Rattle.tomex_cycle.proofs.Words.{nat_lt, ◌==◌, ◌&&◌, ◌||◌, not, is_none, is_some, IsSome, and_right, both_ways}
@@ -11,7 +11,7 @@ use Rattle.tomex_cycle.proofs.Words.{IsTimetableOf, has_stayed, Finishes}
 use Rattle.tomex_bus.specs.Wheel.{HasPut, IsEmpty, Lacks}
 use Rattle.tomex_cycle.proofs.Places.{pool_low}
 
--- A test of what stands in each place, once this stands in one.
+-- A test of each place's content, after this is put into one.
 
 kept_test : (test : Option Station → Bool) (slots : List (Option Station)) (x y : ℕ) (o : Option Station)
     → x < length slots → test o ≡ test (slice_index_or slots x None)
@@ -35,7 +35,7 @@ known_same {slots} x {next} o l known fin send stay = record {
   gone = λ y m. kept_test (has_stayed next) slots x y o l stay ∙ known.gone y m;
 }
 
--- a place in which something stands
+-- a place that is taken
 pub inside_of : (slots : List (Option Station)) (x : ℕ) (s : Station) → slice_index_or slots x None ≡ Some s
     → x < length slots
 inside_of slots x s at = elim (cases_Bool (nat_lt x (length slots))) [
@@ -56,7 +56,7 @@ none_stays : (next : ℕ) (s : Station) → s.finish ≡ None → has_stayed nex
 none_stays next s e = ap (λ (z : Option ℕ). not (is_some (dest_of s.instr)) && is_finished_before z next) e
     ∙ and_right (not (is_some (dest_of s.instr))) false refl
 
--- an instruction issues to a place in which nothing stands
+-- an instruction issues to an empty place
 pub known_issued : {slots : List (Option Station)} (x : ℕ) {next : ℕ} (s : Station) {f : Finishes} → x < length slots
     → IsTimetableOf slots next f → slice_index_or slots x None ≡ None → s.finish ≡ None
     → IsTimetableOf (slice_set slots x (Some s)) next f

@@ -83,7 +83,7 @@ heard_same : (test : Option Station → Bool) (sent : ℕ → Option ℕ) (o : O
 heard_same test sent None same = refl
 heard_same test sent (Some s) same = same s
 
--- what stands in a place after the end of a cycle passes a test if it did before and hasn't ended
+-- the content of a place after the end of a cycle passes a test if it did before and hasn't ended
 after_test : (test : Option Station → Bool) (sent : ℕ → Option ℕ) (ended : Bool) (o : Option Station)
     → test None ≡ false → ((s : Station) → test (Some (hears sent s)) ≡ test (Some s))
     → test (after_ends ended sent o) ≡ (not ended && test o)
@@ -165,7 +165,7 @@ leaves_known st buses {next} {due} found sending silent ending {f} h filled know
         (slice_index_or st.slots x None)
     same_later a x e f g = grind (arith, nat_tests)
 
--- where nothing is over no result is unsent
+-- if nothing is over, no result is unsent
 pub none_unsent : {due : ℕ} (found sending silent ending buses : ℕ) {f g : Finishes} (h : Finishes) → sending < 2 ^ 128
     → h.unsent < 2 ^ 128 → HaveTurned f g due → (0 < buses → f.unsent ≢ 0 → sending ≢ 0) → 0 < buses
     → ((x : ℕ) → x < 128 → has found x ≡ true → has due x ≡ true)
@@ -217,11 +217,11 @@ one_branch slots next due branches served x done serves both l e =
     let place = and_parts (nat_le 80 x) (nat_lt x 96) (sym (branch_places x l) ∙ (sym (serves x l) ∙ two.1)) in
     (leb-true 80 x place.0, ltb-true x 96 place.1, sym (done x l) ∙ two.0)
 
--- where nothing finishes no result is found among it
+-- if nothing finishes, no result is found
 pub nothing_found : (test : ℕ → Bool) (due : ℕ) → due ≡ 0 → (x : ℕ) → x < 128 → has 0 x ≡ (has due x && test x)
 nothing_found test due over x l = rw (over, none_in x) refl
 
--- and where nothing is sent either, nothing ends
+-- and if nothing is sent either, nothing ends
 pub nothing_ends : (sending : ℕ) → sending ≡ 0 → (x : ℕ) → has 0 x ≡ (has sending x || has 0 x)
 nothing_ends sending none x = rw (none, none_in x) refl
 
@@ -233,7 +233,7 @@ nothing_sent sending g none x l = rw (none, none_in x) (stays (has g.unsent x))
     stays : (b : Bool) → b ≡ (b && true || false)
     stays b = grind (arith, nat_tests)
 
--- where nothing finishes and no result waits, nothing ends
+-- if nothing finishes and no result waits, nothing ends
 pub ending_none : (st : Pools) (buses : ℕ) {next due : ℕ} {f g : Finishes} → AreBusy st.slots st.busy st.issue_numbers
     → IsTimetableOf st.slots next f → HaveTurned f g due → due ≡ 0 → g.unsent ≡ 0 → AreEnding st buses next 0
 ending_none st buses {due} {f} filled known turned e none = are_ending st buses 0 0 0 0 filled known turned

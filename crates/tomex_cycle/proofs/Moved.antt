@@ -8,18 +8,18 @@ use Rattle.tomex_cycle.specs.declared.activity.Activity.TheVariants.{Nothing, St
 abbrev pub noted : (any addressed made : Bool) → Activity
 noted any addressed made = if made then More else (if addressed then More else (if any then Starts else Nothing))
 
--- where something is noted, ends or starts, something has changed
+-- if something is noted, ends or starts, something has changed
 pub what_moved : (any addressed made ended : Bool) (before now : ℕ) → (made ≡ true → now ≢ before)
     → (noted any addressed made ≡ More) ⊎ ((ended ≡ true) ⊎ (noted any addressed made ≡ Starts)) → (any ≡ true)
     ⊎ ((addressed ≡ true) ⊎ ((now ≢ before) ⊎ (ended ≡ true)))
 what_moved any addressed made ended before now h6 h7 = grind (arith, nat_tests)
 
--- and where no more than starts are noted, there was no more
+-- and if only starts are noted, there was no more
 pub none_moved : (any addressed made : Bool) → noted any addressed made ≢ More → (addressed ≡ false) × (made ≡ false)
 none_moved any addressed true e = absurd (e refl)
 none_moved any true false e = absurd (e refl)
 none_moved any false false e = (refl, refl)
 
--- and where nothing is noted, no starts
+-- and if nothing is noted, no starts
 pub none_started : (any addressed made : Bool) → noted any addressed made ≡ Nothing → any ≡ false
 none_started any addressed made h3 = grind (arith, nat_tests)

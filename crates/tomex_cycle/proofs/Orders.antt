@@ -17,7 +17,7 @@ in-append (y ∷ xs) ys x = elim (cases_Bool (y == x)) [
   | inr e ↦ rw e (in-append xs ys x)
 ]
 
--- who stands in a place stands in the order
+-- a step that holds a place is in the order
 pub in_order : (i : Loaded) (c : Clocks) (h : List Done) (x : ℕ)
     → is_some (station_at i c h x) ≡ is_listed (order_of c.end h) x
 in_order i c [] x = refl

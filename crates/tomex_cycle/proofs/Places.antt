@@ -127,7 +127,7 @@ pub holds_here : (i : Loaded) (c : Clocks) (d : Done) (older : List Done) (x : �
     → station_at i c (d ∷ older) x ≡ Some (station_of i c d older)
 holds_here i c d older x e = rw e refl
 
--- the station of a step that holds a place stands there, whatever is younger
+-- the station of a step that holds a place is there, whatever is younger
 pub station_here : (i : Loaded) {config : Configuration} (c : Clocks) (newer : List Done) (d : Done) (older : List Done)
     (x : ℕ) → IsWithinLimits config → AreTimed config (newer ++ (d ∷ older))
     → AreIssuedBy (c.end + 1) (newer ++ (d ∷ older)) → holds_place c.end x d ≡ true

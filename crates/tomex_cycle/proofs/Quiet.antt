@@ -26,7 +26,7 @@ pub record IsAtRest (v : ℕ) (d : Done) : Type 0 where
 abbrev pub AllAtRest : ℕ → List Done → Type 0
 AllAtRest v h = AllByRecursion (IsAtRest v) h
 
--- nothing of the step falls in the cycle but perhaps its finish, where it is so
+-- of the step only its finish may fall in the cycle, if it is so
 pub record IsQuietBut (P : Done → Type 0) (v : ℕ) (d : Done) : Type 0 where
   pub issue : d.at.issue ≢ v
   pub address : cycle_of d.at.address ≢ v
@@ -163,7 +163,7 @@ bus_quiet {config} v h good quiet = rw (count_none (λ (d : Done). is_some (step
 
 -- What passes a test of the next cycle passes it in a cycle in which nothing happens.
 
--- where none has issued in either of the two, all slots of this one are left
+-- if none has issued in either of the two, all slots of this one are left
 slot_quiet : {config : Configuration} (v : ℕ) (h : List Done) → 0 < v → IsWithinLimits config → AreTimed config h
     → AllAtRest v h → last_issue h ≢ v + 1 → can_issue_another config h (v + 1) ≡ true
     → can_issue_another config h v ≡ true
@@ -293,7 +293,7 @@ quiet_next {config} u v (d ∷ h) good timed l m quiet free =
     now.finish issue (λ silent. finish) timed.0.end in
     (record { issue = issue; address = address; start = start; finish = finish; end = end }, older)
 
--- where nothing happens in the cycle u, and nothing that had started finishes in the next ones, nothing happens in them
+-- if nothing happens in the cycle u, and nothing that had started finishes in the next ones, nothing happens in them
 pub quiet_on : {config : Configuration} (u n : ℕ) (h : List Done) → IsWithinLimits config → AreTimed config h → 0 < u
     → AllQuiet u h → ((w : ℕ) → u < w → w ≤ u + n → AllFree u w h) → AllQuietTo u (u + n) h
 quiet_on u zero h good timed l quiet free k a b = let e : k ≡ u = omega arith in rw e quiet
@@ -336,7 +336,7 @@ settled_finish : (P : Type 0) (u start finish : ℕ) → start ≢ u + 1 → sta
     → finish ≡ u + 1 → P
 settled_finish P u start finish later order due e = grind (arith, nat_tests)
 
--- nothing falls in the next one but such finishes, where all that finishes in it is so, and what is so has a result to
+-- only such finishes fall in the next one, if all that finishes in it is so, and what is so has a result to
 -- send
 pub settled_next : (P : Done → Type 0) {config : Configuration} (u : ℕ) (h : List Done)
     → ((d : Done) → P d → is_some (step_dest d.step) ≡ true) → IsWithinLimits config → AreTimed config h → 0 < u
@@ -366,7 +366,7 @@ free_on u w (d ∷ h) settled free = (
   free_on u w h settled.1 free.1,
 )
 
--- and nothing in those after it, where nothing that had started finishes in them
+-- and nothing in those after it, if nothing that had started finishes in them
 pub settled_quiet : {config : Configuration} (u n : ℕ) (h : List Done) → IsWithinLimits config → AreTimed config h
     → 0 < u → AllSettled u h → ((w : ℕ) → u < w → w ≤ u + n → AllFree u w h) → (k : ℕ) → u < k → k ≤ u + n
     → AllQuiet k h

@@ -45,7 +45,7 @@ unfolding run_of first_timed
 run_whole {config} {i} {n} run = ap (history config) (steps_to_end i n 262144 run.state run.kind run.ends run.few)
     ∙ ap (timed_of config) (reverse-reverse (first_steps i (n + 1)))
 
--- the step after so many
+-- the step after the first n
 pub step_is : {config : Configuration} {i : Loaded} {n : ℕ} (k : ℕ) → RunEndsAfter i config n → k ≤ n
     → (x : Step) × (step_after i k ≡ Some x)
 step_is {i} {n} k run l = elim (step_after i k) as (λ o. IsSome o → (x : Step) × (o ≡ Some x))
@@ -54,7 +54,7 @@ step_is {i} {n} k run l = elim (step_after i k) as (λ o. IsSome o → (x : Step
 none_other : (x : EndKind) → None ≡ Some x → ⊥
 none_other x e = cc
 
--- what doesn't end the program goes on
+-- a step that doesn't end the program continues it
 goes_on : {config : Configuration} {i : Loaded} {n : ℕ} (k : ℕ) (x : Step) → RunEndsAfter i config n → k ≤ n
     → step_after i k ≡ Some x → end_of x ≡ None → IsAllowed i x
 goes_on {i} {n} k x run l e none = elim (cases_order k n) [

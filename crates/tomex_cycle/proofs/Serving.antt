@@ -1,4 +1,4 @@
--- The oldest of those that are ready are those that the recurrence serves: fewer than so many older ones are.
+-- The oldest of those that are ready are those that the recurrence serves: fewer than n older ones are.
 use Rattle.std.proofs.Common.{ℕ, zero, suc, ◌+◌, ◌<◌, ◌≤◌, ◌≡◌, ◌∙◌, Bool, true, false, arith, refl, List, [], ◌∷◌}
 use Rattle.std.proofs.Common.{◌++◌, Option, Some, None, ap, sym, inl, inr, append-nil, length, take, filter}
 use Rattle.std.specs.Prelude.{min}
@@ -17,7 +17,7 @@ abbrev pub goes_at : ℕ → (Done → Bool) → List Done → ℕ → Bool
 goes_at t goes [] x = false
 goes_at t goes (d ∷ older) x = if holds_place t x d then goes d else goes_at t goes older x
 
--- a step goes where it is ready and fewer than n older ones go
+-- a step goes if it is ready and fewer than n older ones go
 pub record Serves (t n set : ℕ) (goes : Done → Bool) (d : Done) (older : List Done) : Type 0 where
   pub idle : nat_lt t d.at.end ≡ false → goes d ≡ false
   pub nowhere : place_of d ≡ None → goes d ≡ false
@@ -60,7 +60,7 @@ one_more xs p n x l =
 no_more : (xs : List ℕ) (p n : ℕ) → n ≤ length xs → take n (xs ++ (p ∷ [])) ≡ take n xs
 no_more xs p n l = take-append-le n xs (p ∷ []) l
 
--- who is ready goes where fewer than n do
+-- a step that is ready goes if fewer than n do
 ready_by : {t n set : ℕ} (p : ℕ) {goes : Done → Bool} {d : Done} {older : List Done} → place_of d ≡ Some p
     → nat_lt t d.at.end ≡ true → has set p ≡ true → Serves t n set goes d older
     → ((x : ℕ) → holds_place t x d ≡ true → goes_at t goes older x ≡ false) → IsServed t n set goes older

@@ -1,6 +1,6 @@
--- What the stations tell of a cycle: where they stay as they were, and no operation finishes in it, nothing happens in
+-- What the stations show of a cycle: if they stay as they were, and no operation finishes in it, nothing happens in
 -- it;
--- where operations start, and leave none that waits for a unit, it is settled.
+-- if operations start, and leave none that waits for a unit, it is settled.
 use Rattle.std.proofs.Common.{ℕ, ◌+◌, ◌<◌, ◌≤◌, ◌≡◌, ◌∙◌, Bool, true, false, arith, refl, List, [], ◌∷◌, ◌++◌, Option}
 use Rattle.std.proofs.Common.{Some, None, ap, sym, inl, inr, append_assoc, slice_index_or}
 use Rattle.tomex_cycle.proofs.Words.{◌≢◌, nat_lt, nat_le, ◌&&◌, if◌then◌else◌, MatchOption, cases_Bool, nat_tests}
@@ -24,7 +24,7 @@ use Rattle.tomex_cycle.proofs.Truth.{some_not_none}
 same_some : {A : Type 0} (x y : A) → Some x ≡ Some y → x ≡ y
 same_some x y e = cc
 
--- once the step that held a place has ended nothing stands there, since what is younger couldn't take it before
+-- after the step that held a place has ended the place is empty, since no younger step could take it before
 left_empty : (i : Loaded) {config : Configuration} (t u x : ℕ) (newer : List Done) (d : Done) (older : List Done)
     → IsWithinLimits config → AreTimed config (newer ++ (d ∷ older)) → AreIssuedBy (t + 1) (newer ++ (d ∷ older))
     → u ≡ t + 1 → holds_place t x d ≡ true → d.at.end ≤ u → station_at i (clocks u u u) (newer ++ (d ∷ older)) x ≡ None
@@ -70,7 +70,7 @@ over_quiet t u d older good timed over e =
       end = λ z. omega arith;
     }
 
--- a busy step, where the cycle leaves its station as it was
+-- a busy step, if the cycle leaves its station as it was
 busy_quiet : {i : Loaded} {config : Configuration} (t u : ℕ) {old new : Pools} {h : List Done} (newer : List Done)
     (d : Done) (older : List Done) → IsWithinLimits config → AreTimed config h → AreIssuedBy t h → u ≡ t + 1
     → ShowsStations i (clocks t t t) h old → ShowsStations i (clocks u u u) h new → new.slots ≡ old.slots
@@ -165,7 +165,7 @@ over_settles t u d older good timed over e =
       no_start_next = λ z. omega arith;
     }
 
--- a busy step, where all but starts leave its station as it was, and none waits
+-- a busy step, if only starts change its station, and none waits
 busy_settled : {i : Loaded} {config : Configuration} (t u : ℕ) {mid new : Pools} {h : List Done} (newer : List Done)
     (d : Done) (older : List Done) → IsWithinLimits config → AreTimed config h → AreIssuedBy t h → u ≡ t + 1
     → ShowsStations i (clocks u t t) h mid → ShowsStations i (clocks u u u) h new → new.slots ≡ mid.slots
@@ -307,7 +307,7 @@ issued_free {i} {config} u w {st} {h} good timed issued l shown free =
     issued_due (λ d. ⊥) i config u w st h [] h good timed issued l shown (λ d x s small place slot instr done. both_ways
     (finishes w (Some s)) (ap (finishes w) (sym slot) ∙ free x small) done) refl
 
--- they show finishes of results alone
+-- they show only finishes of results
 pub issued_results : {i : Loaded} {config : Configuration} (u w : ℕ) {st : Pools} {h : List Done}
     → IsWithinLimits config → AreTimed config h → AreIssuedBy u h → u < w → ShowsStations i (clocks u u u) h st
     → AreResults st.slots w → AllDue HasResult u w h

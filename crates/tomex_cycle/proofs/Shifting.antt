@@ -1,4 +1,4 @@
--- What a state shows after a cycle it shows after a later one, where nothing happens between but finishes of results.
+-- What a state shows after a cycle it shows after a later one, if only results finish in between.
 use Rattle.std.proofs.Common.{ℕ, zero, suc, ◌+◌, ◌-◌, ◌<◌, ◌≤◌, ◌≡◌, ◌∙◌, true, arith, refl, List, [], ◌∷◌, ◌++◌}
 use Rattle.std.proofs.Common.{Option, Some, None, ap, inl, inr, subst}
 use Rattle.tomex_cycle.proofs.Words.{◌≢◌, nat_lt, nat_le, ◌&&◌, AllByRecursion, both_ways, cases_Bool}
@@ -10,7 +10,7 @@ use Rattle.tomex_cycle.proofs.Quiet.{AllSteady, AllQuiet}
 use Rattle.tomex_cycle.proofs.Runs.{next_done, not_by, run_next, run_timed, step_is}
 use Rattle.tomex_cycle.proofs.Totals.{issued_more}
 
--- both cycles stand alike to the times of the step
+-- both cycles compare alike with the times of the step
 pub record IsAlike (u w : ℕ) (d : Done) : Type 0 where
   pub address : nat_le (cycle_of d.at.address) u ≡ nat_le (cycle_of d.at.address) w
   pub start : nat_le d.at.start u ≡ nat_le d.at.start w

@@ -32,7 +32,7 @@ holds_test t tag d small few issued =
     rw (le-leb d.at.issue t issued, same_place tag.pool tag.number (step_pool d.step) d.at.station small few)
     (turn_and (nat_lt t d.at.end) (is_in tag.pool (step_pool d.step)) (is_number d.at.station tag.number))
 
--- what a station shows is what stands in its place
+-- what a station shows is the content of its place
 pub shown_is : (i : Loaded) (t : ℕ) (tag : Tag) (h : List Done) → tag.number < 16 → AreLow h → AreIssuedBy t h
     → shown t h tag ≡ option_map (busy_from tag) (station_at i (clocks t t t) h (place_of_tag tag))
 shown_is i t tag [] small few issued = refl

@@ -49,7 +49,7 @@ settled_last {i} {config} {n} u w at run low l now settled free = elim (cases_or
   | inr (inr beyond) ↦ absurd (omega arith)
 ]
 
--- after a settled cycle nothing happens in the next one but finishes of results, where the stations show no others
+-- after a settled cycle only finishes of results happen in the next one, if the stations show no others
 next_steady : {A : Type 0} {i : Loaded} {config : Configuration} {n : ℕ} (u : ℕ) (at : Inner A)
     → RunEndsAfter i config n → 0 < u → IsAt i config n u at → AllSettled u (first_timed config i (n + 1))
     → AreResults at.pools.slots (u + 1) → AllSteady (u + 1) (first_timed config i (n + 1))

@@ -35,7 +35,7 @@ wants_not slots older next unit None e = refl
 wants_not slots older next unit (Some s) e =
     no_kind (is_waiting s) (is_clear slots older s next) (unit_of s.instr.op) unit e
 
--- what waits for one wants it, where no older access is in its way
+-- a step that waits for a unit takes it if no older access blocks it
 pub wants_clear : (slots : List (Option Station)) (older : List ℕ) (next : ℕ) (unit : UnitId) (o : Option Station)
     (clear : Bool) → waits_for unit o ≡ true → ((s : Station) → o ≡ Some s → clear ≡ is_clear slots older s next)
     → clear ≡ is_number (wanted slots older next o) (place_of_unit unit)
@@ -122,7 +122,7 @@ addressed_one s w =
     (and_parts (is_none s.finish && is_ready s) (not (is_memory_op s.instr.op) || is_some s.address) two.0).1 in
     rw memory (rw memory at address)
 
--- all that wait are clear, where each of them is
+-- all that wait are clear if each of them is
 pub all_waiting : (st : Pools) (next waiting : ℕ) → AreBusy st.slots st.busy st.issue_numbers
     → IsSetOf (waits_for units.Mem) st.slots waiting
     → ((place next : ℕ) (s : Station) (older younger : List ℕ) → place < 128
@@ -170,7 +170,7 @@ ready_for st next set unit filled of apart = record {
   wants = λ x l older younger by. of x l ∙ wants_unit st.slots older next unit (slice_index_or st.slots x None) apart;
 }
 
--- all that wait for a unit of a kind, where at most one operation waits
+-- all that wait for a unit of a kind, if at most one operation waits
 pub single_of : (unit : UnitId) (slots : List (Option Station)) (waiting set n : ℕ) (issue_numbers : List ℕ)
     → ((a b : ℕ) → a < 128 → b < 128 → has waiting a ≡ true → has waiting b ≡ true → a ≡ b)
     → IsSetOf waits slots waiting → 0 < n
@@ -225,7 +225,7 @@ are_starting config {st} {next} {ra} {rb} {rc} {rd} {re} a b c d e all is_alu is
         (option_of config unit).units (slice_index (a ∷ b ∷ c ∷ d ∷ e ∷ []) (place_of_unit unit))
     each unit = grind (arith, nat_tests)
 
--- where nothing waits, nothing starts
+-- if nothing waits, nothing starts
 pub none_starts : (config : Configuration) (st : Pools) (next waiting : ℕ) → AreBusy st.slots st.busy st.issue_numbers
     → IsSetOf waits st.slots waiting → waiting ≡ 0 → IsStarting config st next 0
 none_starts config st next waiting filled of empty =

@@ -42,7 +42,7 @@ begun_more {config} {next} {k} {m} {picked} {old} {now} new s l pick here slots 
   issue_numbers = issue_numbers ∙ before.issue_numbers;
 }
 
--- no fault where all can start
+-- no fault if all can start
 pub no_fault : {config : Configuration} {next k : ℕ} {m : Bytes} {picked : ℕ} {old now : Pools} (fault : Option Fault)
     → k < 96 → has picked k ≡ true
     → ((s : Station) → slice_index_or now.slots k None ≡ Some s → CanBegin m s → fault ≡ None)

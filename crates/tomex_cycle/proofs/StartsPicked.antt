@@ -73,7 +73,7 @@ clear_here {i} {config} t u {st} newer d older good timed issued shown e f l =
           issued shown (e ∙ sym (append_assoc newer (d ∷ []) older)) f (omega arith) bytes refl
     ]
 
--- an operation that is ready starts where a unit of its kind is left: the recurrence's test
+-- an operation that is ready starts if a unit of its kind is left: the recurrence's test
 pub begins_is : {i : Loaded} {config : Configuration} (t u : ℕ) {st : Pools} {h : List Done} (newer : List Done)
     (d : Done) (older : List Done) (unit : UnitId) → IsWithinLimits config → AreTimed config h → AreIssuedBy t h
     → ShowsStations i (clocks t t t) h st → h ≡ newer ++ (d ∷ older) → u ≡ t + 1 → step_unit d.step ≡ Some unit

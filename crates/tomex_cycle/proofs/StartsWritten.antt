@@ -56,7 +56,7 @@ none_leaves u a d e = rw e refl
 none_not : {A : Type 0} (x : A) → None ≡ Some x → ⊥
 none_not x e = cc
 
--- a step that leaves no byte changes none as the clock goes on
+-- a step that leaves no byte changes none in later cycles
 made_same : (i : Loaded) (config : Configuration) (t u a : ℕ) (d : Done) (older : List Done)
     → AreTimed config (d ∷ older) → AreIssuedBy t (d ∷ older) → u ≡ t + 1 → (starts_in u d && overwrites d.step a)
     ≡ false → (overwrites d.step a && nat_le d.at.start u) ≡ (overwrites d.step a && nat_le d.at.start t)

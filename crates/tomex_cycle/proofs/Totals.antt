@@ -27,7 +27,7 @@ onto_end-some : (xs : List ℕ) (o : Option ℕ) → is_some o ≡ true → 0 < 
 onto_end-some xs None h = absurd (cc)
 onto_end-some xs (Some x) h = simp length-append (omega arith)
 
--- where a step hasn't ended a place is busy, and none is where all have
+-- if a step hasn't ended, a place is busy; if all have, none is
 pub none_busy : {config : Configuration} (h : List Done) (t : ℕ) → IsWithinLimits config → AreTimed config h
     → AreIssuedBy t h → order_of t h ≡ [] → greatest_end h ≤ t
 none_busy [] t good timed issued e = omega arith
@@ -55,7 +55,7 @@ stopped_not : (x : Step) (waits : Bool) (kind : EndKind) (pc : ℕ) → end_of x
 stopped_not x true kind pc e f = let g : Waits ≡ Stopped kind pc = rw e at f in cc
 stopped_not x false kind pc e f = let g : At (next_pc_of x) ≡ Stopped kind pc = rw e at f in cc
 
--- fetch stops just where the last step is issued
+-- fetch stops exactly when the last step is issued
 pub stopped_is : {config : Configuration} {i : Loaded} {n : ℕ} (k t : ℕ) (end : EndKind) (pc : ℕ)
     → RunEndsAfter i config n → k ≤ n + 1 → fetch_of i t (first_timed config i k) ≡ Stopped end pc → k ≡ n + 1
 stopped_is {i} zero t end pc run l e = let f : At i.entry ≡ Stopped end pc = rw run_none at e in
@@ -97,7 +97,7 @@ more_left {config} {i} {n} k t run l next =
     rw (← rest.1.same) (run_timed i (n + 1) run.lawful) in
     rw rest.1.same (later_end rest.0 (first_timed config i k) t run.lawful timed rest.1.later (omega arith))
 
--- the run is over just where fetch has stopped and no station is busy
+-- the run is over exactly if fetch has stopped and no station is busy
 pub is_over : {config : Configuration} {i : Loaded} {n t count : ℕ} (end : EndKind) (pc : ℕ) {stations : Pools}
     {registers : RegStatus} {fetch : Fetch} → RunEndsAfter i config n
     → IsIssuedTo i config n t (clocks t t t) count stations registers fetch → fetch ≡ Stopped end pc

@@ -224,7 +224,7 @@ impl<'a, A: Allocator> Machine<'a, A> {
         self.inner.cycles_made()
     }
 
-    /// Whether the program has ended, and so has each of its instructions.
+    /// True if the program has ended, and so has each of its instructions.
     pub fn ended(&self) -> bool
         ensures value { result ≡ is_end self.now.status }
     {

@@ -1,4 +1,4 @@
--- The entries of a run: how the times and the waits of each stand to each other.
+-- The entries of a run: how the times and the waits of each are related.
 use Rattle.std.proofs.Common.{ℕ, ◌+◌, ◌-◌, ◌<◌, ◌≤◌, ◌≡◌, ◌∙◌, ap, subst, Bool, true, false, arith, refl, inl, inr}
 use Rattle.std.proofs.Common.{Option, Some, None, List, [], ◌∷◌, ◌++◌, length, map, max, reverse}
 use Rattle.std.specs.Prelude.{All, ◌&&◌, is_some, nat_lt, not}
@@ -77,7 +77,7 @@ address_ways : (o : Bool) → one (not o) + one (o && not false) + one false + o
 address_ways true = refl
 address_ways false = refl
 
--- up to its address cycle a step lacks an operand or its address
+-- up to its address cycle a step has no operand or no address
 address_within : (config : Configuration) (older : List Done) (d : Done) (a : ℕ) → cycle_of d.at.address ≡ a
     → d.at.issue < a → a < d.at.start
     → a ≤ d.at.issue + (waits_of config older d).operand + (waits_of config older d).address

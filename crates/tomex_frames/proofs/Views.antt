@@ -1,4 +1,4 @@
--- What a run's views list, and how often a word stands in them.
+-- What a run's views list, and how often a word is in them.
 use Rattle.std.proofs.Common.{ℕ, ◌+◌, ◌-◌, ◌<◌, ◌≤◌, ◌≡◌, ◌∙◌, ap, subst, sym, true, false, arith, refl}
 use Rattle.std.proofs.Common.{inl, inr, None, List, [], ◌∷◌, ◌++◌, length, max, reverse}
 use Rattle.std.specs.Prelude.{All, codes, count_by, nat_le, sum_by}

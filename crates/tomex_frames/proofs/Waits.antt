@@ -16,7 +16,7 @@ use Rattle.tomex_frames.specs.declared.doing.Doing.{Doing}
 use Rattle.tomex_frames.specs.declared.doing.Doing.TheVariants.{Issues, Computes, Executes, Writes, Waits as WaitsFor}
 use Rattle.tomex_frames.proofs.Counts.{cut, one, same, ways}
 
--- how the times and the waits of a step stand to each other
+-- how the times and the waits of a step are related
 pub record IsPlaced (last : ℕ) (e : Entry) : Type 0 where
   pub low : 0 < e.from
   pub order : e.from ≤ e.at.issue
@@ -264,7 +264,7 @@ module _ (last : ℕ) (e : Entry) (placed : IsPlaced last e) where
       (omega (arith, placed.start, placed.begun, placed.finish)) in
       omega arith
 
-  -- what is no word of the cycles in between stands in none of them
+  -- a word that is none of the cycles in between is in none of them
   none_between : (p : Option Doing → Bool) → p (waits_for causes.Operand) ≡ false
       → p (waits_for causes.Address) ≡ false → p (Some Computes) ≡ false
       → cycles_that (λ t. p (doing_in t e)) (e.at.issue + 1) ready ≡ 0
@@ -275,7 +275,7 @@ module _ (last : ℕ) (e : Entry) (placed : IsPlaced last e) where
         | inr (inr x) ↦ ap p x ∙ computing
       ])
 
-  -- and in each of them stands one of three words
+  -- and in each of them is one of three words
   one_between : (p q r : Option Doing → Bool)
       → one (p (waits_for causes.Operand)) + one (q (waits_for causes.Operand)) + one (r (waits_for causes.Operand)) ≡ 1
       → one (p (waits_for causes.Address)) + one (q (waits_for causes.Address)) + one (r (waits_for causes.Address)) ≡ 1
@@ -295,7 +295,7 @@ module _ (last : ℕ) (e : Entry) (placed : IsPlaced last e) where
       ]) in
       omega arith
 
-  -- in how many cycles a word stands that is none of these three
+  -- the number of cycles with a word that is none of these three
   elsewhere : (p : Option Doing → Bool) → p (waits_for causes.Operand) ≡ false → p (waits_for causes.Address) ≡ false
       → p (Some Computes) ≡ false → count_by (λ t. p (doing_in t e)) (range_with_len 1 last)
       ≡ in_stretch p None (e.from - 1) + in_stretch p (waits_for causes.Branch) e.waits.branch

@@ -71,7 +71,7 @@ abbrev pub StepsShowTheirWaits : Type 0
 StepsShowTheirWaits = (config : Configuration) (steps : List Step) → IsWithinLimits config
     → All (ShowsWaits (total_of (times_in config steps))) (entries_of config steps)
 
--- in how many rows of the views up to the last one this stands, each view being one of its page's
+-- the number of rows with this in the views up to the last one, each view being one of its page's
 abbrev pub rows_with : List ℕ → (ℕ → Span) → ℕ → List Entry → ℕ
 rows_with words page last es =
     sum_by (λ t. count_by (says words t) (rows_of (page t) es t)) (range_with_len 1 last)

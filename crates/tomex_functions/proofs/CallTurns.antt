@@ -1,6 +1,8 @@
 -- The calls of a run's steps, one step more.
-use Rattle.std.proofs.Common.{◌≡◌, ◌<◌, ◌≤◌, ◌∙◌, ap, arith, refl, sym, subst, inl, inr, ℕ, zero, suc, add-one, ◌+◌, ◌-◌, ◌^◌, ◌==◌, eqb-true}
-use Rattle.std.proofs.Common.{Bool, true, false, cond, List, [], ◌∷◌, ◌++◌, get_or, length, map, take, Option, Some, None}
+use Rattle.std.proofs.Common.{◌≡◌, ◌<◌, ◌≤◌, ◌∙◌, ap, arith, refl, sym, subst, inl, inr, ℕ, zero, suc, add-one, ◌+◌}
+use Rattle.std.proofs.Common.{◌-◌, ◌^◌, ◌==◌, eqb-true}
+use Rattle.std.proofs.Common.{Bool, true, false, cond, List, [], ◌∷◌, ◌++◌, get_or, length, map, take, Option, Some}
+use Rattle.std.proofs.Common.{None}
 use Rattle.std.specs.Prelude.{count_by, is_some, not, ◌&&◌, ◌||◌, unwrap_or}
 use Rattle.std.specs.Ordering.{is_eq, nat_cmp}
 use Rattle.std.proofs.lemmas.List.{append-nil, get_or_default, get_or-map, length-map, length-take, length_push}
@@ -43,7 +45,7 @@ pub calls_same : (symbols : List Symbol) (ss : List Step) (i : ℕ) (d : Step) �
 calls_same symbols ss i d l is =
     rw is at (calls_more_after symbols None ss i d l) ∙ append-nil (calls_in symbols (take i ss))
 
--- what stands before a step that isn't the first
+-- the step before one that isn't the first
 pub before_is : (ss : List Step) (i : ℕ) (d : Step) → 0 < i → i < length ss
     → before_at None i ss ≡ Some (get_or ss (i - 1) d)
 before_is ss zero d some l = absurd (omega arith)
@@ -160,7 +162,7 @@ module _ (symbols : List Symbol) (ss : List Step) (fs : List (Option Symbol)) (i
   pub turn_same : b ≡ false → calls_in symbols (take (i + 1) ss) ≡ calls_in symbols (take i ss)
   turn_same call = calls_same symbols ss i s below (sym (is s) ∙ call)
 
--- the code's test is the definition's: the step comes behind another one
+-- the code's test is the definition's: the step comes after another one
 pub call_is : (symbols : List Symbol) (ss : List Step) (fs : List (Option Symbol)) (i : ℕ) (d s t : Step)
     (f g : Option Symbol)
     → fs ≡ map (function_of symbols) ss → i < length ss → 0 < i

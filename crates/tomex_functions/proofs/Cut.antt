@@ -1,5 +1,6 @@
 -- A name that is cut after some bytes, of which one more is looked at.
-use Rattle.std.proofs.Common.{◌≡◌, ℕ, zero, suc, ◌+◌, ◌<◌, ◌≤◌, arith, refl, sym, ap, ◌∙◌, min, List, [], ◌∷◌, ◌++◌, length, take, codes}
+use Rattle.std.proofs.Common.{◌≡◌, ℕ, zero, suc, ◌+◌, ◌<◌, ◌≤◌, arith, refl, sym, ap, ◌∙◌, min, List, [], ◌∷◌, ◌++◌}
+use Rattle.std.proofs.Common.{length, take, codes}
 use Rattle.std.specs.Prelude.{nat_lt, if◌then◌else◌}
 use Rattle.std.proofs.lemmas.Bool.{le-ltb, lt-ltb}
 use Rattle.std.proofs.lemmas.List.{append-nil, length-take, take_min}

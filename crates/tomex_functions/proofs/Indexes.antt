@@ -1,5 +1,6 @@
 -- The functions of a run's addresses, looked up.
-use Rattle.std.proofs.Common.{◌≡◌, ◌≢◌, ◌<◌, ◌≤◌, ◌∙◌, ap, arith, inl, inr, sym, ℕ, get_or, length, map, take, ◌+◌, ◌++◌, ◌∷◌, [], List, None, Option}
+use Rattle.std.proofs.Common.{◌≡◌, ◌≢◌, ◌<◌, ◌≤◌, ◌∙◌, ap, arith, inl, inr, sym, ℕ, get_or, length, map, take, ◌+◌}
+use Rattle.std.proofs.Common.{◌++◌, ◌∷◌, [], List, None, Option}
 use Rattle.std.proofs.Common.{Ok, Err}
 use Rattle.std.specs.Prelude.{All, IsPermutation, Result}
 use Rattle.std.specs.List.Sorted.{IsBinarySearchResult}

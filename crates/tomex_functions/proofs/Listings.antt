@@ -1,5 +1,6 @@
 -- What was counted by function is what the functions' rows have.
-use Rattle.std.proofs.Common.{◌≡◌, ◌∙◌, append_assoc, ap, ap₂, refl, sym, subst, ℕ, List, [], ◌∷◌, ◌++◌, Option, Some, None, map, length, ◌==◌}
+use Rattle.std.proofs.Common.{◌≡◌, ◌∙◌, append_assoc, ap, ap₂, refl, sym, subst, ℕ, List, [], ◌∷◌, ◌++◌, Option, Some}
+use Rattle.std.proofs.Common.{None, map, length, ◌==◌}
 use Rattle.std.specs.Prelude.{All, IsPermutation}
 use Rattle.std.specs.BTreeMap.{IsOrdered, keys, values}
 use Rattle.std.specs.List.{flat_map}

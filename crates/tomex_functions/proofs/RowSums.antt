@@ -42,7 +42,7 @@ rows_add_up column value symbols calls visits rows is those =
     ∙ (all_rows column value is symbols calls visits keys
     ∙ by_keys (function_key symbols) value visits keys are.rising (λ k there. are.those k ∙ there))
 
--- where one of some visits stands, one of all of them does
+-- at a place of some visits there is one of all of them
 any_of_all : (key : Step → ℕ) (k pc : ℕ) (visits : List Visit)
     → list_any (λ v. v.step.pc == pc) (visits_of key k visits) ≡ true → list_any (λ v. v.step.pc == pc) visits ≡ true
 any_of_all key k pc [] there = there

@@ -1,8 +1,8 @@
 -- The texts of what was counted are the reports.
-use Rattle.std.proofs.Common.{arith, refl, true, eqb-true, ◌==◌, Vec}
-use Rattle.std.specs.Vec.{vec_len}
-use Rattle.std.proofs.Common.{◌≡◌, ◌∙◌, ap, ap₂, subst, sym, ℕ, List, [], ◌∷◌, ◌++◌, codes, length, Option, Some}
-use Rattle.std.specs.Prelude.{All}
+use Rattle.std.proofs.Common.{◌≡◌, ◌∙◌, arith, ap, ap₂, refl, subst, sym, ℕ, suc, true, false, List, [], ◌∷◌}
+use Rattle.std.proofs.Common.{◌++◌, codes, length, Option, Some}
+use Rattle.std.specs.Prelude.{◌≢◌, All, nat_lt}
+use Rattle.std.proofs.lemmas.Bool.{ltb-false, ltb-true}
 use Rattle.std.specs.BTreeMap.{IsOrdered, keys}
 use Rattle.std.specs.Fmt.{decimal}
 use Rattle.std.specs.List.{flat_map}
@@ -14,7 +14,7 @@ use Rattle.tomex_steps.specs.declared.step.Step.{Step}
 use Rattle.tomex_config.specs.Configuration.{Configuration}
 use Rattle.tomex_csv_text.specs.Csv.{record_text}
 use Rattle.tomex_symbols.specs.declared.symbol.Symbol.{Symbol}
-use Rattle.tomex_symbols.specs.Symbols.{symbols_of}
+use Rattle.tomex_symbols.specs.Symbols.{has_symbols, symbols_of}
 use Rattle.tomex_run_views.specs.ByPlace.{Visit, pc_of, sum_columns, visits_in}
 use Rattle.tomex_run_views.specs.Tally.{IsCounted, fields_of_sum, group_of, only_drain, with_drain}
 use Rattle.tomex_run_views.specs.declared.counted.Counted.{Counted}
@@ -100,11 +100,16 @@ pub places_done : (f : Group → List ℕ) (left : List Group) (before whole : L
 places_done f left before whole none all =
     sym (append-nil before) ∙ (ap (λ (xs : List Group). before ++ flat_map f xs) (sym none) ∙ all)
 
--- a file without symbols
-pub no_symbols : {A : Type 0} (symbols : Vec Symbol A) (file : List ℕ)
-    → length symbols.items ≡ vec_len symbols → (vec_len symbols == 0) ≡ true → symbols.items ≡ symbols_of file → symbols_of file ≡ []
-no_symbols symbols file len none are = sym are ∙ empty symbols.items (len ∙ eqb-true (vec_len symbols) 0 none)
+-- a file with symbols, and one without
+pub some_symbols : (file : List ℕ) → has_symbols file ≡ true → symbols_of file ≢ []
+some_symbols file has none =
+    let some = ltb-true 0 (length (symbols_of file)) has in
+    let zero : length (symbols_of file) ≡ 0 = ap (λ (ss : List Symbol). length ss) none in
+    absurd (omega (arith, some, zero))
+
+pub no_symbols : (file : List ℕ) → has_symbols file ≡ false → symbols_of file ≡ []
+no_symbols file has = empty (symbols_of file) has
   where
-    empty : (xs : List Symbol) → length xs ≡ 0 → xs ≡ []
+    empty : (ss : List Symbol) → nat_lt 0 (length ss) ≡ false → ss ≡ []
     empty [] e = refl
-    empty (x ∷ xs) e = absurd (omega (arith, e))
+    empty (s ∷ ss) e = let few = ltb-false 0 (suc (length ss)) e in absurd (omega (arith, few))

@@ -13,7 +13,7 @@ is_jump Jal = true
 is_jump Jalr = true
 is_jump _ = false
 
--- a step at the first address of its function comes there by a call: the run begins with it, or it comes right behind a
+-- a step at the first address of its function comes there by a call: the run begins with it, or it comes right after a
 -- jump that leaves a return address or isn't of the same function
 abbrev pub comes_by_call : List Symbol → Option Step → Step → Bool
 comes_by_call symbols None step = true

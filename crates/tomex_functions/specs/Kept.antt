@@ -35,7 +35,7 @@ pub record IsIndexOf {A : Type 0} (symbols : List Symbol) (steps : List Step) (i
   pub those : IsPermutation (map pc_of steps) index.addresses.items
   pub functions : index.functions.items ≡ map (function_at symbols) index.addresses.items
 
--- a step of the run stands at the address
+-- a step of the run is at the address
 abbrev pub HasAddress : ℕ → List Step → Type 0
 HasAddress pc steps = (i : ℕ) × (i < length steps) × (slice_index_or (map pc_of steps) i 0 ≡ pc)
 

@@ -19,7 +19,7 @@ RowsAddUp = (column : Sum → ℕ) (value : Visit → ℕ) (symbols : List Symbo
     (rows : List Row) → Sums column value → AreRows symbols calls visits rows
     → sum_by (λ row. column row.sum) rows ≡ sum_by value visits
 
--- and what the steps of a function have is the sum over the places at which they stand
+-- and what the steps of a function have is the sum over their places
 abbrev pub PlacesOfFunctionsAddUp : Type 0
 PlacesOfFunctionsAddUp = (value : Visit → ℕ) (symbols : List Symbol) (visits : List Visit) (pcs : List ℕ) (k : ℕ)
     → ArePlaces visits pcs

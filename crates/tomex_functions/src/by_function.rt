@@ -1,6 +1,6 @@
 //! The stalls report by function.
 
-ghost use Rattle.std.specs.Prelude.{◌≡◌, ◌≢◌, ◌++◌, ◌∷◌, [], IfErr, IfOk, OnOk, codes, map};
+ghost use Rattle.std.specs.Prelude.{◌≡◌, ◌≢◌, ◌++◌, ◌∷◌, [], IfErr, IfOk, IsErrOf, OnOk, codes};
 ghost use Rattle.std.specs.List.{flat_map};
 ghost use Rattle.csv.specs.Records.{fields_of, partial_of};
 ghost use Rattle.tomex_rvexec.specs.Run.{start_of};
@@ -22,7 +22,7 @@ use tomex_config::Config;
 use tomex_csv_text::{into_text, push_decimal, push_names, put_record};
 use tomex_run_views::{push_sum, put_columns, put_sum};
 use tomex_study::Program;
-use tomex_symbols::{Symbol, symbols};
+use tomex_symbols::{Symbol, has_symbols, symbols};
 
 /// Adds the address of a function.
 fn push_address(
@@ -167,12 +167,13 @@ pub fn stalls_by_function<A: Allocator + Clone>(
     ensures text { IfOk result (λ text. IsReportByFunction file.now config.now
         (steps_from program.now.limit (start_of program.now.image)) text.items) }
     ensures some { OnOk result (symbols_of file.now ≢ []) }
-    ensures none { IfErr result (λ error. error ≡ NoSymbols → symbols_of file.now ≡ []) }
+    ensures refused { IfErr result (λ error. error ≡ NoSymbols → symbols_of file.now ≡ []) }
+    ensures none { symbols_of file.now ≡ [] → IsErrOf result NoSymbols }
 {
-    let symbols = symbols(alloc.clone()?, file)?;
-    if symbols.is_empty() {
+    if !has_symbols(file) {
         return Err(FunctionsError::NoSymbols);
     }
+    let symbols = symbols(alloc.clone()?, file)?;
     let listing = listing_of(alloc.clone()?, config, program.steps(), symbols)?;
     Ok(text_of_listing(alloc, heap, file, &listing)?)
 }

@@ -1,6 +1,6 @@
 //! The stalls report by place in the program, with functions.
 
-ghost use Rattle.std.specs.Prelude.{◌≡◌, ◌≢◌, ◌≤◌, ◌^◌, ◌++◌, ◌∷◌, [], All, IfErr, IfOk, List, OnOk, codes, map};
+ghost use Rattle.std.specs.Prelude.{◌≡◌, ◌≢◌, ◌≤◌, ◌^◌, ◌++◌, ◌∷◌, [], All, IfErr, IfOk, IsErrOf, List, OnOk};
 ghost use Rattle.std.specs.BTreeMap.{IsOrdered, values};
 ghost use Rattle.std.specs.Ordering.{nat_cmp};
 ghost use Rattle.std.specs.List.{flat_map};
@@ -29,7 +29,7 @@ use tomex_run_views::{
     Counted, Group, Tally, addresses_of, count_run, push_sum, put_columns, put_sum,
 };
 use tomex_study::Program;
-use tomex_symbols::{Symbol, symbols};
+use tomex_symbols::{Symbol, has_symbols, symbols};
 
 /// Makes a record the one of an address in a function.
 fn fill_place(
@@ -157,12 +157,13 @@ pub fn stalls_by_pc_and_function<A: Allocator + Clone>(
     ensures text { IfOk result (λ text. IsReportByPlace file.now config.now
         (steps_from program.now.limit (start_of program.now.image)) text.items) }
     ensures some { OnOk result (symbols_of file.now ≢ []) }
-    ensures none { IfErr result (λ error. error ≡ NoSymbols → symbols_of file.now ≡ []) }
+    ensures refused { IfErr result (λ error. error ≡ NoSymbols → symbols_of file.now ≡ []) }
+    ensures none { symbols_of file.now ≡ [] → IsErrOf result NoSymbols }
 {
-    let symbols = symbols(alloc.clone()?, file)?;
-    if symbols.is_empty() {
+    if !has_symbols(file) {
         return Err(FunctionsError::NoSymbols);
     }
+    let symbols = symbols(alloc.clone()?, file)?;
     let steps = program.steps();
     let index = Index::new(alloc.clone()?, symbols, steps)?;
     let addresses = addresses_of(alloc.clone()?, steps)?;

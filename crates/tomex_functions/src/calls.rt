@@ -1,4 +1,4 @@
-//! How often functions are called.
+//! The calls of functions.
 
 ghost use Rattle.std.specs.Prelude.{◌≡◌, ◌<◌, ◌≤◌, ◌==◌, ◌&&◌, ◌||◌, ◌+◌, ◌^◌, if◌then◌else◌, not, is_some};
 ghost use Rattle.std.specs.Prelude.{unwrap_or, IfOk, OnOk, ℕ, List, None, length, map, slice_index_or};
@@ -18,7 +18,7 @@ use tomex_rvdec::Op;
 use tomex_rvexec::Step;
 use tomex_symbols::Symbol;
 
-/// How often each function is called, by its key, and how often any is.
+/// The number of calls of each function, by its key, and of all.
 #[derive(Drop)]
 pub struct Calls<A: Allocator> {
     pub by_key: BTreeMap<u64, u64, A>,
@@ -42,8 +42,8 @@ fn begins(pc: u32, function: &Option<Symbol>) -> bool
     }
 }
 
-/// True if a step of some function leads to a call if the first address of another, or of the same, comes next: it
-/// jumps, and leaves a return address or goes to another function.
+/// True if a step makes a call of the next one, should that be the first of its function: it jumps, and leaves a
+/// return address or goes to another function.
 fn leads_to_call(step: &Step, function: &Option<Symbol>, next: &Option<Symbol>) -> bool
     ensures { result ≡ is_jump step.now.instr.op
         && (is_some (step_dest step.now) || not (key_of function.now == key_of next.now)) }
@@ -68,7 +68,7 @@ fn is_call(steps: &[Step], functions: &[Option<Symbol>], index: usize) -> bool
 }
 
 impl<A: Allocator + Clone> Calls<A> {
-    /// How often the function with this key is called.
+    /// The number of calls of the function with this key.
     pub fn of(&self, key: u64) -> u64
         ensures { result ≡ unwrap_or (get nat_cmp self.now.by_key key) 0 }
     {

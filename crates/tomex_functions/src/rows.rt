@@ -35,7 +35,7 @@ pub struct Listing<A: Allocator> {
     pub drain: Sum,
     /// All steps, and the drain.
     pub total: Sum,
-    /// How many calls there are.
+    /// The number of calls.
     pub calls: u64,
 }
 

@@ -2,7 +2,7 @@
 
 ghost use Rattle.tomex_page_tables.specs.Laws.{DifferencesAddUp, DifferencesSayOneThing, PartsAddUp};
 
-/// The costs in the table of a row's parts are together the row's cost, which stands below them.
+/// The costs in the table of a row's parts are together the row's cost, which is below them.
 pub fn costs_of_parts_add_up()
     ensures { PartsAddUp }
 {}

@@ -1,4 +1,4 @@
 -- Lemmas of this crate.
-pub mod Telling
+pub mod Implied
 pub mod Keeping
 pub mod Finding

@@ -28,7 +28,8 @@ pub struct KnownRow {
 fn weighted_cycles<A: Allocator>(programs: &[Program<A>], totals: &[u64], made: u64) -> u64
     requires few { length programs.now ≤ 8 }
     requires ends { All IsProgram programs.now }
-    requires totals { (config : Configuration) × IsWithinLimits config × (totals.now ≡ totals_on programs.now config) }
+    requires totals { (config : Configuration) × IsWithinLimits config
+        × (totals.now ≡ totals_on programs.now config) }
     ensures { (config : Configuration) → totals.now ≡ totals_on programs.now config
         → result ≡ weighted_cycles programs.now config made }
 {
@@ -54,7 +55,8 @@ impl KnownRow {
     pub fn of<A: Allocator>(programs: &[Program<A>], totals: &[u64]) -> KnownRow
         requires few { length programs.now ≤ 8 }
         requires ends { All IsProgram programs.now }
-        requires totals { (config : Configuration) × IsWithinLimits config × (totals.now ≡ totals_on programs.now config) }
+        requires totals { (config : Configuration) × IsWithinLimits config
+            × (totals.now ≡ totals_on programs.now config) }
         ensures { (config : Configuration) → totals.now ≡ totals_on programs.now config
             → IsKnownRow programs.now config result }
     {

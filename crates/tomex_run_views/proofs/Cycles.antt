@@ -72,7 +72,7 @@ pub cycles_are_waits : CyclesAreWaits
 cycles_are_waits config steps key k good =
     rw (sym (visits_are config steps good)) (all key k steps (waits_in config steps) (length-waits_in config steps))
 
--- the steps after a history issue, each so long after the one before it
+-- the steps after a history issue, each its cycles after the one before it
 issued : (config : Configuration) (h : List Done) (ss : List Step) → IsWithinLimits config → AreTimed config h
     → cycles_of (visits_after (last_issue h) ss (times_from config h ss) (waits_from config h ss)) + last_issue h
     ≡ last_issue (history_from config h ss)

@@ -1,5 +1,6 @@
 -- The cycles from one issue to the next are waits, and so are those from a step's issue to its end.
-use Rattle.std.proofs.Common.{ℕ, zero, suc, ◌+◌, ◌-◌, ◌*◌, ◌<◌, ◌≤◌, ◌≡◌, ◌∙◌, arith, refl, ap, ap₂, sym, length, take, get_or}
+use Rattle.std.proofs.Common.{ℕ, zero, suc, ◌+◌, ◌-◌, ◌*◌, ◌<◌, ◌≤◌, ◌≡◌, ◌∙◌, arith, refl, ap, ap₂, sym, length, take}
+use Rattle.std.proofs.Common.{get_or}
 use Rattle.std.proofs.Common.{List, [], ◌∷◌, ◌++◌, append_assoc, Option, Some, None, max}
 use Rattle.std.specs.Prelude.{is_some, sum_by}
 use Rattle.std.proofs.lemmas.List.{append-nil, take_more}
@@ -26,7 +27,7 @@ use Rattle.tomex_run_views.specs.ByPlace.{Visit, visits_after, visits_in}
 use Rattle.tomex_run_views.specs.Drain.{cycles_in_unit, cycles_under_way}
 use Rattle.tomex_run_views.specs.Tally.{cycles_by, more_at, visits_by}
 
--- the cycle more of a step before which nothing stands
+-- the one more cycle of a step with no step before it
 abbrev pub more_after : List Done → ℕ
 more_after [] = 1
 more_after (d ∷ h) = 0
@@ -35,7 +36,7 @@ issue_waits : Configuration → List Done → ℕ
 issue_waits config h =
     stalls_by (λ w. w.branch) config h + stalls_by (λ w. w.width) config h + stalls_by (λ w. w.station) config h
 
--- up to its last issue a run waits, but for one cycle
+-- up to its last issue a run waits in all cycles except one
 issues_are : (config : Configuration) (d : Done) (h : List Done) → IsWithinLimits config → AreTimed config (d ∷ h)
     → issue_waits config (d ∷ h) + 1 ≡ d.at.issue
 unfolding issue_waits
@@ -128,7 +129,7 @@ waits_all config ss = waits_split config [] ss
 pub history_all : (config : Configuration) (ss : List Step) → history config ss ≡ history_from config [] ss
 history_all config ss = history_split config [] ss
 
--- by waits alone the visits are those of the issues
+-- the visits by waits only are those of the issues
 visits_same : (config : Configuration) (h : List Done) (ss : List Step) → IsWithinLimits config → AreTimed config h
     → visits_by (more_after h) ss (waits_from config h ss)
     ≡ visits_after (last_issue h) ss (times_from config h ss) (waits_from config h ss)

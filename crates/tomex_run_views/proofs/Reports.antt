@@ -37,7 +37,7 @@ same_any : {X : Type 0} (f g : X → Bool) → ((x : X) → f x ≡ g x) → (xs
 same_any f g same [] = refl
 same_any f g same (x ∷ xs) = ap₂ (λ a b. a || b) (same x) (same_any f g same xs)
 
--- there is a group just where there is a visit
+-- there is a group exactly if there is a visit
 is_visited : (key : Step → ℕ) (k : ℕ) (visits : List Visit)
     → is_some (group_of (visits_of key k visits)) ≡ list_any (λ v. key v.step == k) visits
 is_visited key k [] = refl
@@ -69,7 +69,7 @@ module _ {A : Type 0} (key : Step → ℕ) (visits : List Visit) (tally : Tally 
         ∙ (ap (λ (o : Option Group). is_some o) (is.groups k) ∙ is_visited key k visits));
   }
 
-  -- what an entry has is what its key's visits come to
+  -- an entry has the sums over its key's visits
   abbrev pub IsKept : ℕ × Group → Type 0
   IsKept e = group_of (visits_of key e.0 visits) ≡ Some e.1
 
@@ -141,7 +141,7 @@ wider n m w more h =
       bus = omega (arith, more);
     }
 
--- what was counted by the waits of a run is what its visits come to
+-- what was counted by the waits of a run are the sums over its visits
 pub counted_is : {A : Type 0} (key : Step → ℕ) (config : Configuration) (steps : List Step) (waits : List Waits)
     (counted : Counted A) → IsWithinLimits config → waits ≡ waits_in config steps
     → IsTally key (visits_by 1 steps waits) counted.tally → counted.drain ≡ drain (history config steps)

@@ -1,4 +1,4 @@
--- Sums over visits are sums over the places at which they stand, since each stands at one.
+-- Sums over visits are sums over their places, since each has one.
 use Rattle.std.proofs.Common.{◌≡◌, ◌≢◌, ◌⊎◌, ◌∙◌, sym, subst, refl, inl, inr, ℕ, ◌+◌, ◌==◌, Bool, true, false, cond}
 use Rattle.std.proofs.Common.{List, [], ◌∷◌, arith}
 use Rattle.std.specs.Prelude.{sum_by, length}
@@ -26,7 +26,7 @@ eqb_itself n = go (eqb_tells n n)
     go (inl same) = same.0
     go (inr other) = absurd (other.1 refl)
 
--- one visit more is one term more where it stands
+-- one more visit is one more term at its place
 one_more : (key : Step → ℕ) (f : Visit → ℕ) (v : Visit) (vs : List Visit) (pc : ℕ)
     → sum_by f (visits_of key pc (v ∷ vs)) ≡ cond (key v.step == pc) (f v) 0 + sum_by f (visits_of key pc vs)
 one_more key f v vs pc = go (key v.step == pc) refl

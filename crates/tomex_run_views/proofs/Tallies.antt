@@ -1,6 +1,8 @@
--- One visit more in what visits come to, and that the sums stay small.
-use Rattle.std.proofs.Common.{◌≡◌, ◌≢◌, ◌⊎◌, ◌∙◌, ap, sym, inl, inr, eqb-true, subst, take_all, refl, ℕ, zero, suc, add-one, ◌+◌, ◌*◌}
-use Rattle.std.proofs.Common.{◌^◌, ◌<◌, ◌≤◌, ◌==◌, Bool, true, false, cond, List, [], ◌∷◌, ◌++◌, length, get_or, map, take, Option}
+-- One more visit in the sums over visits, which stay small.
+use Rattle.std.proofs.Common.{◌≡◌, ◌≢◌, ◌⊎◌, ◌∙◌, ap, sym, inl, inr, eqb-true, subst, take_all, refl, ℕ, zero, suc}
+use Rattle.std.proofs.Common.{add-one, ◌+◌, ◌*◌}
+use Rattle.std.proofs.Common.{◌^◌, ◌<◌, ◌≤◌, ◌==◌, Bool, true, false, cond, List, [], ◌∷◌, ◌++◌, length, get_or, map}
+use Rattle.std.proofs.Common.{take, Option}
 use Rattle.std.proofs.Common.{Some, arith}
 use Rattle.std.specs.Prelude.{All, sum_by, unwrap_or}
 use Rattle.std.specs.FinMap.{nat_cmp-IsAntisymmetric}
@@ -94,7 +96,7 @@ pub whole : (ss : List Step) (ws : List Waits) (i : ℕ) → length ss ≤ i
     → take i (visits_by 1 ss ws) ≡ visits_by 1 ss ws
 whole ss ws i past = take_all i (visits_by 1 ss ws) (let k = length_visits 1 ss ws in omega arith)
 
--- a key is found by its order just where it is the same
+-- a key is found by its order exactly if it is the same
 pub same_key : (a b : ℕ) → is_eq (nat_cmp a b) ≡ (a == b)
 same_key a b = go (eqb_tells a b)
   where
@@ -172,7 +174,7 @@ all_small more (s ∷ ss) (w ∷ ws) m small =
     All-cons IsSmall (visit more s w) (visits_by 0 ss ws) (record { cycles = omega arith; waits = h })
     (all_small 0 ss ws (omega arith) (All-tail (AreWithin (2 ^ 35)) w ws small))
 
--- where each number is small, so are the sums of not too many
+-- if each number is small, so are the sums of not too many
 summed : (f : Visit → ℕ) (n : ℕ) (vs : List Visit) → ((v : Visit) → IsSmall v → f v ≤ n) → All IsSmall vs
     → sum_by f vs ≤ length vs * n
 summed f n vs is small = sum_by-le f n vs (All-weaker IsSmall (λ (v : Visit). f v ≤ n) is vs small)

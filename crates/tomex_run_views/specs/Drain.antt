@@ -7,7 +7,7 @@ use Rattle.tomex_config.specs.Configuration.{Configuration}
 use Rattle.tomex_timing.specs.Laws.{work_by}
 use Rattle.tomex_timing.specs.declared.part.Waits.{Waits}
 
--- how many cycles after its issue a step of a kind ends: its waits, its latency, and a cycle on a bus for its result
+-- the cycles from a step's issue to its end: its waits, its latency, and a cycle on a bus for its result
 abbrev pub cycles_in_unit : Configuration → Option UnitId → Step → Waits → ℕ
 cycles_in_unit config None step waits = 0
 cycles_in_unit config (Some unit) step waits =

@@ -21,7 +21,8 @@ abbrev pub first_of : (Step → ℕ) → ℕ → List Step → ℕ
 first_of key k [] = 0
 first_of key k (s ∷ steps) = if key s == k then 1 else 0
 
--- the cycles of a key's steps are those in which they wait to issue, and one more if the run's first step is one of them
+-- the cycles of a key's steps are those in which they wait to issue, and one more if the run's first step is one of
+-- them
 abbrev pub CyclesAreWaits : Type 0
 CyclesAreWaits = (config : Configuration) (steps : List Step) (key : Step → ℕ) (k : ℕ) → IsWithinLimits config
     → let visits = visits_of key k (visits_in config steps) in

@@ -46,7 +46,7 @@ other_records needs =
     ++ (other_record (codes "memory") needs.memory
     ++ (other_record (codes "drain") (needs.total - needs.last_issue) ++ other_record (codes "total") needs.total))))
 
--- how many cycles the run takes at least if so many steps issue a cycle
+-- the least cycles of the run if at most width steps issue in a cycle
 unfoldable pub floor_record : ℕ → ℕ → List ℕ
 floor_record width cycles = record_text (codes "floor" ∷ decimal width ∷ codes "-" ∷ decimal cycles ∷ [])
 

@@ -18,7 +18,7 @@ use Rattle.tomex_run_views.specs.declared.tally.Tally.{Tally}
 use Rattle.tomex_run_views.specs.ByPlace.{Visit, cycles_of, sum_columns, sum_fields, visits_in, visits_of, waits_of_all}
 
 -- The cycles of a step, by its waits: it issues after the step before it by the cycles in which it waits to issue. The
--- first step issues so long after cycle 1, and one more after cycle 0.
+-- first step issues by these after cycle 1, and one more after cycle 0.
 abbrev pub cycles_by : ℕ → Waits → ℕ
 cycles_by first waits = waits.branch + waits.width + waits.station + first
 
@@ -27,7 +27,7 @@ abbrev pub more_at : ℕ → ℕ
 more_at zero = 1
 more_at (suc index) = 0
 
--- the visits of steps with these waits, the first of which takes so many cycles more
+-- the visits of steps with these waits, the first of which takes `first` cycles more
 abbrev pub visits_by : ℕ → List Step → List Waits → List Visit
 visits_by first (s ∷ steps) (w ∷ waits) =
     record { step = s; cycles = cycles_by first w; waits = w } ∷ visits_by 0 steps waits
@@ -56,12 +56,12 @@ sum_after sum cycles w = record {
   };
 }
 
--- what the visits of one key come to, of which there may be none
+-- the sums over the visits of one key, of which there may be none
 abbrev pub group_of : List Visit → Option Group
 group_of [] = None
 group_of (v ∷ visits) = Some (record { first = v.step; sum = sum_of (v ∷ visits) })
 
--- what visits come to
+-- the sums over visits
 pub record IsTally {A : Type 0} (key : Step → ℕ) (visits : List Visit) (tally : Tally A) : Type 0 where
   pub groups : (k : ℕ) → get nat_cmp tally.groups k ≡ group_of (visits_of key k visits)
   pub all : tally.all ≡ sum_of visits

@@ -12,7 +12,7 @@ use tomex_config::Config;
 use tomex_rvexec::Step;
 use tomex_timing::Waits;
 
-/// How many cycles after its issue a step ends: its waits, its latency, and a cycle on a bus if it has a result.
+/// The cycles from a step's issue to its end: its waits, its latency, and a cycle on a bus if it has a result.
 fn cycles_under_way(config: &Config, step: &Step, waits: &Waits) -> u64
     requires { AreWithin (2 ^ 35) waits.now }
     ensures value { result ≡ cycles_under_way config.now step.now waits.now }
@@ -27,7 +27,7 @@ fn cycles_under_way(config: &Config, step: &Step, waits: &Waits) -> u64
     }
 }
 
-/// The drain of a run whose steps wait so long: its total less its last issue.
+/// The drain of a run whose steps have these waits: its total less its last issue.
 pub fn drain_of(config: &Config, steps: &[Step], waits: &[Waits]) -> u64
     requires few { length steps.now ≤ 262144 }
     requires waits { waits.now ≡ waits_in config.now steps.now }

@@ -1,15 +1,16 @@
 -- Tables, entry by entry; each symbol has a number of its own.
 use Rattle.std.proofs.Common.{◌≡◌, ℕ, zero, suc, ◌+◌, ◌*◌, ◌-◌, ◌<◌, ◌≤◌, arith, refl, sym, ap, ◌∙◌, Bool, true}
-use Rattle.std.proofs.Common.{false, cond, ◌==◌, List, [], ◌∷◌, ◌++◌, Option, Some, None}
+use Rattle.std.proofs.Common.{false, cond, ◌==◌, List, [], ◌∷◌, ◌++◌, length, Option, Some, None}
+use Rattle.std.specs.Prelude.{is_some, nat_lt}
 use Rattle.std.specs.List.{AllByRecursion, IsDistinct}
-use Rattle.std.proofs.lemmas.Bool.{ne_eqb}
+use Rattle.std.proofs.lemmas.Bool.{lt-ltb, ne_eqb}
 use Rattle.tomex_symbols.specs.declared.sections.Section.{Section}
 use Rattle.tomex_symbols.specs.declared.sections.Tables.{Tables}
 use Rattle.tomex_symbols.specs.declared.symbol.Kind.{Kind}
 use Rattle.tomex_symbols.specs.declared.symbol.Symbol.{Symbol}
 use Rattle.tomex_symbols.specs.Functions.{AreNumbered}
 use Rattle.tomex_symbols.specs.Sections.{first_symbol_table, is_symbol_table, section, sections_from, tables_of}
-use Rattle.tomex_symbols.specs.Symbols.{counted, counted_at, symbols_from, symbols_in, symbols_of}
+use Rattle.tomex_symbols.specs.Symbols.{counted, counted_at, kind_at, symbols_from, symbols_in, symbols_of}
 
 pub sections_next : (bytes : List ℕ) (count k : ℕ) → k < count → sections_from bytes k (count - k)
     ≡ section bytes k ∷ sections_from bytes (k + 1) (count - (k + 1))
@@ -24,6 +25,31 @@ symbols_next bytes t count k h = let e : count - k ≡ suc (count - (k + 1)) = o
 
 pub symbols_end : (bytes : List ℕ) (t : Tables) (count k : ℕ) → count ≤ k → symbols_from bytes t k (count - k) ≡ []
 symbols_end bytes t count k h = let e : count - k ≡ 0 = omega arith in rw e refl
+
+-- an entry that counts is a symbol, another one is skipped
+
+some_counted : (bytes : List ℕ) (names : Section) (k i : ℕ) (o : Option Kind) (rest : List Symbol) → is_some o ≡ true
+    → true ≡ nat_lt 0 (length (counted bytes names k i o ++ rest))
+some_counted bytes names k i None rest e = absurd (cc)
+some_counted bytes names k i (Some kind) rest e = sym (lt-ltb 0 (suc (length rest)) (omega arith))
+
+none_counted : (bytes : List ℕ) (names : Section) (k i : ℕ) (o : Option Kind) (rest : List Symbol) → is_some o ≡ false
+    → counted bytes names k i o ++ rest ≡ rest
+none_counted bytes names k i None rest e = refl
+none_counted bytes names k i (Some kind) rest e = absurd (cc)
+
+pub entry_counts : (bytes : List ℕ) (t : Tables) (count k : ℕ) (all : List Symbol) → k < count
+    → all ≡ symbols_from bytes t k (count - k)
+    → is_some (kind_at bytes t.names (t.symbols.offset + 16 * k)) ≡ true → true ≡ nat_lt 0 (length all)
+entry_counts bytes t count k all l h e = rw (h ∙ symbols_next bytes t count k l)
+    (some_counted bytes t.names k (t.symbols.offset + 16 * k) _ (symbols_from bytes t (k + 1) (count - (k + 1))) e)
+
+pub entry_skipped : (bytes : List ℕ) (t : Tables) (count k : ℕ) (all : List Symbol) → k < count
+    → all ≡ symbols_from bytes t k (count - k)
+    → is_some (kind_at bytes t.names (t.symbols.offset + 16 * k)) ≡ false
+    → all ≡ symbols_from bytes t (k + 1) (count - (k + 1))
+entry_skipped bytes t count k all l h e = h ∙ (symbols_next bytes t count k l
+    ∙ none_counted bytes t.names k (t.symbols.offset + 16 * k) _ (symbols_from bytes t (k + 1) (count - (k + 1))) e)
 
 -- numbers from k on
 

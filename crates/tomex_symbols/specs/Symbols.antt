@@ -1,5 +1,6 @@
 -- The symbols of an ELF file that name code: System V ABI, "Symbol Table" and "String Table".
-use Rattle.std.specs.Prelude.{ℕ, zero, suc, ◌+◌, ◌*◌, ◌/◌, ◌%◌, List, [], ◌∷◌, ◌++◌, Option, Some, None, slice_index}
+use Rattle.std.specs.Prelude.{ℕ, zero, suc, ◌+◌, ◌*◌, ◌/◌, ◌%◌, List, [], ◌∷◌, ◌++◌, length, Option, Some}
+use Rattle.std.specs.Prelude.{None, slice_index}
 use Rattle.std.specs.Prelude.{Bool, not, nat_eq, nat_lt, ◌&&◌, ◌||◌, if◌then◌else◌}
 use Rattle.tomex_image.specs.FileHeader.{half_at, word_at}
 use Rattle.tomex_symbols.specs.declared.sections.Section.{Section}
@@ -67,9 +68,13 @@ counted bytes names number i (Some kind) = record {
   names_end = names_end names;
 } ∷ []
 
+-- the kind of the entry at an offset, if it counts
+abbrev pub kind_at : List ℕ → Section → ℕ → Option Kind
+kind_at bytes names i =
+    kind_of bytes names (word_at bytes i) (slice_index bytes (i + 12)) (half_at bytes (i + 14))
+
 abbrev pub counted_at : List ℕ → Section → ℕ → ℕ → List Symbol
-counted_at bytes names number i = counted bytes names number i
-    (kind_of bytes names (word_at bytes i) (slice_index bytes (i + 12)) (half_at bytes (i + 14)))
+counted_at bytes names number i = counted bytes names number i (kind_at bytes names i)
 
 -- the symbols that count of n entries of the table, from number k on
 abbrev pub symbols_from : List ℕ → Tables → ℕ → ℕ → List Symbol
@@ -84,3 +89,7 @@ symbols_in bytes (Some t) = symbols_from bytes t 0 (t.symbols.size / 16)
 -- the symbols of a file, none if it has no symbol table that can be read
 abbrev pub symbols_of : List ℕ → List Symbol
 symbols_of bytes = symbols_in bytes (tables_of bytes)
+
+-- one of its symbols counts
+abbrev pub has_symbols : List ℕ → Bool
+has_symbols bytes = nat_lt 0 (length (symbols_of bytes))

@@ -12,5 +12,5 @@ mod words;
 
 pub use functions::functions_at;
 pub use naming::name_of;
-pub use reading::symbols;
+pub use reading::{has_symbols, symbols};
 pub use symbol::{Binding, Kind, Symbol};

@@ -1,9 +1,9 @@
 //! The symbols of a file (System V ABI, "Symbol Table").
-ghost use Rattle.std.specs.Prelude.{◌≡◌, ◌≤◌, ◌<◌, ◌+◌, ◌*◌, ◌/◌, ◌++◌, IfOk, OnOk, length, true};
+ghost use Rattle.std.specs.Prelude.{◌≡◌, ◌≤◌, ◌<◌, ◌+◌, ◌*◌, ◌/◌, ◌++◌, IfOk, OnOk, length, nat_lt, true};
 ghost use Rattle.tomex_symbols.specs.Functions.{AreNumbered};
 ghost use Rattle.tomex_symbols.specs.Sections.{has_sections};
 ghost use Rattle.tomex_symbols.specs.Symbols.{binding_of, counted_at, is_function, is_in_code, is_internal, is_named};
-ghost use Rattle.tomex_symbols.specs.Symbols.{kind_of, symbols_from, symbols_of};
+ghost use Rattle.tomex_symbols.specs.Symbols.{has_symbols, kind_at, kind_of, symbols_from, symbols_of};
 
 use crate::sections::{
     SYMBOL_SIZE, Section, Tables, find_tables, read_section, read_section_count,
@@ -84,6 +84,18 @@ fn kind_of(bytes: &[u8], names: &Section, name: u32, info: u8, section: u16) -> 
     }
 }
 
+/// The kind of the symbol of the entry at `offset`, if it counts.
+fn kind_at(bytes: &[u8], names: &Section, offset: usize) -> Option<Kind>
+    requires sections { has_sections bytes.now ≡ true }
+    requires file { names.now.offset + names.now.size ≤ length bytes.now }
+    requires entry { offset + 16 ≤ length bytes.now }
+    ensures { result ≡ kind_at bytes.now names.now offset }
+{
+    let name = read_word(bytes, offset);
+    let section = read_half(bytes, offset + ST_SHNDX);
+    kind_of(bytes, names, name, bytes[offset + ST_INFO], section)
+}
+
 fn binding_of(info: u8) -> Binding
     ensures { result ≡ binding_of info }
 {
@@ -108,17 +120,14 @@ fn push_counted<A: Allocator>(
     ensures { OnOk result (symbols.new.items
         ≡ symbols.old.items ++ counted_at bytes.now names.now number offset) }
 {
-    let name = read_word(bytes, offset);
-    let info = bytes[offset + ST_INFO];
-    let section = read_half(bytes, offset + ST_SHNDX);
-    if let Some(kind) = kind_of(bytes, names, name, info, section) {
+    if let Some(kind) = kind_at(bytes, names, offset) {
         symbols.push(Symbol {
             number,
             address: read_word(bytes, offset + ST_VALUE),
             size: read_word(bytes, offset + ST_SIZE),
             kind,
-            binding: binding_of(info),
-            name: names.offset as usize + name as usize,
+            binding: binding_of(bytes[offset + ST_INFO]),
+            name: names.offset as usize + read_word(bytes, offset) as usize,
             names_end: names.offset as usize + names.size as usize,
         })?;
     }
@@ -157,5 +166,33 @@ pub fn symbols<A: Allocator>(alloc: A, bytes: &[u8]) -> Result<Vec<Symbol, A>, A
     match find_tables(bytes) {
         None => Ok(Vec::new(alloc)),
         Some(tables) => symbols_in(alloc, bytes, &tables),
+    }
+}
+
+/// True if an entry of a table counts.
+fn has_counted(bytes: &[u8], tables: &Tables) -> bool
+    requires sections { has_sections bytes.now ≡ true }
+    requires file { tables.now.symbols.offset + tables.now.symbols.size ≤ length bytes.now }
+    requires names { tables.now.names.offset + tables.now.names.size ≤ length bytes.now }
+    ensures { result
+        ≡ nat_lt 0 (length (symbols_from bytes.now tables.now 0 (tables.now.symbols.size / 16))) }
+{
+    let first = tables.symbols.offset as usize;
+    for number in 0..tables.symbols.size / SYMBOL_SIZE {
+        let offset = first + SYMBOL_SIZE as usize * number as usize;
+        if kind_at(bytes, &tables.names, offset).is_some() {
+            return true;
+        }
+    }
+    false
+}
+
+/// True if a file has symbols that name code. It takes no memory.
+pub fn has_symbols(bytes: &[u8]) -> bool
+    ensures { result ≡ has_symbols bytes.now }
+{
+    match find_tables(bytes) {
+        None => false,
+        Some(tables) => has_counted(bytes, &tables),
     }
 }

@@ -12,7 +12,7 @@ use tomex_study::Program;
 use tomex_tests_fixtures::machines::one_unit_each;
 use tomex_tests_fixtures::{Attempt, Heap, Try, ample, refusals};
 
-/// What each function takes: a sum waits two cycles for the station of the one before it, and each step behind a branch
+/// What each function takes: a sum waits two cycles for the station of the one before it, and each step after a branch
 /// for its finish.
 const BY_FUNCTION: &str =
     "pc,function,calls,steps,cycles,branch,width,station,operand,address,memory,unit,bus\n\

@@ -15,7 +15,7 @@ use Rattle.tomex_timing.specs.Window.{AreFacts, HasRegisters, facts_of}
 use Rattle.tomex_timing.proofs.Shown.{IsShown}
 use Rattle.tomex_timing.proofs.Turns.{IsBounded, IsStep, bounded}
 
--- the step whose facts stand at a place
+-- the step whose facts are at a place
 step_at : (steps : List Step) (i : ℕ) (d : Facts) → i < length steps → (x : Step) × (slice_index_or steps i x ≡ x)
     × (slice_index_or (map facts_of steps) i d ≡ facts_of x)
 step_at [] i d l = absurd (omega arith)

@@ -148,7 +148,7 @@ none_lower held station (x ∷ xs) = rw (sum_by-cons, none (held x) (station x),
     none true None = refl
     none true (Some m) = le-ltb m 0 (omega arith)
 
--- where each number is held once at most, the first numbers are held as often as they are at most
+-- if each number is held at most once, the first n numbers are held at most n times
 few : {X : Type 0} (held : X → Bool) (station : X → Option ℕ) (xs : List X) (m : ℕ)
     → ((k : ℕ) → count_by (λ d. held d && is_number (station d) k) xs ≤ 1)
     → count_by (λ d. held d && lower (station d) m) xs ≤ m
@@ -159,7 +159,7 @@ few held station xs (suc m) one_each =
     let e = split_count held station m xs in
     omega arith
 
--- and where one of them isn't held, less often
+-- and less often if one of them isn't held
 fewer : {X : Type 0} (held : X → Bool) (station : X → Option ℕ) (xs : List X) (m n : ℕ)
     → ((k : ℕ) → count_by (λ d. held d && is_number (station d) k) xs ≤ 1)
     → n < m → count_by (λ d. held d && is_number (station d) n) xs ≡ 0
@@ -212,7 +212,7 @@ all_low config (d ∷ h) pool t m timed l =
     let f : one (is_held pool t d) ≡ one (is_held pool t d && lower d.at.station m) = ap one e in
     omega arith
 
--- where a number below m is free, fewer than m stations are held
+-- if a number below m is free, fewer than m stations are held
 pub stations_fit : (config : Configuration) (h : List Done) (pool : PoolId) (t n m : ℕ) → AreTimed config h
     → last_issue h ≤ t → is_free pool h t n ≡ true → n < m → peak (Stations pool) h ≤ m
     → count_by (is_held pool t) h < m

@@ -13,7 +13,7 @@ pub mod Histories
 pub mod Orders
 pub mod Holders
 pub mod Taken
-pub mod Telling
+pub mod Implied
 pub mod Serving
 pub mod UnderWay
 pub mod Bools

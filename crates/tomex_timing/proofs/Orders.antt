@@ -1,4 +1,4 @@
--- The times of a step stand in order.
+-- The times of a step are in order.
 use Rattle.std.proofs.Common.{ℕ, ◌<◌, ◌≤◌, ◌≡◌, ◌∙◌, true, arith, refl, List, [], ◌∷◌, ◌++◌, Option, Some, None}
 use Rattle.std.specs.Prelude.{nat_le, nat_lt, is_some, MatchOption}
 use Rattle.std.specs.Bool.{MatchBool}

@@ -48,7 +48,7 @@ range_none p (suc n) a t e l m = elim (cases_Bool (p a)) [
 pub none_that : (p : ℕ → Bool) (from to t : ℕ) → cycles_that p from to ≡ 0 → from ≤ t → t < to → p t ≡ false
 none_that p from to t e l m = range_none p (to - from) from t e l (omega arith)
 
--- how a part of the second configuration stands to the first configuration's, at one step: as many, or no stalls and
+-- a part of the second configuration beside the first configuration's, at one step: as many, or no stalls and
 -- enough
 abbrev Stands : Configuration → Configuration → Part → List Done → Done → Type 0
 Stands config other part older d = (count_of other part ≡ count_of config part)

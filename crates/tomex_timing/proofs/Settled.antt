@@ -1,4 +1,4 @@
--- After the greatest end of a history nothing in it stands in the way of a next step.
+-- After the greatest end of a history nothing in it blocks a next step.
 use Rattle.std.proofs.Common.{ℕ, ◌+◌, ◌<◌, ◌≤◌, ◌≡◌, Bool, true, false, arith, refl, List, [], ◌∷◌, Option, Some, None}
 use Rattle.std.proofs.Common.{inl, inr, zero, suc}
 use Rattle.std.specs.Prelude.{nat_lt, nat_le, ◌==◌, not, ◌&&◌, ◌||◌, is_some, count_by}

@@ -15,7 +15,7 @@ use Rattle.tomex_timing.proofs.Limits.{width_low}
 use Rattle.tomex_timing.proofs.Tests.{can_address_from, can_address_is}
 use Rattle.tomex_timing.proofs.Width.{none_later}
 
--- the latest finish of a branch, 0 where there is none
+-- the latest finish of a branch, 0 if there is none
 abbrev pub branch_finish : List Done → ℕ
 branch_finish [] = 0
 branch_finish (d ∷ older) = cond (is_branch d.step) (max d.at.finish (branch_finish older)) (branch_finish older)
@@ -52,7 +52,7 @@ max_split a b t = elim (cases_Bool (nat_le a t)) [
 pub after_split : (a t : ℕ) → nat_le (a + 1) t ≡ nat_lt a t
 after_split a t = rw add-one refl
 
--- the room for an issue is in the cycle of the last issue, where fewer than the width have it, and in each later one
+-- there is room for an issue in the cycle of the last issue, if fewer than the width have it, and in each later one
 pub slot_split : (config : Configuration) (h : List Done) (t : ℕ) → IsWithinLimits config → AreTimed config h
     → nat_le (slot_from config h) t ≡ can_issue_another config h t
 slot_split config h t good timed = elim (cases_order (last_issue h) t) [

@@ -73,7 +73,7 @@ one_at_least q (d ∷ xs) h = elim (cases_Bool (q d)) [
   | inr e ↦ let k : 0 < count_by q xs = one_at_least q xs (rw e at h) in rw (sum_by-cons, e) (omega arith)
 ]
 
--- where the first n numbers are held, n stations are
+-- if the first n numbers are held, n stations are
 pigeons : {X : Type 0} (held : X → Bool) (station : X → Option ℕ) (xs : List X) (n : ℕ)
     → ((k : ℕ) → k < n → list_all (λ d. not (held d && is_number (station d) k)) xs ≡ false)
     → n ≤ count_by (λ d. held d && lower (station d) n) xs
@@ -99,7 +99,7 @@ part_count held station n (d ∷ xs) =
     let f : one (held d && lower (station d) n) ≤ one (held d) = one_part (held d) (lower (station d) n) in
     rw (sum_by-cons, sum_by-cons) (omega arith)
 
--- where fewer than n are held, one of the first n numbers is free
+-- if fewer than n are held, one of the first n numbers is free
 pub found : {X : Type 0} (held : X → Bool) (station : X → Option ℕ) (xs : List X) (n : ℕ) → count_by held xs < n
     → IsLeast (λ k. list_all (λ d. not (held d && is_number (station d) k)) xs)
     (least (λ k. list_all (λ d. not (held d && is_number (station d) k)) xs) n)

@@ -3,7 +3,7 @@ use Rattle.tomex_cycle.proofs.Words.{has, IsTimetableOf, AllCanBegin, AreLow}
 use Rattle.tomex_cycle.proofs.StartsBegun.{IsBegun}
 use Rattle.tomex_cycle.proofs.starts.begin.Given as goal
 
--- all but the rest have started, and the rest stands as before
+-- all except the rest have started, and the rest is as before
 abbrev pub invariant-members : goal.invariant-members
 invariant-members g l = record {
   begun : length l.initial.pools.slots ≡ 96 → AreLow l.picked → AllCanBegin l.memory l.picked l.initial.pools.slots

@@ -1,5 +1,6 @@
 -- One visit more is counted with its key and in all.
-use Rattle.std.proofs.Common.{◌≡◌, ◌∙◌, ap, arith, sym, subst, refl, map, ℕ, ◌^◌, ◌<◌, ◌≤◌, get_or, cond, length, List, Option, Some}
+use Rattle.std.proofs.Common.{◌≡◌, ◌∙◌, ap, arith, sym, subst, refl, map, ℕ, ◌^◌, ◌<◌, ◌≤◌, get_or, cond, length, List}
+use Rattle.std.proofs.Common.{Option, Some}
 use Rattle.std.specs.Prelude.{unwrap_or}
 use Rattle.std.specs.Ordering.{is_eq, nat_cmp}
 use Rattle.std.proofs.lemmas.Grind.{common_steps}
@@ -10,7 +11,8 @@ use Rattle.tomex_run_views.specs.ByPlace.{Visit, visits_of}
 use Rattle.tomex_run_views.specs.declared.tally.Group.{Group}
 use Rattle.tomex_run_views.specs.declared.tally.Sum.{Sum}
 use Rattle.tomex_run_views.specs.Tally.{group_of, no_sum, sum_of}
-use Rattle.tomex_run_views.proofs.Tallies.{AreSmall, all_more, at_more, before, key_there, small_group, small_so_far, weaker, whole}
+use Rattle.tomex_run_views.proofs.Tallies.{AreSmall, all_more, at_more, before, key_there, small_group, small_so_far}
+use Rattle.tomex_run_views.proofs.Tallies.{weaker, whole}
 use Rattle.tomex_run_views.proofs.tally.count_by_key.Goals as goal
 
 -- what an entry has, by what the map had

@@ -1,7 +1,7 @@
--- Step by step: where the first configuration's test fails for a part, that part is as many on the second.
+-- Step by step: if the first configuration's test fails for a part, the second has as many of that part.
 use Rattle.tomex_timing.proofs.Taken.{stalled_full, peak_within}
 use Rattle.tomex_timing.proofs.Serving.{serves_timed, serves_runs}
-use Rattle.tomex_timing.proofs.Telling.{needs_tell}
+use Rattle.tomex_timing.proofs.Implied.{needs_tell}
 use Rattle.tomex_timing.proofs.laws.parts_without_stalls_may_differ.Goals as goal
 
 pub returns-clause-times : goal.returns-clause-times

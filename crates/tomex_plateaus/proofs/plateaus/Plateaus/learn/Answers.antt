@@ -2,7 +2,7 @@
 use Rattle.std.proofs.Common.{◌≡◌, true}
 use Rattle.tomex_plateaus.specs.Plateaus.{lies_on}
 use Rattle.tomex_plateaus.specs.Kept.{AreKept}
-use Rattle.tomex_plateaus.proofs.Telling.{own_lies_on, total_of_plateau, total_of_run}
+use Rattle.tomex_plateaus.proofs.Implied.{own_lies_on, total_of_plateau, total_of_run}
 use Rattle.tomex_plateaus.proofs.Finding.{learnt}
 use Rattle.tomex_plateaus.proofs.plateaus.Plateaus.learn.Goals as goal
 

@@ -1,6 +1,6 @@
 use Rattle.std.proofs.Common.{rules, arith}
 use Rattle.std.proofs.lemmas.Grind.{common_steps}
-use Rattle.tomex_command.proofs.telling.report_line_fault.Goals as goal
+use Rattle.tomex_command.proofs.reporting.report_line_fault.Goals as goal
 
 pub returns-clause-told : goal.returns-clause-told
 returns-clause-told g c = search rules fits 100

@@ -1,4 +1,4 @@
--- What needs tell of another configuration.
+-- What needs say about another configuration.
 use Rattle.std.proofs.Common.{ℕ, zero, suc, ◌≤◌, ◌≡◌, ◌⊎◌, Bool, true, refl, sym, inl, inr, List, [], ◌∷◌, Some}
 use Rattle.std.specs.Prelude.{nat_le, ◌==◌, ◌&&◌, slice_get}
 use Rattle.std.specs.List.{list_all}
@@ -43,7 +43,7 @@ latency_told config other h needs unit are told_so =
       | inr e ↦ inr (rw (are.parts (Units unit)) at (eqb-true (need_of needs (Units unit)).peak 0 e))
     ]
 
--- what all of a list pass the one after so many passes
+-- a test that all of a list pass is passed by the one at each place
 at_place : {X : Type 0} (p : X → Bool) (xs : List X) (n : ℕ) (x : X) → list_all p xs ≡ true → slice_get xs n ≡ Some x
     → p x ≡ true
 at_place p [] n x all here = absurd (cc)

@@ -1,5 +1,5 @@
 -- What is written is the line.
-use Rattle.tomex_command.proofs.telling.report_line.Goals as goal
+use Rattle.tomex_command.proofs.reporting.report_line.Goals as goal
 
 pub returns-in-Ok-clause-line : goal.returns-in-Ok-clause-line
 returns-in-Ok-clause-line g c =

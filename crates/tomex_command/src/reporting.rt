@@ -1,8 +1,9 @@
-//! What is said on the streams where there is no result.
+//! What is reported on the streams if there is no result.
 ghost use Rattle.std.specs.Prelude.{◌≡◌, codes, IfOk, OnErr, string_bytes};
 ghost use Rattle.tomex_streams.specs.Sinks.{IsWritten};
 ghost use Rattle.tomex_command.specs.Statuses.{status_of_failure};
-ghost use Rattle.tomex_command.specs.Telling.{IsTextOf, IsLineOf, IsFailureTold, IsSaid, IsTold, line_of};
+ghost use Rattle.tomex_command.specs.Reporting.{IsTextOf, IsLineOf, IsFailureReported, IsSaid, IsFaultReported};
+ghost use Rattle.tomex_command.specs.Reporting.{line_of};
 
 use crate::failure::Failure;
 use std::alloc::{AllocError, Global};
@@ -33,7 +34,7 @@ fn write_cannot_write<E: Sink>(err: &mut E)
 /// Reports why a line asks for no command, and answers the exit status: help on the output, all else on
 /// the error stream. A failed write to the error stream changes no status.
 pub fn report_line_fault<O: Sink, E: Sink>(fault: &LineFault, out: &mut O, err: &mut E) -> u8
-    ensures told { IsTold fault.now result (O.seen out.old) (O.seen out.new) }
+    ensures told { IsFaultReported fault.now result (O.seen out.old) (O.seen out.new) }
     ensures said { IsSaid fault.now result (E.seen err.old) (E.seen err.new) }
 {
     match fault {
@@ -105,7 +106,7 @@ fn report_line<E: Sink>(line: Result<String, AllocError>, failure: &Failure, err
 /// Reports a failure on the standard error, and answers its status. A line that can't be written changes no status;
 /// one that there is no memory for becomes `out of memory`.
 pub fn report_failure<E: Sink>(heap: Global, failure: &Failure, err: &mut E) -> u8
-    ensures { IsFailureTold failure.now result (E.seen err.old) (E.seen err.new) }
+    ensures { IsFailureReported failure.now result (E.seen err.old) (E.seen err.new) }
 {
     report_line(line_of(heap, failure), failure, err)
 }

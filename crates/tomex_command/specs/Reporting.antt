@@ -3,7 +3,8 @@ use Rattle.std.specs.Prelude.{◌≡◌, ◌⊎◌, ℕ, List, ◌++◌, codes, 
 use Rattle.tomex_command.specs.declared.failure.Failure.{Failure}
 use Rattle.tomex_command.specs.declared.failure.Failure.TheVariants.{BadWindow, Run, Study, NoSuchRow}
 use Rattle.tomex_command.specs.declared.failure.Failure.TheVariants.{NoSuchProgram, NoSymbols, CyclePastEnd, NoSuchStep}
-use Rattle.tomex_command.specs.declared.failure.Failure.TheVariants.{PictureTooLarge, TableTooLarge, CannotRead, CannotWrite}
+use Rattle.tomex_command.specs.declared.failure.Failure.TheVariants.{PictureTooLarge, TableTooLarge, CannotRead}
+use Rattle.tomex_command.specs.declared.failure.Failure.TheVariants.{CannotWrite}
 use Rattle.tomex_command.specs.declared.failure.Failure.TheVariants.{NoSuchRefusal, Memory, Worker}
 use Rattle.tomex_arguments.specs.declared.fault.LineFault.{LineFault}
 use Rattle.tomex_arguments.specs.declared.fault.LineFault.TheVariants.{Help, Usage}
@@ -38,20 +39,20 @@ line_of text = codes "tomex: " ++ (text ++ codes "\n")
 abbrev pub IsLineOf : Failure → List ℕ → Type 0
 IsLineOf failure line = (text : List ℕ) × IsTextOf failure text × (line ≡ line_of text)
 
--- the failure's line was told, with its status; or, for want of memory, that memory was wanting
-abbrev pub IsFailureTold : Failure → ℕ → Seen → Seen → Type 0
-IsFailureTold failure status old new =
+-- the failure's line was reported, with its status; or, if even that line found no memory, out of memory
+abbrev pub IsFailureReported : Failure → ℕ → Seen → Seen → Type 0
+IsFailureReported failure status old new =
     ((status ≡ status_of_failure failure) × ((line : List ℕ) × IsLineOf failure line × IsWritten line old new))
     ⊎ ((status ≡ 3) × IsWritten (line_of (codes "out of memory")) old new)
 
--- a fault is told with its status, and the output takes nothing but help: all of it, unless it fails
-abbrev pub IsTold : LineFault → ℕ → Seen → Seen → Type 0
-IsTold (Help text) status old new =
+-- a fault is reported with its status, and the output gets only help: all of it, unless it fails
+abbrev pub IsFaultReported : LineFault → ℕ → Seen → Seen → Type 0
+IsFaultReported (Help text) status old new =
     ((status ≡ 0) × IsWhole (string_bytes text) old new) ⊎ ((status ≡ 3) × IsCut (string_bytes text) old new)
-IsTold (Usage text) status old new = (status ≡ 2) × (new ≡ old)
-IsTold faults.Memory status old new = (status ≡ 3) × (new ≡ old)
+IsFaultReported (Usage text) status old new = (status ≡ 2) × (new ≡ old)
+IsFaultReported faults.Memory status old new = (status ≡ 3) × (new ≡ old)
 
--- what the standard error gets where a line asks for no command
+-- what the standard error gets if a line asks for no command
 abbrev pub IsSaid : LineFault → ℕ → Seen → Seen → Type 0
 IsSaid (Help text) status old new =
     ((status ≡ 0) × (new ≡ old)) ⊎ ((status ≡ 3) × IsWritten (line_of (codes "cannot write")) old new)

@@ -5,15 +5,15 @@ use Rattle.std.specs.Global.{Global}
 use Rattle.std.specs.declared.alloc.AllocError.{AllocError}
 use Rattle.tomex_streams.specs.Sinks.{IsWritten, Seen}
 use Rattle.tomex_command.specs.Statuses.{status_of_failure}
-use Rattle.tomex_command.specs.Telling.{IsFailureTold, IsLineOf, line_of}
+use Rattle.tomex_command.specs.Reporting.{IsFailureReported, IsLineOf, line_of}
 use Rattle.tomex_command.specs.declared.failure.Failure.{Failure}
-use Rattle.tomex_command.proofs.telling.report_failure.Goals as goal
+use Rattle.tomex_command.proofs.reporting.report_failure.Goals as goal
 
 told : (failure : Failure) (line : Result (String Global) AllocError) (status : ℕ) (old new : Seen)
     → IfOk line (λ l. IsLineOf failure (string_bytes l))
     → IfOk line (λ l. (status ≡ status_of_failure failure) × IsWritten (string_bytes l) old new)
     → OnErr line ((status ≡ 3) × IsWritten (line_of (codes "out of memory")) old new)
-    → IsFailureTold failure status old new
+    → IsFailureReported failure status old new
 told failure (Ok line) status old new is_line written unmade = inl (written.0, (string_bytes line, is_line, written.1))
 told failure (Err _) status old new is_line written unmade = inr unmade
 
