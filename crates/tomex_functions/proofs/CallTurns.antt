@@ -1,9 +1,9 @@
 -- The calls of a run's steps, one step more.
-use Rattle.std.proofs.Common.{◌≡◌, ◌<◌, ◌≤◌, ◌∙◌, ap, arith, refl, sym, subst, inl, inr, ℕ, zero, suc, add-one, ◌+◌}
+use Rattle.std.proofs.Common.{◌≡◌, ◌<◌, ◌≤◌, ◌∙◌, ap, arith, refl, sym, ℕ, zero, suc, add-one, ◌+◌}
 use Rattle.std.proofs.Common.{◌-◌, ◌^◌, ◌==◌, eqb-true}
 use Rattle.std.proofs.Common.{Bool, true, false, cond, List, [], ◌∷◌, ◌++◌, get_or, length, map, take, Option, Some}
 use Rattle.std.proofs.Common.{None}
-use Rattle.std.specs.Prelude.{count_by, is_some, not, ◌&&◌, ◌||◌, unwrap_or}
+use Rattle.std.specs.Prelude.{is_some, not, ◌&&◌, ◌||◌, unwrap_or}
 use Rattle.std.specs.Ordering.{is_eq, nat_cmp}
 use Rattle.std.proofs.lemmas.List.{append-nil, get_or_default, get_or-map, length-map, length-take, length_push}
 use Rattle.std.proofs.lemmas.List.Sums.{count_by-le-length, sum_by_push}

@@ -6,3 +6,4 @@ pub mod RowsOrder
 pub mod Listings
 pub mod Texts
 pub mod RowSums
+pub mod CallSums

@@ -1,10 +1,9 @@
 -- What was counted by function is what the functions' rows have.
-use Rattle.std.proofs.Common.{◌≡◌, ◌∙◌, append_assoc, ap, ap₂, refl, sym, subst, ℕ, List, [], ◌∷◌, ◌++◌, Option, Some}
-use Rattle.std.proofs.Common.{None, map, length, ◌==◌}
+use Rattle.std.proofs.Common.{◌≡◌, ◌∙◌, append_assoc, ap, sym, subst, ℕ, List, [], ◌∷◌, ◌++◌, Option, Some}
+use Rattle.std.proofs.Common.{None, map, ◌==◌}
 use Rattle.std.specs.Prelude.{All, IsPermutation}
 use Rattle.std.specs.BTreeMap.{IsOrdered, keys, values}
-use Rattle.std.specs.List.{flat_map}
-use Rattle.std.specs.Map.{keys_of, values_of}
+use Rattle.std.specs.Map.{values_of}
 use Rattle.std.specs.Option.{option_map_or}
 use Rattle.std.specs.Ordering.{nat_cmp}
 use Rattle.std.proofs.lemmas.Simd.{map-map}
@@ -17,7 +16,7 @@ use Rattle.tomex_config.specs.Configuration.{Configuration}
 use Rattle.tomex_timing.specs.Needs.{waits_in}
 use Rattle.tomex_timing.specs.Search.{times_in}
 use Rattle.tomex_symbols.specs.declared.symbol.Symbol.{Symbol}
-use Rattle.tomex_run_views.specs.ByPlace.{AreKeys, Visit, visits_after, visits_in, visits_of}
+use Rattle.tomex_run_views.specs.ByPlace.{Visit, visits_after, visits_in, visits_of}
 use Rattle.tomex_run_views.specs.Tally.{IsTally, group_of}
 use Rattle.tomex_run_views.specs.declared.tally.Group.{Group}
 use Rattle.tomex_run_views.specs.declared.tally.Tally.{Tally}

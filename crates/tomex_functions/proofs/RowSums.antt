@@ -1,5 +1,5 @@
 -- Sums over rows, and over the places of a function.
-use Rattle.std.proofs.Common.{◌≡◌, ◌∙◌, arith, refl, ℕ, ◌+◌, ◌==◌, Bool, true, false, cond, List, [], ◌∷◌, ◌++◌}
+use Rattle.std.proofs.Common.{◌≡◌, ◌∙◌, arith, refl, ℕ, ◌==◌, Bool, true, false, cond, List, [], ◌∷◌}
 use Rattle.std.specs.Prelude.{sum_by}
 use Rattle.std.specs.List.{list_any}
 use Rattle.std.proofs.lemmas.List.Sorted.{sum_by-IsPermutation}

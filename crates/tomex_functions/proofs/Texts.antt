@@ -27,7 +27,6 @@ use Rattle.tomex_functions.specs.Calls.{calls_in}
 use Rattle.tomex_functions.specs.ByPlace.{IsReportByPlace, place_record}
 use Rattle.tomex_functions.specs.Kept.{IsListing, place_fields, report_of_counted, report_of_listing}
 use Rattle.tomex_functions.specs.declared.rows.Listing.{Listing}
-use Rattle.tomex_functions.specs.declared.rows.Row.{Row}
 
 by_symbols : {A : Type 0} (file : List ℕ) (config : Configuration) (steps : List Step) (listing : Listing A)
     (text : List ℕ) → IsListing (symbols_of file) config steps listing → text ≡ report_of_listing file listing

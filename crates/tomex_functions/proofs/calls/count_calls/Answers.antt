@@ -1,7 +1,4 @@
 -- One step more, which may be a call.
-use Rattle.std.proofs.Common.{refl, ◌∙◌, ap, arith, sym, take, length, ℕ, List}
-use Rattle.tomex_steps.specs.declared.step.Step.{Step}
-use Rattle.tomex_functions.specs.Calls.{calls_of}
 use Rattle.tomex_functions.proofs.CallTurns.{all_fit, count_fits, turn_of_all, turn_of_key, turn_same}
 use Rattle.tomex_functions.proofs.calls.count_calls.Goals as goal
 use Rattle.tomex_functions.proofs.calls.count_calls.Goals.{then-is_call+in_ok-count, else-is_call}

@@ -3,7 +3,6 @@ use Rattle.std.proofs.Common.{◌∙◌, ap, ap₂, ℕ, Option}
 use Rattle.tomex_symbols.specs.declared.symbol.Symbol.{Symbol}
 use Rattle.tomex_functions.specs.Calls.{calls_in, calls_of}
 use Rattle.tomex_functions.specs.Functions.{key_of}
-use Rattle.tomex_functions.specs.declared.rows.Row.{Row}
 use Rattle.tomex_functions.proofs.rows.row_of.Goals as goal
 
 pub returns : goal.returns

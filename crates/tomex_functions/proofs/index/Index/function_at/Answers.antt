@@ -1,8 +1,5 @@
 -- The search misses no address that a step has.
-use Rattle.std.proofs.Common.{subst, sym, rules}
-use Rattle.std.specs.Prelude.{Result}
-use Rattle.std.specs.Result.{MatchResult}
-use Rattle.tomex_functions.proofs.Indexes.{IsFound, looked_up}
+use Rattle.tomex_functions.proofs.Indexes.{looked_up}
 use Rattle.tomex_functions.proofs.index.Index.function_at.Goals as goal
 
 pub returns-in_default-2 : goal.returns-in_default-2
