@@ -203,7 +203,7 @@ static READ: [(&str, &str); 65] = [
     ("worth a 0", "worth a 0 1"),
     ("worth --workers=32 a 16383", "worth a 16383 32"),
     ("worth --help", "help Prints what each change"),
-    ("worth -h", "help Prints what one part more"),
+    ("worth -h", "help Prints what one more"),
     ("prices a", "prices a 1"),
     ("prices --workers 2 a", "prices a 2"),
     ("page a", "page a 1"),
