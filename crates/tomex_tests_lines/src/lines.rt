@@ -125,7 +125,7 @@ fn told(alloc: Global, line: &str) -> Result<String, AllocError> {
 }
 
 /// Lines, and the beginnings of their results.
-static READ: [(&str, &str); 65] = [
+static READ: [(&str, &str); 66] = [
     ("run mul.bin", "run mul.bin 0 65536 262144"),
     (
         "run a --base 4294967292 --size 4 --limit 1",
@@ -161,6 +161,10 @@ static READ: [(&str, &str); 65] = [
     (
         "pipeline --konata --steps=262144 study 16383 -- -a",
         "pipeline study 16383 -a 1 262144 true",
+    ),
+    (
+        "pipeline --konata --from 2 --steps 3 -- study 16383 -a",
+        "pipeline study 16383 -a 2 3 true",
     ),
     ("pipeline --help", "help Draws the instructions"),
     ("pipeline -h", "help Draws what instructions"),
