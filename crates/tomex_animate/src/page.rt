@@ -2,7 +2,7 @@
 
 ghost use Rattle.std.specs.Prelude.{◌≡◌, ◌+◌, ◌-◌, ◌<◌, ◌≤◌, ◌^◌, ◌++◌, length, min};
 ghost use Rattle.std.specs.Prelude.{IfErr, IfOk, OnOk, string_bytes};
-ghost use Rattle.tomex_rvexec.specs.Run.{start_of};
+ghost use Rattle.tomex_rvexec.specs.Run.{most_steps, start_of};
 ghost use Rattle.tomex_rvexec.specs.Trace.{steps_from};
 ghost use Rattle.tomex_timing.specs.Search.{times_in};
 ghost use Rattle.tomex_snapshots.specs.Entries.{entries_of};
@@ -126,7 +126,7 @@ fn entries_in<A: Allocator + Clone>(
     times: &[Times],
     config: &Config,
 ) -> Result<Vec<Entry, A>, AllocError>
-    requires few { length steps.now ≤ 262144 }
+    requires few { length steps.now ≤ most_steps }
     requires times { times.now ≡ times_in config.now steps.now }
     requires pairs { length times.now ≡ length steps.now }
     ensures { IfOk result (λ v. v.items ≡ entries_of config.now steps.now) }

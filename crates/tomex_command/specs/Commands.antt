@@ -80,7 +80,7 @@ IsLeft file line failure old new = IsFailure file line failure × (new ≡ old)
 pub record IsToldOnly (words : List (List ℕ)) (status : ℕ) (out-old out err-old err : Seen) : Type 0 where
   pub fault : LineFault
   pub no_command : IsNoCommand words fault
-  pub told : IsFaultReported fault status out-old out
+  pub reported : IsFaultReported fault status out-old out
   pub said : IsSaid fault status err-old err
 
 -- the line that the words ask for was carried out
@@ -99,7 +99,7 @@ pub record HasFailed (words : List (List ℕ)) (file : List ℕ → Told) (statu
   pub asked : IsAsked words line
   pub failure : Failure
   pub left : IsLeft file line failure out-old out
-  pub told : IsFailureReported failure status err-old err
+  pub reported : IsFailureReported failure status err-old err
 
 -- the end of a run of the program
 abbrev pub IsEnd : List (List ℕ) → (List ℕ → Told) → ℕ → Seen → Seen → Seen → Seen → Type 0

@@ -43,7 +43,7 @@ pub fn run_words<
 ) -> ExitCode
     ensures end { IfOk words (λ words. IsEnd (map string_bytes words.items) (F.file files.now) (exit_status result)
         (O.seen out.old) (O.seen out.new) (E.seen err.old) (E.seen err.new)) }
-    ensures told { IfErr words (λ fault. IsFaultReported fault (exit_status result) (O.seen out.old) (O.seen out.new)) }
+    ensures reported { IfErr words (λ f. IsFaultReported f (exit_status result) (O.seen out.old) (O.seen out.new)) }
     ensures said { IfErr words (λ fault. IsSaid fault (exit_status result) (E.seen err.old) (E.seen err.new)) }
     ensures statuses { exit_status result ≤ 3 }
 {

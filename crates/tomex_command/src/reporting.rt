@@ -34,7 +34,7 @@ fn write_cannot_write<E: Sink>(err: &mut E)
 /// Reports why a line asks for no command, and answers the exit status: help on the output, all else on
 /// the error stream. A failed write to the error stream changes no status.
 pub fn report_line_fault<O: Sink, E: Sink>(fault: &LineFault, out: &mut O, err: &mut E) -> u8
-    ensures told { IsFaultReported fault.now result (O.seen out.old) (O.seen out.new) }
+    ensures reported { IsFaultReported fault.now result (O.seen out.old) (O.seen out.new) }
     ensures said { IsSaid fault.now result (E.seen err.old) (E.seen err.new) }
 {
     match fault {

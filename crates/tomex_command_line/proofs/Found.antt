@@ -21,7 +21,8 @@ both_of f g (Some s) name rows a b =
 
 -- what is found is the name and the rows of the subcommand
 pub found_is : (m : ArgMatches) (name : Text) (rows : List Row) → Some name ≡ subcommand_name_of m
-    → Some rows ≡ option_map (λ (p : Text × List Row). p.1) (subcommand_rows_of m) → subcommand_rows_of m ≡ Some (name, rows)
+    → Some rows ≡ option_map (λ (p : Text × List Row). p.1) (subcommand_rows_of m)
+    → subcommand_rows_of m ≡ Some (name, rows)
 found_is m name rows a b = both_of (λ s. (out-SubCommand (box_value s)).name.now)
     (λ s. rows_of (found_of (out-SubCommand (box_value s)).matches)) (out-ArgMatches m).subcommand name rows a b
 
@@ -33,6 +34,7 @@ found_as m name word rows a b is =
     found_is m name rows a b ∙ ap (λ (n : Text). Some (n, rows)) is
 
 -- there is no subcommand if it has no rows
-pub none_found : (found : Option (Text × List Row)) → None ≡ option_map (λ (p : Text × List Row). p.1) found → found ≡ None
+pub none_found : (found : Option (Text × List Row)) → None ≡ option_map (λ (p : Text × List Row). p.1) found
+    → found ≡ None
 none_found None is = refl
 none_found (Some p) is = absurd (cc)

@@ -4,6 +4,7 @@ use Rattle.clap.specs.Words.{App, Rule, Shape, Text, new_app, new_rule, with_rul
 use Rattle.clap.specs.Simple.{new_shape, on_top}
 use Rattle.clap.specs.declared.builder.action.ArgAction.TheVariants.{Append, SetTrue}
 use Rattle.clap.specs.declared.builder.value_parser.ValueParser.TheVariants as parsers
+use Rattle.tomex_command_line.specs.Limits.{last_cycle, last_row, most_steps}
 
 -- a word that a command needs, in its place
 abbrev pub word_rule : Text → Rule
@@ -38,7 +39,7 @@ study_app name = with_rule (new_app name) (word_rule (codes "STUDY"))
 -- a command on one run of a study: `NAME STUDY CONFIG PROGRAM ..`
 abbrev pub one_run_app : Text → App
 one_run_app name =
-    with_rule (with_rule (study_app name) (numeral_rule (codes "CONFIG") 0 16383)) (word_rule (codes "PROGRAM"))
+    with_rule (with_rule (study_app name) (numeral_rule (codes "CONFIG") 0 last_row)) (word_rule (codes "PROGRAM"))
 
 -- a command that explores a study: `NAME STUDY [--workers N]`
 abbrev pub exploring_app : Text → App
@@ -50,43 +51,43 @@ run_shape = record (new_shape (codes "run")) {
   rules = word_rule (codes "IMAGE")
       ∷ option_rule (codes "base") 0 4294967292 (codes "0")
       ∷ option_rule (codes "size") 4 1048576 (codes "65536")
-      ∷ option_rule (codes "limit") 1 262144 (codes "262144") ∷ [];
+      ∷ option_rule (codes "limit") 1 most_steps (codes "262144") ∷ [];
 }
 
 -- `times STUDY CONFIG PROGRAM`
 abbrev pub times_shape : Shape
 times_shape = record (new_shape (codes "times")) {
-  rules = word_rule (codes "STUDY") ∷ numeral_rule (codes "CONFIG") 0 16383 ∷ word_rule (codes "PROGRAM") ∷ [];
+  rules = word_rule (codes "STUDY") ∷ numeral_rule (codes "CONFIG") 0 last_row ∷ word_rule (codes "PROGRAM") ∷ [];
 }
 
 -- `stalls STUDY CONFIG PROGRAM [--by-pc] [--by-function]`
 abbrev pub stalls_shape : Shape
 stalls_shape = record (new_shape (codes "stalls")) {
-  rules = word_rule (codes "STUDY") ∷ numeral_rule (codes "CONFIG") 0 16383 ∷ word_rule (codes "PROGRAM")
+  rules = word_rule (codes "STUDY") ∷ numeral_rule (codes "CONFIG") 0 last_row ∷ word_rule (codes "PROGRAM")
       ∷ flag_rule (codes "by-pc") ∷ flag_rule (codes "by-function") ∷ [];
 }
 
 -- `pipeline STUDY CONFIG PROGRAM [--from N] [--steps N] [--konata]`
 abbrev pub pipeline_shape : Shape
 pipeline_shape = record (new_shape (codes "pipeline")) {
-  rules = word_rule (codes "STUDY") ∷ numeral_rule (codes "CONFIG") 0 16383 ∷ word_rule (codes "PROGRAM")
-      ∷ option_rule (codes "from") 1 262144 (codes "1")
-      ∷ option_rule (codes "steps") 1 262144 (codes "32")
+  rules = word_rule (codes "STUDY") ∷ numeral_rule (codes "CONFIG") 0 last_row ∷ word_rule (codes "PROGRAM")
+      ∷ option_rule (codes "from") 1 most_steps (codes "1")
+      ∷ option_rule (codes "steps") 1 most_steps (codes "32")
       ∷ flag_rule (codes "konata") ∷ [];
 }
 
 -- `tables STUDY CONFIG PROGRAM CYCLE`
 abbrev pub tables_shape : Shape
 tables_shape = record (new_shape (codes "tables")) {
-  rules = word_rule (codes "STUDY") ∷ numeral_rule (codes "CONFIG") 0 16383 ∷ word_rule (codes "PROGRAM")
-      ∷ numeral_rule (codes "CYCLE") 0 17563648 ∷ [];
+  rules = word_rule (codes "STUDY") ∷ numeral_rule (codes "CONFIG") 0 last_row ∷ word_rule (codes "PROGRAM")
+      ∷ numeral_rule (codes "CYCLE") 0 last_cycle ∷ [];
 }
 
 -- `animate STUDY CONFIG PROGRAM [--from CYCLE] [--cycles N]`
 abbrev pub animate_shape : Shape
 animate_shape = record (new_shape (codes "animate")) {
-  rules = word_rule (codes "STUDY") ∷ numeral_rule (codes "CONFIG") 0 16383 ∷ word_rule (codes "PROGRAM")
-      ∷ option_rule (codes "from") 1 17563648 (codes "1")
+  rules = word_rule (codes "STUDY") ∷ numeral_rule (codes "CONFIG") 0 last_row ∷ word_rule (codes "PROGRAM")
+      ∷ option_rule (codes "from") 1 last_cycle (codes "1")
       ∷ option_rule (codes "cycles") 1 256 (codes "64") ∷ [];
 }
 
@@ -119,7 +120,7 @@ rows_shape = exploring_shape (codes "rows")
 abbrev pub worth_shape : Shape
 worth_shape = record (new_shape (codes "worth")) {
   rules = word_rule (codes "STUDY") ∷ option_rule (codes "workers") 1 32 (codes "1")
-      ∷ numeral_rule (codes "CONFIG") 0 16383 ∷ [];
+      ∷ numeral_rule (codes "CONFIG") 0 last_row ∷ [];
 }
 
 abbrev pub prices_shape : Shape
@@ -141,5 +142,6 @@ abbrev pub tomex_app : App
 tomex_app = record {
   top = record (new_shape (codes "tomex")) { has_version = true; is_leaf = false; subcommand_required = true };
   subs = run_shape ∷ times_shape ∷ stalls_shape ∷ pipeline_shape ∷ tables_shape ∷ animate_shape ∷ all_shape
-      ∷ explore_shape ∷ front_shape ∷ plot_shape ∷ rows_shape ∷ worth_shape ∷ prices_shape ∷ page_shape ∷ explain_shape ∷ [];
+      ∷ explore_shape ∷ front_shape ∷ plot_shape ∷ rows_shape ∷ worth_shape ∷ prices_shape ∷ page_shape
+      ∷ explain_shape ∷ [];
 }

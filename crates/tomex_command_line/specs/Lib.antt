@@ -1,3 +1,4 @@
 pub mod Asked
 pub mod Grammar
+pub mod Limits
 pub mod Values

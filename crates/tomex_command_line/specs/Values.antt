@@ -3,13 +3,14 @@
 use Rattle.std.specs.Prelude.{ℕ, Bool, List, codes, Option}
 use Rattle.clap.specs.Words.{Row}
 use Rattle.tomex_arguments.specs.Values.{AreWords, IsFlag, IsNumber, IsWord}
+use Rattle.tomex_command_line.specs.Limits.{last_cycle, last_row, most_steps}
 
 -- the values of `run`
 pub record IsRunAsked (rows : List Row) (image : List ℕ) (base size limit : ℕ) : Type 0 where
   pub is_image : IsWord rows (codes "IMAGE") image
   pub is_base : IsNumber rows (codes "base") 0 4294967292 base
   pub is_size : IsNumber rows (codes "size") 4 1048576 size
-  pub is_limit : IsNumber rows (codes "limit") 1 262144 limit
+  pub is_limit : IsNumber rows (codes "limit") 1 most_steps limit
 
 abbrev pub IsNoRun : List Row → Type 0
 IsNoRun rows = (image : List ℕ) (base size limit : ℕ) → IsRunAsked rows image base size limit → ⊥
@@ -17,7 +18,7 @@ IsNoRun rows = (image : List ℕ) (base size limit : ℕ) → IsRunAsked rows im
 -- the values of a command on one run of a study
 pub record IsOneRunAsked (rows : List Row) (study : List ℕ) (config : ℕ) (program : List ℕ) : Type 0 where
   pub is_study : IsWord rows (codes "STUDY") study
-  pub is_config : IsNumber rows (codes "CONFIG") 0 16383 config
+  pub is_config : IsNumber rows (codes "CONFIG") 0 last_row config
   pub is_program : IsWord rows (codes "PROGRAM") program
 
 abbrev pub IsNoOneRun : List Row → Type 0
@@ -38,8 +39,8 @@ IsNoStalls rows = (study : List ℕ) (config : ℕ) (program : List ℕ) (by_pc 
 pub record IsPipelineAsked (rows : List Row) (study : List ℕ) (config : ℕ) (program : List ℕ) (from steps : ℕ)
     (konata : Bool) : Type 0 where
   pub of_run : IsOneRunAsked rows study config program
-  pub is_from : IsNumber rows (codes "from") 1 262144 from
-  pub is_steps : IsNumber rows (codes "steps") 1 262144 steps
+  pub is_from : IsNumber rows (codes "from") 1 most_steps from
+  pub is_steps : IsNumber rows (codes "steps") 1 most_steps steps
   pub is_konata : IsFlag rows (codes "konata") konata
 
 abbrev pub IsNoPipeline : List Row → Type 0
@@ -49,7 +50,7 @@ IsNoPipeline rows = (study : List ℕ) (config : ℕ) (program : List ℕ) (from
 -- the values of `tables`
 pub record IsTablesAsked (rows : List Row) (study : List ℕ) (config : ℕ) (program : List ℕ) (cycle : ℕ) : Type 0 where
   pub of_run : IsOneRunAsked rows study config program
-  pub is_cycle : IsNumber rows (codes "CYCLE") 0 17563648 cycle
+  pub is_cycle : IsNumber rows (codes "CYCLE") 0 last_cycle cycle
 
 abbrev pub IsNoTables : List Row → Type 0
 IsNoTables rows = (study : List ℕ) (config : ℕ) (program : List ℕ) (cycle : ℕ)
@@ -59,7 +60,7 @@ IsNoTables rows = (study : List ℕ) (config : ℕ) (program : List ℕ) (cycle 
 pub record IsAnimateAsked (rows : List Row) (study : List ℕ) (config : ℕ) (program : List ℕ)
     (from cycles : ℕ) : Type 0 where
   pub of_run : IsOneRunAsked rows study config program
-  pub is_from : IsNumber rows (codes "from") 1 17563648 from
+  pub is_from : IsNumber rows (codes "from") 1 last_cycle from
   pub is_cycles : IsNumber rows (codes "cycles") 1 256 cycles
 
 abbrev pub IsNoAnimate : List Row → Type 0
@@ -92,7 +93,7 @@ IsNoPlot rows = (study : List ℕ) (workers : ℕ) (all : Bool) → IsPlotAsked 
 -- the values of `worth`
 pub record IsWorthAsked (rows : List Row) (study : List ℕ) (config workers : ℕ) : Type 0 where
   pub of_study : IsExploreAsked rows study workers
-  pub is_config : IsNumber rows (codes "CONFIG") 0 16383 config
+  pub is_config : IsNumber rows (codes "CONFIG") 0 last_row config
 
 abbrev pub IsNoWorth : List Row → Type 0
 IsNoWorth rows = (study : List ℕ) (config workers : ℕ) → IsWorthAsked rows study config workers → ⊥

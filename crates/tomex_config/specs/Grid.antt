@@ -105,8 +105,12 @@ abbrev pub product : List ℕ → ℕ
 product [] = 1
 product (n ∷ ns) = n * product ns
 
+-- the most configurations of a study
+abbrev pub most_rows : ℕ
+most_rows = 16384
+
 unfoldable pub is_above_limit : List ℕ → Bool
-is_above_limit lengths = nat_lt 16384 (product lengths)
+is_above_limit lengths = nat_lt most_rows (product lengths)
 
 -- more configurations than a study may have
 abbrev pub is_too_large : Lists → Bool

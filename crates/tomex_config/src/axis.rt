@@ -3,7 +3,7 @@
 ghost use Rattle.std.specs.Prelude.{◌≡◌, ◌==◌, nat_lt, false};
 ghost use Rattle.std.specs.List.{list_all};
 ghost use Rattle.tomex_config.specs.Configuration.{is_between, is_option};
-ghost use Rattle.tomex_config.specs.Grid.{lists_of, lengths, has_zero, product, has_empty, stations_in_range};
+ghost use Rattle.tomex_config.specs.Grid.{lists_of, lengths, has_zero, product, has_empty, most_rows, stations_in_range};
 ghost use Rattle.tomex_config.specs.Grid.{options_in_range, rest_in_range, in_range, is_above_limit, is_too_large};
 
 use crate::config::{UnitOption, is_option};
@@ -43,7 +43,7 @@ fn has_zero(lengths: &[usize]) -> bool
 /// overflow.
 fn is_above(lengths: &[usize]) -> bool
     requires { has_zero lengths.now ≡ false }
-    ensures { result ≡ nat_lt 16384 (product lengths.now) }
+    ensures { result ≡ nat_lt most_rows (product lengths.now) }
 {
     let mut rows = 1;
     for length in lengths {

@@ -4,7 +4,7 @@ ghost use Rattle.std.specs.Prelude.{◌≡◌, ◌≤◌, length, IfOk, true};
 ghost use Rattle.std.specs.List.{list_all};
 ghost use Rattle.tomex_config.specs.Configuration.{is_between, is_option, most_units, with_stations};
 ghost use Rattle.tomex_config.specs.Configuration.{with_option, with_buses, with_width};
-ghost use Rattle.tomex_config.specs.Grid.{lists_of, stations_in_range, options_in_range, rest_in_range};
+ghost use Rattle.tomex_config.specs.Grid.{lists_of, most_rows, stations_in_range, options_in_range, rest_in_range};
 ghost use Rattle.tomex_config.specs.Grid.{in_range, rows_of, grid_of, Gives};
 ghost use Rattle.tomex_config.specs.Vary.{vary, station_rows, option_rows, bus_rows};
 
@@ -163,7 +163,7 @@ fn rows_of<A: Allocator + Clone>(alloc: &A, axes: &Axes<A>) -> Result<Vec<Config
 #[tactic(auto, using(crate::proofs::Counted::row_count), unfolding(crate::specs::Grid::grid_of))]
 pub fn grid<A: Allocator + Clone>(alloc: A, axes: &Axes<A>) -> Result<Vec<Config, A>, GridError>
     ensures exact { Gives (λ v. v.items) result (grid_of (lists_of axes.now)) }
-    ensures count { IfOk result (λ v. (1 ≤ length v.items) × (length v.items ≤ 16384)) }
+    ensures count { IfOk result (λ v. (1 ≤ length v.items) × (length v.items ≤ most_rows)) }
 {
     if axes.has_empty() {
         return Err(GridError::EmptyAxis);

@@ -17,6 +17,7 @@ use Rattle.tomex_values.specs.Numbers.{between, words_between, number_at}
 use Rattle.tomex_values.specs.Lists.{items_count, tables_from}
 use Rattle.tomex_study.specs.Watch.{IsWatch}
 use Rattle.tomex_document.specs.Watch.{watch_at}
+use Rattle.tomex_rvexec.specs.Run.{most_steps}
 
 -- a program before its file is read
 pub record ProgramEntry : Type 0 where
@@ -54,7 +55,7 @@ pub record IsProgramEntry (entry : ProgramEntry) : Type 0 where
   pub file : entry.file ≢ []
   pub window : IsWindow entry.window.base entry.window.size
   pub least_limit : 1 ≤ entry.limit
-  pub most_limit : entry.limit ≤ 262144
+  pub most_limit : entry.limit ≤ most_steps
   pub watch : IsWatch entry.window entry.watch
   pub least_weight : 1 ≤ entry.weight
   pub most_weight : entry.weight ≤ 1000
@@ -107,7 +108,7 @@ program_of place earlier members = do
   name ← name_at place earlier members
   file ← file_at place members
   window ← window_at place members
-  limit ← number_at place key.Limit (between 1 262144) 262144 members
+  limit ← number_at place key.Limit (between 1 most_steps) most_steps members
   watch ← watch_at place window members
   weight ← number_at place key.Weight (between 1 1000) 1 members
   Ok (record {

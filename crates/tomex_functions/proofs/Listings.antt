@@ -55,7 +55,8 @@ of_groups : (P : Step → Type 0) (key : Step → ℕ) (visits : List Visit) (es
 of_groups P key visits [] kept all = All-nil (λ (group : Group). P group.first)
 of_groups P key visits (e ∷ es) kept all =
     All-cons (λ (group : Group). P group.first) e.1 (values_of es)
-    (of_group P (visits_of key e.0 visits) e.1 (All-head (λ e. group_of (visits_of key e.0 visits) ≡ Some e.1) e es kept)
+    (of_group P (visits_of key e.0 visits) e.1
+    (All-head (λ e. group_of (visits_of key e.0 visits) ≡ Some e.1) e es kept)
     (All-filter (λ (v : Visit). key v.step == e.0) (λ v. P v.step) visits all))
     (of_groups P key visits es (All-tail (λ e. group_of (visits_of key e.0 visits) ≡ Some e.1) e es kept) all)
 

@@ -28,7 +28,8 @@ module _ (column : Sum → ℕ) (value : Visit → ℕ) (is : Sums column value)
     all_rows visits (k ∷ keys) = omega (
       arith,
       sum_by-append (λ (row : Row). column row.sum)
-          (rows_of_visits symbols calls (visits_of (function_key symbols) k visits)) (rows_at symbols calls visits keys),
+          (rows_of_visits symbols calls (visits_of (function_key symbols) k visits))
+          (rows_at symbols calls visits keys),
       one_row (visits_of (function_key symbols) k visits),
       all_rows visits keys,
       sum_by-cons (λ k. sum_by value (visits_of (function_key symbols) k visits)) k keys,

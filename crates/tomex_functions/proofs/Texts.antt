@@ -41,7 +41,8 @@ by_symbols file config steps listing text is written =
           ++ record_text (codes "total" ∷ codes "-" ∷ decimal n ∷ fields_of_sum listing.total)))) is.calls
           ∙ ap₂ (λ (d t : Sum). record_text (codes "pc" ∷ codes "function" ∷ codes "calls" ∷ sum_columns) ++ (rows
           ++ (record_text (codes "drain" ∷ codes "-" ∷ codes "0" ∷ fields_of_sum d)
-          ++ record_text (codes "total" ∷ codes "-" ∷ decimal (length (calls_in (symbols_of file) steps)) ∷ fields_of_sum t)))) is.last is.all),
+          ++ record_text (codes "total" ∷ codes "-" ∷ decimal (length (calls_in (symbols_of file) steps))
+          ∷ fields_of_sum t)))) is.last is.all),
     )
 
 pub report_by_function : {A : Type 0} (file : List ℕ) (symbols : List Symbol) (config : Configuration)
@@ -71,9 +72,11 @@ by_place file config steps counted text is ordered written =
       keys counted.tally.groups,
       are_keys pc_of (visits_in config steps) counted.tally is.tally ordered,
       written
-          ∙ ap₂ (λ (a b : List ℕ). record_text (codes "pc" ∷ codes "instr" ∷ codes "function" ∷ sum_columns) ++ (a ++ b)) places
+          ∙ ap₂ (λ (a b : List ℕ). record_text (codes "pc" ∷ codes "instr" ∷ codes "function" ∷ sum_columns)
+          ++ (a ++ b)) places
           (ap₂ (λ (n : ℕ) (s : Sum). record_text (codes "drain" ∷ codes "-" ∷ codes "-" ∷ fields_of_sum (only_drain n))
-          ++ record_text (codes "total" ∷ codes "-" ∷ codes "-" ∷ fields_of_sum (with_drain n s))) is.drain is.tally.all),
+          ++ record_text (codes "total" ∷ codes "-" ∷ codes "-" ∷ fields_of_sum (with_drain n s))) is.drain
+          is.tally.all),
     )
 
 pub report_by_place : {A : Type 0} (file : List ℕ) (symbols : List Symbol) (config : Configuration)

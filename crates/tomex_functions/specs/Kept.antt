@@ -91,7 +91,8 @@ report_of_counted file symbols counted =
     record_text (codes "pc" ∷ codes "instr" ∷ codes "function" ∷ sum_columns)
     ++ (flat_map (λ place. record_text (place_fields file symbols place)) (values counted.tally.groups)
     ++ (record_text (codes "drain" ∷ codes "-" ∷ codes "-" ∷ fields_of_sum (only_drain counted.drain))
-    ++ record_text (codes "total" ∷ codes "-" ∷ codes "-" ∷ fields_of_sum (with_drain counted.drain counted.tally.all))))
+    ++ record_text
+    (codes "total" ∷ codes "-" ∷ codes "-" ∷ fields_of_sum (with_drain counted.drain counted.tally.all))))
 
 -- what rows are ordered by: is there no function, the cycles, the greatest first, the address, and the number
 abbrev pub key_with : ℕ → Option Symbol → ℕ × Reverse ℕ × ℕ × ℕ

@@ -10,6 +10,7 @@ ghost use Rattle.tomex_symbols.specs.declared.symbol.Symbol.{Symbol};
 ghost use Rattle.tomex_functions.specs.Calls.{begins, is_call, is_jump};
 ghost use Rattle.tomex_functions.specs.Kept.{AreCalls, before_at};
 ghost use Rattle.tomex_functions.specs.Functions.{function_of, key_of};
+ghost use Rattle.tomex_rvexec.specs.Run.{most_steps};
 
 use crate::index::key_of;
 use std::alloc::{AllocError, Allocator};
@@ -98,7 +99,7 @@ pub fn count_calls<A: Allocator + Clone>(
     steps: &[Step],
     functions: &[Option<Symbol>],
 ) -> Result<Calls<A>, AllocError>
-    requires few { length steps.now ≤ 262144 }
+    requires few { length steps.now ≤ most_steps }
     requires functions { (symbols : List Symbol) × (functions.now ≡ map (function_of symbols) steps.now) }
     ensures { IfOk result (λ calls. (symbols : List Symbol) → functions.now ≡ map (function_of symbols) steps.now
         → AreCalls symbols steps.now calls) }

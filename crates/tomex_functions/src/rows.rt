@@ -9,6 +9,7 @@ ghost use Rattle.tomex_symbols.specs.declared.symbol.Symbol.{Symbol};
 ghost use Rattle.tomex_functions.specs.ByFunction.{InOrder};
 ghost use Rattle.tomex_functions.specs.Calls.{calls_in};
 ghost use Rattle.tomex_functions.specs.Kept.{AreCalls, HasAddress, IsIndexOf, IsListing, row_of_group, sort_key};
+ghost use Rattle.tomex_rvexec.specs.Run.{most_steps};
 
 use crate::calls::{Calls, count_calls};
 use crate::index::{Index, key_of, keys_of};
@@ -99,7 +100,7 @@ pub fn listing_of<A: Allocator + Clone>(
     steps: &[Step],
     symbols: Vec<Symbol, A>,
 ) -> Result<Listing<A>, AllocError>
-    requires few { length steps.now ≤ 262144 }
+    requires few { length steps.now ≤ most_steps }
     requires numbered { AreNumbered symbols.items }
     ensures { IfOk result (IsListing symbols.items config.now steps.now) }
 {

@@ -130,7 +130,8 @@ options_share prices rows k low =
     let f = share prices (get_or rows k plain) in
     let five = sum_by-append f (choices_of rows units.Bru) [] in
     let four = sum_by-append f (choices_of rows units.Mem) (choices_of rows units.Bru ++ []) in
-    let three = sum_by-append f (choices_of rows units.Div) (choices_of rows units.Mem ++ (choices_of rows units.Bru ++ [])) in
+    let three =
+    sum_by-append f (choices_of rows units.Div) (choices_of rows units.Mem ++ (choices_of rows units.Bru ++ [])) in
     let two = sum_by-append f (choices_of rows units.Mul) (choices_of rows units.Div ++ (choices_of rows units.Mem
     ++ (choices_of rows units.Bru ++ []))) in
     let one = sum_by-append f (choices_of rows units.Alu) (choices_of rows units.Mul ++ (choices_of rows units.Div

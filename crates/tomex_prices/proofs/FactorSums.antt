@@ -158,7 +158,8 @@ module _ (prices : PriceList) (a b : Configuration) where
       let high = mul-le-mul_left s low in
       omega (arith, more, high)
 
-  pub all_no_further : (all : List Price) → sum_by (share prices b) all ≤ sum_by (share prices a) all + sum_by differs all
+  pub all_no_further : (all : List Price)
+      → sum_by (share prices b) all ≤ sum_by (share prices a) all + sum_by differs all
   all_no_further [] = omega arith
   all_no_further (p ∷ ps) =
       rw (sum_by-cons (share prices a) p ps, sum_by-cons (share prices b) p ps, sum_by-cons differs p ps)

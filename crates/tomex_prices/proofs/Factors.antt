@@ -31,7 +31,8 @@ use Rattle.tomex_prices.proofs.NewCosts.{row_shares}
 least_low : (s : DesignSpace) (r j : FrontRow) (rows : List FrontRow) → Has rows j
     → least_percent s r rows ≤ percent_for s r j
 least_low s r j [] one = absurd one
-least_low s r j (x ∷ xs) (inl is) = subst (λ (y : FrontRow). least_percent s r (x ∷ xs) ≤ percent_for s r y) is (omega arith)
+least_low s r j (x ∷ xs) (inl is) =
+    subst (λ (y : FrontRow). least_percent s r (x ∷ xs) ≤ percent_for s r y) is (omega arith)
 least_low s r j (x ∷ xs) (inr there) = omega (arith, least_low s r j xs there)
 
 -- the rival that sets the least one

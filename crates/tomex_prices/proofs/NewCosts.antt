@@ -147,7 +147,8 @@ module _ (cost : FrontRow → ℕ) (s : DesignSpace) where
   ]
 
 -- a row of the front is one of all rows, and none of them dominates it
-pub front_free : (s : DesignSpace) (r : FrontRow) → Contains (front_of_study s) r → Has (all_rows s) r × IsFree (all_rows s) r
+pub front_free : (s : DesignSpace) (r : FrontRow) → Contains (front_of_study s) r
+    → Has (all_rows s) r × IsFree (all_rows s) r
 unfolding front_of_study
 front_free s r one =
     (front_is (all_rows s) (rows_apart 0 s.costs (cycles_of s))).only r

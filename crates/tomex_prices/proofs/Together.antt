@@ -48,7 +48,8 @@ moved n d b e w x low =
 -- it moves `k` parts out of `w` of a way of at most m, each step of which is worth e
 bounded : (d e w k m g : ℕ) → d * w ≤ k * m → m * e ≤ g → d * e * w ≤ k * g
 bounded d e w k m g part few =
-    let turned : d * e * w ≡ d * w * e = mul_assoc d e w ∙ (ap (λ (z : ℕ). d * z) (mul_comm e w) ∙ sym (mul_assoc d w e)) in
+    let turned : d * e * w ≡ d * w * e =
+    mul_assoc d e w ∙ (ap (λ (z : ℕ). d * z) (mul_comm e w) ∙ sym (mul_assoc d w e)) in
     let more : d * w * e ≤ k * m * e = mul-le-mul_right e part in
     let same : k * m * e ≡ k * (m * e) = mul_assoc k m e in
     let most : k * (m * e) ≤ k * g = mul-le-mul_left k few in
@@ -110,13 +111,15 @@ rival_helped n v a b w k g more rises =
 has_most : (now : ℕ) (r : PricedRow) (rows : List PricedRow) (k : ℕ) (j : PricedRow) → k < length rows
     → get_or rows k j ≡ j → most now r rows ≤ rise now r j
 has_most now r [] k j low at = absurd (omega (arith, low))
-has_most now r (x ∷ xs) zero j low at = subst (λ (y : PricedRow). min (rise now r x) (most now r xs) ≤ rise now r y) at (omega arith)
+has_most now r (x ∷ xs) zero j low at =
+    subst (λ (y : PricedRow). min (rise now r x) (most now r xs) ≤ rise now r y) at (omega arith)
 has_most now r (x ∷ xs) (suc k) j low at = omega (arith, has_most now r xs k j (omega (arith, low)) at)
 
 has_least : (now : ℕ) (r : PricedRow) (rows : List PricedRow) (k : ℕ) (j : PricedRow) → k < length rows
     → get_or rows k j ≡ j → fall now r j ≤ least now r rows
 has_least now r [] k j low at = absurd (omega (arith, low))
-has_least now r (x ∷ xs) zero j low at = subst (λ (y : PricedRow). fall now r y ≤ max (fall now r x) (least now r xs)) at (omega arith)
+has_least now r (x ∷ xs) zero j low at =
+    subst (λ (y : PricedRow). fall now r y ≤ max (fall now r x) (least now r xs)) at (omega arith)
 has_least now r (x ∷ xs) (suc k) j low at = omega (arith, has_least now r xs k j (omega (arith, low)) at)
 
 way_up : (now : ℕ) (r j : PricedRow) (rows : List PricedRow) → Contains rows j → j.cycles ≤ r.cycles

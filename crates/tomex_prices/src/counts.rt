@@ -3,6 +3,7 @@
 ghost use Rattle.std.specs.Prelude.{◌≡◌, ◌*◌, ◌≤◌, ◌∷◌, [], length, map};
 ghost use Rattle.std.specs.List.{filter, flat_map};
 ghost use Rattle.tomex_config.specs.Cost.{all_pools, all_units};
+ghost use Rattle.tomex_config.specs.Grid.{most_rows};
 ghost use Rattle.tomex_prices.specs.Prices.{choices_of, is_relevant, relevant_prices_of};
 ghost use Rattle.tomex_prices.specs.declared.price.Price.TheVariants.{Bus, Station, Width};
 
@@ -46,10 +47,10 @@ fn count_choices(rows: &[Config], unit: UnitId) -> usize
 
 /// The number of relevant prices of options.
 fn count_options(rows: &[Config]) -> usize
-    requires { length rows.now ≤ 16384 }
+    requires { length rows.now ≤ most_rows }
     ensures count { result
         ≡ length (filter (is_relevant rows.now) (flat_map (choices_of rows.now) all_units)) }
-    ensures few { result ≤ 5 * 16384 }
+    ensures few { result ≤ 5 * most_rows }
 {
     let mut count = 0;
     for unit in UnitId::ALL {

@@ -158,7 +158,8 @@ visits_are config ss good =
 waits_from_at : (config : Configuration) (h : List Done) (ss : List Step) (i : ℕ) (d : Step) (none : Waits)
     → i < length ss
     → get_or (waits_from config h ss) i none
-    ≡ waits_of config (history_from config h (take i ss)) (done config (history_from config h (take i ss)) (get_or ss i d))
+    ≡ waits_of config (history_from config h (take i ss))
+    (done config (history_from config h (take i ss)) (get_or ss i d))
 waits_from_at config h [] i d none l = absurd (omega arith)
 waits_from_at config h (s ∷ ss) zero d none l = refl
 waits_from_at config h (s ∷ ss) (suc i) d none l =

@@ -6,6 +6,7 @@ use Rattle.tomex_timing.specs.Search.{times_in, total_of}
 use Rattle.tomex_timing.specs.declared.times.Times.{Times}
 use Rattle.tomex_run_views.specs.declared.excerpt_error.ExcerptError.{ExcerptError}
 use Rattle.tomex_run_views.specs.declared.excerpt_error.ExcerptError.TheVariants.{Memory, NoSuchStep}
+use Rattle.tomex_rvexec.specs.Run.{most_steps}
 
 -- the number of the first step, the run's first step being number 1; the steps in program order; the times of each
 pub record TimedSteps : Type 0 where
@@ -29,7 +30,7 @@ excerpt_of config steps number count = record {
 pub record IsExcerpt (e : TimedSteps) : Type 0 where
   pub number : 0 < e.number
   pub pairs : length e.times ≡ length e.steps
-  pub short : length e.steps ≤ 262144
+  pub short : length e.steps ≤ most_steps
   pub numbers : e.number < 2 ^ 32
   pub bound : total_of e.times < 2 ^ 32
 

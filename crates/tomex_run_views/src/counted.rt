@@ -3,6 +3,7 @@
 ghost use Rattle.std.specs.Prelude.{◌≡◌, ◌≤◌, ◌^◌, ◌*◌, ℕ, IfOk, length, map};
 ghost use Rattle.tomex_steps.specs.declared.step.Step.{Step};
 ghost use Rattle.tomex_run_views.specs.Tally.{IsCounted, only_drain, with_drain};
+ghost use Rattle.tomex_rvexec.specs.Run.{most_steps};
 
 use crate::drain::drain_of;
 use crate::tally::{Sum, Tally, count_by_key};
@@ -45,7 +46,7 @@ pub fn count_run<A: Allocator + Clone>(
     steps: &[Step],
     keys: &[u64],
 ) -> Result<Counted<A>, AllocError>
-    requires few { length steps.now ≤ 262144 }
+    requires few { length steps.now ≤ most_steps }
     requires keys { (key : Step → ℕ) × (keys.now ≡ map key steps.now) }
     ensures counted { IfOk result (λ c. (key : Step → ℕ) → keys.now ≡ map key steps.now
         → IsCounted key config.now steps.now c) }

@@ -6,6 +6,7 @@ ghost use Rattle.tomex_timing.specs.Needs.{drain, waits_in};
 ghost use Rattle.tomex_timing.specs.Search.{history};
 ghost use Rattle.tomex_timing.specs.Waiting.{AreWithin};
 ghost use Rattle.tomex_run_views.specs.Drain.{cycles_under_way};
+ghost use Rattle.tomex_rvexec.specs.Run.{most_steps};
 
 use crate::tally::cycles_of;
 use tomex_config::Config;
@@ -29,7 +30,7 @@ fn cycles_under_way(config: &Config, step: &Step, waits: &Waits) -> u64
 
 /// The drain of a run whose steps have these waits: its total less its last issue.
 pub fn drain_of(config: &Config, steps: &[Step], waits: &[Waits]) -> u64
-    requires few { length steps.now ≤ 262144 }
+    requires few { length steps.now ≤ most_steps }
     requires waits { waits.now ≡ waits_in config.now steps.now }
     requires bound { All (AreWithin (2 ^ 35)) waits.now }
     ensures value { result ≡ drain (history config.now steps.now) }

@@ -4,6 +4,7 @@ ghost use Rattle.std.specs.Prelude.{◌≡◌, ◌+◌, ◌*◌, ◌^◌, ◌<�
 ghost use Rattle.tomex_steps.specs.declared.step.Step.{Step};
 ghost use Rattle.tomex_timing.specs.Waiting.{AreWithin};
 ghost use Rattle.tomex_run_views.specs.Tally.{IsTally, cycles_by, more_at, no_sum, sum_after, visits_by, with_drain};
+ghost use Rattle.tomex_rvexec.specs.Run.{most_steps};
 
 use std::alloc::{AllocError, Allocator};
 use std::collections::BTreeMap;
@@ -127,7 +128,7 @@ pub fn count_by_key<A: Allocator + Clone>(
     steps: &[Step],
     waits: &[Waits],
 ) -> Result<Tally<A>, AllocError>
-    requires few { length steps.now ≤ 262144 }
+    requires few { length steps.now ≤ most_steps }
     requires keys { (key : Step → ℕ) × (keys.now ≡ map key steps.now) }
     requires pairs { length waits.now ≡ length steps.now }
     requires waits { All (AreWithin (2 ^ 35)) waits.now }

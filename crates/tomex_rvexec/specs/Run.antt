@@ -12,6 +12,10 @@ use Rattle.tomex_rvexec.specs.declared.end.RunError.{RunError}
 use Rattle.tomex_rvexec.specs.declared.end.RunError.TheVariants as errors
 use Rattle.tomex_rvexec.specs.Machine.{State, Outcome, Goes, Ends, Faults, step_of}
 
+-- the most steps that a study lets a program take
+abbrev pub most_steps : ℕ
+most_steps = 262144
+
 -- the stack pointer before the first step: the end of memory, rounded down to a multiple of 16
 abbrev pub initial_sp : Span → ℕ
 initial_sp window = (window.base + window.size) / 16 * 16 % 2 ^ 32

@@ -1,7 +1,7 @@
 -- A program of a study: an image whose run in order ends within its limit.
 use Rattle.std.specs.Prelude.{◌≡◌, ℕ, ◌≤◌, List, length}
 use Rattle.tomex_image.specs.Image.{Loaded}
-use Rattle.tomex_rvexec.specs.Run.{EndsWithin, IsRefusal, start_of}
+use Rattle.tomex_rvexec.specs.Run.{EndsWithin, IsRefusal, most_steps, start_of}
 use Rattle.tomex_rvexec.specs.Trace.{steps_from}
 use Rattle.tomex_rvexec.specs.declared.end.RunError.{RunError}
 use Rattle.tomex_rvexec.specs.declared.end.RunError.TheVariants as errors
@@ -28,7 +28,7 @@ workload name image limit watch weight =
 -- weight is 1 to 1,000
 pub record IsProgram (p : Workload) : Type 0 where
   pub some_steps : 1 ≤ p.limit
-  pub few_steps : p.limit ≤ 262144
+  pub few_steps : p.limit ≤ most_steps
   pub ends : EndsWithin p.image p.limit
   pub watch : IsWatch p.image.window p.watch
   pub some_weight : 1 ≤ p.weight
@@ -37,7 +37,7 @@ pub record IsProgram (p : Workload) : Type 0 where
 -- the steps of an image's run within a limit, and a bound on their number
 pub record AreSteps (image : Loaded) (limit : ℕ) (steps : List Step) : Type 0 where
   pub run : steps ≡ steps_from limit (start_of image)
-  pub few : length steps ≤ 262144
+  pub few : length steps ≤ most_steps
 
 -- why the run was refused
 abbrev pub refusal_of : ProgramError → RunError

@@ -4,6 +4,7 @@ use Rattle.std.specs.List.{find}
 use Rattle.std.specs.Str.{bytes_eq}
 use Rattle.tomex_config.specs.Configuration.{Configuration, IsWithinLimits}
 use Rattle.tomex_config.specs.Cost.{IsPriceList, PriceList, cost_of}
+use Rattle.tomex_config.specs.Grid.{most_rows}
 use Rattle.tomex_study.specs.Program.{Workload, IsProgram}
 
 pub record DesignSpace : Type 0 where
@@ -30,7 +31,7 @@ pub record IsStudy (s : DesignSpace) : Type 0 where
   pub few_programs : length s.programs ≤ 8
   pub ends : All IsProgram s.programs
   pub some_rows : 1 ≤ length s.rows
-  pub few_rows : length s.rows ≤ 16384
+  pub few_rows : length s.rows ≤ most_rows
   pub limits : All IsWithinLimits s.rows
   pub prices : IsPriceList s.prices
   pub costs : s.costs ≡ costs_of s.prices s.rows

@@ -1,7 +1,7 @@
 //! A program of a study: an image that is known to end.
 
 ghost use Rattle.std.specs.Prelude.{◌≡◌, ◌≤◌, length, IfOk, IfErr, string_bytes};
-ghost use Rattle.tomex_rvexec.specs.Run.{start_of};
+ghost use Rattle.tomex_rvexec.specs.Run.{most_steps, start_of};
 ghost use Rattle.tomex_rvexec.specs.Trace.{steps_from};
 ghost use Rattle.tomex_study.specs.Watch.{IsWatch};
 ghost use Rattle.tomex_study.specs.Program.{IsProgram, IsUnfit, refusal_of, workload};
@@ -89,7 +89,7 @@ impl<A: Allocator + Clone> Program<A> {
         weight: u32,
     ) -> Result<Program<A>, ProgramError>
         requires some_steps { 1 ≤ limit }
-        requires few_steps { limit ≤ 262144 }
+        requires few_steps { limit ≤ most_steps }
         requires watch { IsWatch image.window watch.items }
         requires some_weight { 1 ≤ weight }
         requires most_weight { weight ≤ 1000 }
@@ -158,7 +158,7 @@ impl<A: Allocator> Program<A> {
     /// The steps of its run, in program order; the one that ends the program is the last.
     pub fn steps(&self) -> &[Step]
         ensures steps { result.now ≡ steps_from self.now.limit (start_of self.now.image) }
-        ensures few { length result.now ≤ 262144 }
+        ensures few { length result.now ≤ most_steps }
     {
         self.run.steps()
     }
@@ -166,7 +166,7 @@ impl<A: Allocator> Program<A> {
     /// Its run, with what its timing on a configuration depends on.
     pub fn run(&self) -> &Run<A>
         ensures steps { result.now ≡ steps_from self.now.limit (start_of self.now.image) }
-        ensures few { length result.now ≤ 262144 }
+        ensures few { length result.now ≤ most_steps }
     {
         &self.run
     }

@@ -2,6 +2,7 @@
 
 ghost use Rattle.std.specs.Prelude.{◌≡◌, ◌≤◌, length, slice_get, option_copied, All, IfOk, IfSome};
 ghost use Rattle.tomex_config.specs.Configuration.{IsWithinLimits};
+ghost use Rattle.tomex_config.specs.Grid.{most_rows};
 ghost use Rattle.tomex_study.specs.Program.{IsProgram};
 ghost use Rattle.tomex_study.specs.Study.{costs_of, design_space, program_named, IsStudy};
 
@@ -70,7 +71,7 @@ impl<A: Allocator> Study<A> {
         requires some_programs { 1 ≤ length programs.items }
         requires few_programs { length programs.items ≤ 8 }
         requires some_rows { 1 ≤ length rows.items }
-        requires few_rows { length rows.items ≤ 16384 }
+        requires few_rows { length rows.items ≤ most_rows }
         ensures parts { IfOk result
             (λ s. s ≡ design_space programs.items rows.items (costs_of prices rows.items) prices wide) }
         ensures study { IfOk result (λ s. IsStudy s) }

@@ -85,12 +85,12 @@ pub unfit_refused : (entry : ProgramEntry) (file : List ℕ) (name : Result (Str
     (error : ProgramError) (refusal : StudyError) → IfOk name (λ n. string_bytes n ≡ entry.name)
     → IfOk name (λ n. refusal ≡ unfit_as n error) → OnErr name (refusal ≡ Memory)
     → FailsToEnd entry file (refusal_of error) → (refusal ≡ Memory) ⊎ IsFileRefusal entry file refusal
-unfit_refused entry file (Err _) error refusal named told untold fails = inl untold
-unfit_refused entry file (Ok name) programs.Memory refusal named told untold fails = inl told
-unfit_refused entry file (Ok name) (programs.Fault fault) refusal named told untold fails =
-    inr (subst (λ (r : StudyError). IsFileRefusal entry file r) (sym told) (named, fails))
-unfit_refused entry file (Ok name) programs.TooLong refusal named told untold fails =
-    inr (subst (λ (r : StudyError). IsFileRefusal entry file r) (sym told) (named, fails))
+unfit_refused entry file (Err _) error refusal named with_name without_name fails = inl without_name
+unfit_refused entry file (Ok name) programs.Memory refusal named with_name without_name fails = inl with_name
+unfit_refused entry file (Ok name) (programs.Fault fault) refusal named with_name without_name fails =
+    inr (subst (λ (r : StudyError). IsFileRefusal entry file r) (sym with_name) (named, fails))
+unfit_refused entry file (Ok name) programs.TooLong refusal named with_name without_name fails =
+    inr (subst (λ (r : StudyError). IsFileRefusal entry file r) (sym with_name) (named, fails))
 
 -- no program is left
 pub all_programs : {X : Type 0} (seen : X → List ℕ) (place : ℕ) (entries : List ProgramEntry) (files : List X)
@@ -117,23 +117,23 @@ seen_is seen xs n place x y count within read is =
 -- a refused document: out of memory, or the refusal says which test failed
 pub names_refused : (bytes : List ℕ) (fault : DocumentError) (error : StudyError) → error ≡ told_as fault
     → (fault ≢ documents.Memory → document_of bytes ≡ Err fault) → (error ≡ Memory) ⊎ IsDocumentRefusal bytes error
-names_refused bytes documents.Memory error told given = inl told
-names_refused bytes documents.Syntax error told given = inr (documents.Syntax, given (λ h. cc), told)
-names_refused bytes (documents.UnknownKey place) error told given =
-    inr (documents.UnknownKey place, given (λ h. cc), told)
-names_refused bytes (documents.MissingKey place key) error told given =
-    inr (documents.MissingKey place key, given (λ h. cc), told)
-names_refused bytes (documents.Kind place key) error told given = inr (documents.Kind place key, given (λ h. cc), told)
-names_refused bytes (documents.Range place key) error told given =
-    inr (documents.Range place key, given (λ h. cc), told)
-names_refused bytes documents.TooMany error told given = inr (documents.TooMany, given (λ h. cc), told)
+names_refused bytes documents.Memory error same given = inl same
+names_refused bytes documents.Syntax error same given = inr (documents.Syntax, given (λ h. cc), same)
+names_refused bytes (documents.UnknownKey place) error same given =
+    inr (documents.UnknownKey place, given (λ h. cc), same)
+names_refused bytes (documents.MissingKey place key) error same given =
+    inr (documents.MissingKey place key, given (λ h. cc), same)
+names_refused bytes (documents.Kind place key) error same given = inr (documents.Kind place key, given (λ h. cc), same)
+names_refused bytes (documents.Range place key) error same given =
+    inr (documents.Range place key, given (λ h. cc), same)
+names_refused bytes documents.TooMany error same given = inr (documents.TooMany, given (λ h. cc), same)
 
 -- so the study is refused
 pub document_refused : (bytes : List ℕ) (files : List (List ℕ)) (fault : DocumentError) (error : StudyError)
     → error ≡ told_as fault
     → (fault ≢ documents.Memory → document_of bytes ≡ Err fault) → IsStudyRefusal bytes files error
-document_refused bytes files fault error told given =
-    ⊎_elim (λ memory. inl memory) (λ refusal. inr (inl refusal)) (names_refused bytes fault error told given)
+document_refused bytes files fault error same given =
+    ⊎_elim (λ memory. inl memory) (λ refusal. inr (inl refusal)) (names_refused bytes fault error same given)
 
 -- a test of the files fails
 files_refused : (bytes : List ℕ) (files : List (List ℕ)) (document : Document) (error : StudyError)

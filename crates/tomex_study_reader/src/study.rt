@@ -18,8 +18,8 @@ use tomex_study::{Program, ProgramError, Study};
 /// The refusal of a file that can't be loaded, with the program's name. Out of memory only if
 /// loading ran out of it, or if there was none for the name.
 fn load_error(name: Result<String, AllocError>, error: ImageError) -> StudyError
-    ensures told { IfOk name (λ name. result ≡ load_error name error) }
-    ensures untold { OnErr name (result ≡ StudyError.Memory) }
+    ensures with_name { IfOk name (λ name. result ≡ load_error name error) }
+    ensures without_name { OnErr name (result ≡ StudyError.Memory) }
 {
     let Ok(name) = name else {
         return StudyError::Memory;
@@ -51,8 +51,8 @@ fn image_of<A: Allocator + Clone>(
 /// The refusal of a program whose run faults or doesn't end within its limit, with its name. Out of
 /// memory only if the run ran out of it, or if there was none for the name.
 fn unfit(name: Result<String, AllocError>, error: ProgramError) -> StudyError
-    ensures told { IfOk name (λ name. result ≡ unfit_as name error) }
-    ensures untold { OnErr name (result ≡ StudyError.Memory) }
+    ensures with_name { IfOk name (λ name. result ≡ unfit_as name error) }
+    ensures without_name { OnErr name (result ≡ StudyError.Memory) }
 {
     let Ok(name) = name else {
         return StudyError::Memory;

@@ -1,6 +1,7 @@
 //! The rows of a study, cut into stretches.
 
 ghost use Rattle.std.specs.Prelude.{◌≡◌, ◌≤◌, All, IfOk};
+ghost use Rattle.tomex_config.specs.Grid.{most_rows};
 ghost use Rattle.tomex_survey.specs.Stretches.{IsWithin, stretches_of};
 
 use std::alloc::{AllocError, Allocator};
@@ -22,7 +23,7 @@ pub(crate) fn stretches<A: Allocator>(
     rows: usize,
     workers: usize,
 ) -> Result<Vec<Stretch, A>, AllocError>
-    requires few_rows { rows ≤ 16384 }
+    requires few_rows { rows ≤ most_rows }
     requires few_workers { workers ≤ 32 }
     ensures are { IfOk result (λ v. v.items ≡ stretches_of rows workers) }
     ensures within { IfOk result (λ v. All (IsWithin rows) v.items) }

@@ -178,10 +178,12 @@ best_same p q (s ∷ ss) h =
 -- the order of the table doesn't count
 pub best_moved : (p : Symbol → Bool) (ss ts : List Symbol) → AreNumbered ts → IsPermutation ss ts
     → best p ts ≡ best p ss
-best_moved p ss ts n m = only_one p ts (best p ts) (best p ss) n (best_is p ts) (moved p ss ts (best p ss) m (best_is p ss))
+best_moved p ss ts n m =
+    only_one p ts (best p ts) (best p ss) n (best_is p ts) (moved p ss ts (best p ss) m (best_is p ss))
 
 pub numbered_moved : (ss ts : List Symbol) → AreNumbered ss → IsPermutation ss ts → AreNumbered ts
-numbered_moved ss ts n m = IsDistinct-IsPermutation (λ a b. a.number == b.number) (λ a b. flips a.number b.number) ss ts m n
+numbered_moved ss ts n m =
+    IsDistinct-IsPermutation (λ a b. a.number == b.number) (λ a b. flips a.number b.number) ss ts m n
   where
     flips : (a b : ℕ) → (a == b) ≡ (b == a)
     flips a b = ⊎_elim (λ (e : a ≡ b). eq-eqb a b e ∙ sym (eq-eqb b a (sym e)))

@@ -36,7 +36,8 @@ last_address_push (t ∷ u ∷ ss) s = last_address_push (u ∷ ss) s
 
 -- the addresses that a symbol holds, in numbers
 
-ended : (a n p q : ℕ) → a ≤ p → p ≤ q → (nat_le a p && nat_lt p (a + n)) ≡ false → (nat_le a q && nat_lt q (a + n)) ≡ false
+ended : (a n p q : ℕ) → a ≤ p → p ≤ q → (nat_le a p && nat_lt p (a + n)) ≡ false
+    → (nat_le a q && nat_lt q (a + n)) ≡ false
 ended a n p q l m e = grind (arith, nat_tests)
 
 without_size : (a n q : ℕ) → nat_eq n 0 ≡ true → (nat_le a q && nat_lt q (a + n)) ≡ false
@@ -120,8 +121,8 @@ swept_next sorted k nested label latest pc s d h l e m =
           (λ (u : is_unsized s ≡ true). rw (u, without_size s.address s.size q u) (h.innermost q n))
           (λ (u : is_unsized s ≡ false). rw (u, last_push (holds q) nested s, h.innermost q n) refl)
           (cases_Bool (is_unsized s)));
-      last_unsized = rw (t, last_push is_unsized (take k sorted) s) (ap (λ (o : Option Symbol). cond (is_unsized s) (Some s) o)
-          h.last_unsized);
+      last_unsized = rw (t, last_push is_unsized (take k sorted) s)
+          (ap (λ (o : Option Symbol). cond (is_unsized s) (Some s) o) h.last_unsized);
       last_begins = rw (t, last_address_push (take k sorted) s) refl;
     }
 
@@ -171,7 +172,8 @@ passed_apart : (n a pc : ℕ) (b : Bool) → b ≡ true → (nat_eq n 0 && nat_l
 passed_apart n a pc true e = grind (arith, nat_tests)
 passed_apart n a pc false e = absurd (true≢false (sym e))
 
-all_three : (n a pc : ℕ) (b : Bool) → nat_eq n 0 ≡ true → a ≤ pc → b ≡ false → (nat_eq n 0 && nat_le a pc && not b) ≡ true
+all_three : (n a pc : ℕ) (b : Bool) → nat_eq n 0 ≡ true → a ≤ pc → b ≡ false
+    → (nat_eq n 0 && nat_le a pc && not b) ≡ true
 all_three n a pc b e l f = rw (e, f, le-leb a pc l) refl
 
 first_two : (n a pc : ℕ) (b : Bool) → (nat_eq n 0 && nat_le a pc && not b) ≡ true → (nat_eq n 0 ≡ true) × (a ≤ pc)

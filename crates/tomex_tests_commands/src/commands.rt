@@ -172,8 +172,8 @@ pub fn each_is_refused<R: Abort + AllocGlobal + Threads + Wait + Sync>(
     line: &str,
     refused: &[Refused],
 ) -> Result<(), Fail> {
-    for (study, programs, status, told) in refused {
-        asks_within(rt, *study, programs, line, 10_000, (*status, "", *told))?;
+    for (study, programs, status, said) in refused {
+        asks_within(rt, *study, programs, line, 10_000, (*status, "", *said))?;
     }
     Ok(())
 }
@@ -219,7 +219,7 @@ pub fn fails<R: Abort + AllocGlobal + Threads + Wait + Sync>(
     rt: &R,
     image: Option<&[u8]>,
     options: &[&str],
-    told: &str,
+    said: &str,
     status: u8,
 ) -> Result<(), Fail> {
     let mut words = Vec::new(rt.alloc());
@@ -227,7 +227,7 @@ pub fn fails<R: Abort + AllocGlobal + Threads + Wait + Sync>(
     words.extend_from_slice(options)?;
     let outcome = run_into(rt, image, words.as_slice(), 10_000)?;
     assert!(rt; outcome.out.as_slice() == b"".as_slice());
-    assert!(rt; outcome.err.as_slice() == told.as_bytes());
+    assert!(rt; outcome.err.as_slice() == said.as_bytes());
     assert!(rt; outcome.status == status);
     Ok(())
 }
@@ -350,8 +350,8 @@ static REFUSED: [(Option<&[u8]>, &[&str], &str, u8); 12] = [
 
 #[test]
 fn images_are_refused(rt: HostRuntime) -> Result<(), Fail> {
-    for (image, options, told, status) in &REFUSED {
-        fails(&rt, *image, options, told, *status)?;
+    for (image, options, said, status) in &REFUSED {
+        fails(&rt, *image, options, said, *status)?;
     }
     Ok(())
 }
@@ -419,8 +419,8 @@ fn is_escaped(alloc: Global, name: &str, shown: &str) -> Result<bool, AllocError
 #[test]
 fn names_are_shown_on_one_line(rt: HostRuntime) -> Result<(), Fail> {
     for (name, shown) in &NAMES {
-        let told = format!(in rt.alloc(); "tomex: cannot read {shown}\n")?;
-        comes_to(&rt, &[], &["tomex", "run", *name], (3, "", told.as_str()))?;
+        let said = format!(in rt.alloc(); "tomex: cannot read {shown}\n")?;
+        comes_to(&rt, &[], &["tomex", "run", *name], (3, "", said.as_str()))?;
         assert!(rt; is_escaped(rt.alloc(), name, shown)?);
     }
     Ok(())

@@ -35,7 +35,7 @@ fn they_are_refused(rt: HostRuntime) -> Result<(), Fail> {
     // interpreter.
     let (longer, dynamic) = (changed(68, 33), changed(52, 3));
     let (file, based) = (ELF.as_slice(), AT_65536.as_slice());
-    for (image, options, told) in [
+    for (image, options, said) in [
         (&file[..99], based, "tomex: image: truncated\n"),
         (&file[..3], based, "tomex: fault: illegal at 00010000\n"),
         (&file[..0], based, "tomex: image: empty\n"),
@@ -44,7 +44,7 @@ fn they_are_refused(rt: HostRuntime) -> Result<(), Fail> {
         (longer.as_slice(), based, "tomex: image: segment\n"),
         (dynamic.as_slice(), based, "tomex: image: dynamic\n"),
     ] {
-        fails(&rt, Some(image), options, told, 1)?;
+        fails(&rt, Some(image), options, said, 1)?;
     }
     Ok(())
 }

@@ -132,13 +132,13 @@ static REFUSED: [(&str, u8, &str); 3] = [
 
 #[test]
 fn studies_that_no_report_is_made_of(rt: HostRuntime) -> Result<(), Fail> {
-    for (study, status, told) in &REFUSED {
+    for (study, status, said) in &REFUSED {
         for line in &LINES {
-            explores_to(&rt, line, study, 10_000, (*status, "", *told))?;
+            explores_to(&rt, line, study, 10_000, (*status, "", *said))?;
         }
     }
-    let told = "tomex: cannot read other\n";
-    explores_to(&rt, "tomex explore other", "", 100, (3, "", told))
+    let said = "tomex: cannot read other\n";
+    explores_to(&rt, "tomex explore other", "", 100, (3, "", said))
 }
 
 /// Keeps what it showed last, and how often it was cleared.
@@ -170,7 +170,7 @@ impl LastTold {
 }
 
 /// True if a line prints the report of the study of two rows, with a meter that ends like this.
-fn is_told<R: AllocGlobal + Threads + Wait + Sync>(rt: &R, line: &str) -> Result<bool, Fail> {
+fn is_said<R: AllocGlobal + Threads + Wait + Sync>(rt: &R, line: &str) -> Result<bool, Fail> {
     let files = [
         ("study", PRICED.as_bytes()),
         ("mul.bin", PRODUCT.as_slice()),
@@ -189,7 +189,7 @@ fn is_told<R: AllocGlobal + Threads + Wait + Sync>(rt: &R, line: &str) -> Result
 #[test]
 fn a_meter_is_told_how_far_it_is(rt: HostRuntime) -> Result<(), Fail> {
     for line in &LINES {
-        assert!(rt; is_told(&rt, line)?);
+        assert!(rt; is_said(&rt, line)?);
     }
     Ok(())
 }

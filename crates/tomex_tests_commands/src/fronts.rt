@@ -129,9 +129,9 @@ static NOT_SHOWN: [(&str, usize, u8, &str); 3] = [
 /// Studies are refused as `explore` refuses them, and a text is printed as far as the output takes it.
 #[test]
 fn fronts_that_are_not_shown(rt: HostRuntime) -> Result<(), Fail> {
-    for (study, room, status, told) in &NOT_SHOWN {
-        explores_to(&rt, "tomex front study", study, *room, (*status, "", *told))?;
-        explores_to(&rt, "tomex plot study", study, *room, (*status, "", *told))?;
+    for (study, room, status, said) in &NOT_SHOWN {
+        explores_to(&rt, "tomex front study", study, *room, (*status, "", *said))?;
+        explores_to(&rt, "tomex plot study", study, *room, (*status, "", *said))?;
     }
     Ok(())
 }

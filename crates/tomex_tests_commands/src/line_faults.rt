@@ -8,7 +8,7 @@ use tomex_tests_fixtures::in_memory::Narrow;
 
 /// True if a fault that is reported, to an output that takes a limited number of bytes, has this
 /// status and writes these texts.
-fn is_told(
+fn is_said(
     alloc: Global,
     fault: LineFault,
     room: usize,
@@ -34,15 +34,15 @@ const NO_MEMORY: &str = "tomex: out of memory\n";
 #[test]
 fn faults_of_a_line_are_told(rt: HostRuntime) -> Result<(), Fail> {
     let alloc = rt.alloc();
-    assert!(rt; is_told(alloc, help(alloc)?, 100, 0, "help", ""));
-    assert!(rt; is_told(alloc, help(alloc)?, 2, 3, "he", "tomex: cannot write\n"));
+    assert!(rt; is_said(alloc, help(alloc)?, 100, 0, "help", ""));
+    assert!(rt; is_said(alloc, help(alloc)?, 2, 3, "he", "tomex: cannot write\n"));
     let usage = LineFault::Usage(String::from_str(alloc, "usage")?);
-    assert!(rt; is_told(alloc, usage, 100, 2, "", "usage"));
-    assert!(rt; is_told(alloc, LineFault::Memory, 100, 3, "", NO_MEMORY));
-    let told = "error: the command line is not UTF-8\n";
-    assert!(rt; is_told(alloc, unread(false, not_text(alloc)), 100, 2, "", told));
-    assert!(rt; is_told(alloc, unread(false, Err(AllocError)), 100, 3, "", NO_MEMORY));
-    assert!(rt; is_told(alloc, unread(true, not_text(alloc)), 100, 3, "", NO_MEMORY));
+    assert!(rt; is_said(alloc, usage, 100, 2, "", "usage"));
+    assert!(rt; is_said(alloc, LineFault::Memory, 100, 3, "", NO_MEMORY));
+    let said = "error: the command line is not UTF-8\n";
+    assert!(rt; is_said(alloc, unread(false, not_text(alloc)), 100, 2, "", said));
+    assert!(rt; is_said(alloc, unread(false, Err(AllocError)), 100, 3, "", NO_MEMORY));
+    assert!(rt; is_said(alloc, unread(true, not_text(alloc)), 100, 3, "", NO_MEMORY));
     Ok(())
 }
 

@@ -56,10 +56,10 @@ fn command_in<R: AllocGlobal + Threads + Wait + Sync>(
     output: &str,
 ) -> Result<Try, AllocError> {
     let outcome = outcome_of(rt, heap, files, words, &NoMeter, 200_000)?;
-    let told = outcome.err.as_slice() == b"tomex: out of memory\n".as_slice();
+    let said = outcome.err.as_slice() == b"tomex: out of memory\n".as_slice();
     match outcome.status {
         0 => Ok(Try::right_if(outcome.out.as_slice() == output.as_bytes())),
-        3 if told && outcome.out.is_empty() => Ok(Try::Refused),
+        3 if said && outcome.out.is_empty() => Ok(Try::Refused),
         _ => Ok(Try::Wrong),
     }
 }

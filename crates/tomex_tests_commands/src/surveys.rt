@@ -187,9 +187,9 @@ static NOT_PRINTED: [(&str, usize, u8, &str); 3] = [
 
 #[test]
 fn rows_that_are_not_printed(rt: HostRuntime) -> Result<(), Fail> {
-    for (study, room, status, told) in &NOT_PRINTED {
+    for (study, room, status, said) in &NOT_PRINTED {
         for line in &LINES {
-            explores_to(&rt, line, study, *room, (*status, "", *told))?;
+            explores_to(&rt, line, study, *room, (*status, "", *said))?;
         }
     }
     Ok(())

@@ -23,7 +23,7 @@ fn refusal<R: AllocGlobal>(rt: &R, study: &str) -> Result<String, Fail> {
 }
 
 /// Fails unless the study is refused with this text, or read if the text is empty.
-fn is_told<R: Abort + AllocGlobal>(rt: &R, study: &str, wanted: &str) -> Result<(), Fail> {
+fn is_said<R: Abort + AllocGlobal>(rt: &R, study: &str, wanted: &str) -> Result<(), Fail> {
     let text = refusal(rt, study)?;
     assert!(rt; text.as_str() == wanted, "{text}: {study}");
     Ok(())
@@ -61,7 +61,7 @@ fn names_of_files(rt: HostRuntime) -> Result<(), Fail> {
 #[test]
 fn lawful_studies(rt: HostRuntime) -> Result<(), Fail> {
     for study in &LAWFUL {
-        is_told(&rt, study, "")?;
+        is_said(&rt, study, "")?;
     }
     Ok(())
 }
@@ -69,7 +69,7 @@ fn lawful_studies(rt: HostRuntime) -> Result<(), Fail> {
 #[test]
 fn refused_at_top(rt: HostRuntime) -> Result<(), Fail> {
     for (study, wanted) in &AT_TOP {
-        is_told(&rt, study, *wanted)?;
+        is_said(&rt, study, *wanted)?;
     }
     let refused = file_names(rt.alloc(), rt.alloc(), &[0xff]);
     assert!(rt; matches!(&refused, Err(StudyError::Syntax)));
@@ -79,7 +79,7 @@ fn refused_at_top(rt: HostRuntime) -> Result<(), Fail> {
 #[test]
 fn refused_in_programs(rt: HostRuntime) -> Result<(), Fail> {
     for (study, wanted) in &IN_PROGRAMS {
-        is_told(&rt, study, *wanted)?;
+        is_said(&rt, study, *wanted)?;
     }
     Ok(())
 }
@@ -87,7 +87,7 @@ fn refused_in_programs(rt: HostRuntime) -> Result<(), Fail> {
 #[test]
 fn refused_widths_and_weights(rt: HostRuntime) -> Result<(), Fail> {
     for (study, wanted) in &WIDE {
-        is_told(&rt, study, *wanted)?;
+        is_said(&rt, study, *wanted)?;
     }
     Ok(())
 }
@@ -95,7 +95,7 @@ fn refused_widths_and_weights(rt: HostRuntime) -> Result<(), Fail> {
 #[test]
 fn refused_by_order(rt: HostRuntime) -> Result<(), Fail> {
     for (study, wanted) in &ORDERED {
-        is_told(&rt, study, *wanted)?;
+        is_said(&rt, study, *wanted)?;
     }
     Ok(())
 }
@@ -105,7 +105,7 @@ fn refused_watch(rt: HostRuntime) -> Result<(), Fail> {
     for (watch, fault) in &WATCHED {
         let study = format!(in rt.alloc(); "{PROGRAM}watch = {watch}\n")?;
         let wanted = format!(in rt.alloc(); "study: program 1: watch {fault}")?;
-        is_told(&rt, study.as_str(), wanted.as_str())?;
+        is_said(&rt, study.as_str(), wanted.as_str())?;
     }
     Ok(())
 }
@@ -165,7 +165,7 @@ fn value_is_refused<R: Abort + AllocGlobal>(
 ) -> Result<(), Fail> {
     let study = format!(in rt.alloc(); "[{table}]\n{key} = {value}\n{PROGRAM}")?;
     let wanted = format!(in rt.alloc(); "study: {table}: {key} {fault}")?;
-    is_told(rt, study.as_str(), wanted.as_str())
+    is_said(rt, study.as_str(), wanted.as_str())
 }
 
 #[test]
@@ -203,7 +203,7 @@ fn option_is_refused<R: Abort + AllocGlobal>(
 ) -> Result<(), Fail> {
     let study = format!(in rt.alloc(); "[unit]\n{kind} = [{{}}, {{{option}}}]\n{PROGRAM}")?;
     let wanted = format!(in rt.alloc(); "study: unit {kind} 2: {fault}")?;
-    is_told(rt, study.as_str(), wanted.as_str())
+    is_said(rt, study.as_str(), wanted.as_str())
 }
 
 /// Kinds of unit, each with more units than it may have.
@@ -242,8 +242,8 @@ fn texts_of_the_programs_refusals(rt: HostRuntime) -> Result<(), Fail> {
     assert!(rt; reads(&rt, StudyError::Files, "study: wrong number of files")?);
     let image = StudyError::Image(name()?, ImageError::NotRiscv);
     assert!(rt; reads(&rt, image, "program loop: image: not RISC-V")?);
-    let told = "program loop: fault: misaligned target at 0000000c";
-    assert!(rt; reads(&rt, StudyError::Fault(name()?, fault), told)?);
+    let said = "program loop: fault: misaligned target at 0000000c";
+    assert!(rt; reads(&rt, StudyError::Fault(name()?, fault), said)?);
     assert!(rt; reads(&rt, StudyError::TooLong(name()?), "program loop: too long")?);
     assert!(rt; reads(&rt, StudyError::Memory, "out of memory")?);
     Ok(())

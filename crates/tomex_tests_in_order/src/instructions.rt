@@ -27,7 +27,7 @@ static WORDS: [(u32, &str); 18] = [
 ];
 
 /// The text of a word's instruction, and the word that it encodes to.
-fn told(alloc: Global, word: u32) -> Result<(String, u32), Fail> {
+fn text_and_word(alloc: Global, word: u32) -> Result<(String, u32), Fail> {
     let instr = decode(word).ok_or("no instruction")?;
     Ok((format!(in alloc; "{instr}")?, encode(&instr)))
 }
@@ -35,7 +35,7 @@ fn told(alloc: Global, word: u32) -> Result<(String, u32), Fail> {
 #[test]
 fn words_and_their_texts(rt: HostRuntime) -> Result<(), Fail> {
     for (word, text) in &WORDS {
-        let (shown, back) = told(rt.alloc(), *word)?;
+        let (shown, back) = text_and_word(rt.alloc(), *word)?;
         assert!(rt; shown.as_str() == *text);
         assert!(rt; back == *word);
     }

@@ -17,7 +17,7 @@ fn words(alloc: Global, line: &str) -> Result<Vec<String>, AllocError> {
 }
 
 /// The kind of a command, the file that it reads, and its numbers and flags.
-fn told_line(alloc: Global, line: &Line) -> Result<String, AllocError> {
+fn line_text(alloc: Global, line: &Line) -> Result<String, AllocError> {
     match line {
         Line::Run(run) => {
             format!(in alloc; "run {} {} {} {}", run.image, run.base, run.size, run.limit)
@@ -105,7 +105,7 @@ fn told_of_a_program(alloc: Global, line: &Line) -> Result<String, AllocError> {
 }
 
 /// The kind of a fault, and its text.
-fn told_fault(alloc: Global, fault: &LineFault) -> Result<String, AllocError> {
+fn fault_text(alloc: Global, fault: &LineFault) -> Result<String, AllocError> {
     match fault {
         LineFault::Help(text) => format!(in alloc; "help {text}"),
         LineFault::Usage(text) => format!(in alloc; "usage {text}"),
@@ -115,12 +115,12 @@ fn told_fault(alloc: Global, fault: &LineFault) -> Result<String, AllocError> {
 
 /// The result of the words after the program's name: the name and the numbers of a run, or the kind
 /// of the fault and its text.
-fn told(alloc: Global, line: &str) -> Result<String, AllocError> {
+fn text_of(alloc: Global, line: &str) -> Result<String, AllocError> {
     let line = format!(in alloc; "tomex {line}")?;
     let words = words(alloc, line.as_str())?;
     match read_line(alloc, words.as_slice()) {
-        Ok(line) => told_line(alloc, &line),
-        Err(fault) => told_fault(alloc, &fault),
+        Ok(line) => line_text(alloc, &line),
+        Err(fault) => fault_text(alloc, &fault),
     }
 }
 
@@ -238,7 +238,7 @@ static READ: [(&str, &str); 66] = [
 
 /// Stops if the result of a line doesn't begin with `start`.
 fn begins(rt: &impl Abort, alloc: Global, line: &str, start: &str) -> Result<(), Fail> {
-    let text = told(alloc, line)?;
+    let text = text_of(alloc, line)?;
     assert!(rt; text.starts_with(start), "{line}: {text}");
     Ok(())
 }
@@ -262,7 +262,7 @@ static HELP_ENDS: [(&str, &str); 4] = [
 #[test]
 fn help_is_whole(rt: HostRuntime) -> Result<(), Fail> {
     for (line, end) in &HELP_ENDS {
-        let text = told(rt.alloc(), line)?;
+        let text = text_of(rt.alloc(), line)?;
         assert!(rt;
             text.starts_with("help ") && text.ends_with(end),
             "{line}: {text}"

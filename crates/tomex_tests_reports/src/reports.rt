@@ -82,8 +82,8 @@ fn worked_reports(rt: HostRuntime) -> Result<(), Fail> {
     for (study, programs, records) in &REPORTS {
         let files = files_of(rt.alloc(), programs)?;
         let wanted = format!(in rt.alloc(); "{HEADER}{records}")?;
-        let told = is_reported(&rt, study, files.as_slice(), wanted.as_str());
-        assert!(rt; matches!(told, Ok(true)));
+        let said = is_reported(&rt, study, files.as_slice(), wanted.as_str());
+        assert!(rt; matches!(said, Ok(true)));
     }
     Ok(())
 }

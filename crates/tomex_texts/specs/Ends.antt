@@ -4,7 +4,7 @@ use Rattle.std.specs.List.{flat_map}
 use Rattle.tomex_image.specs.Image.{Loaded}
 use Rattle.tomex_rvexec.specs.Machine.{State, Ends, step_of}
 use Rattle.tomex_rvexec.specs.History.{state_after}
-use Rattle.tomex_rvexec.specs.Run.{start_of}
+use Rattle.tomex_rvexec.specs.Run.{most_steps, start_of}
 use Rattle.tomex_rvexec.specs.Trace.{steps_from}
 use Rattle.tomex_config.specs.Configuration.{Configuration}
 use Rattle.tomex_cycle.specs.Run.{total}
@@ -15,11 +15,11 @@ use Rattle.tomex_texts.specs.declared.ends.ProgramEnd.{ProgramEnd}
 -- the state in which a program ends: the step that ends it leaves it unchanged, so it is the state after the most
 -- steps that a program may make
 unfoldable pub last_state : Loaded → State
-last_state i = state_after i 262144
+last_state i = state_after i most_steps
 
 -- the number of its steps, including the one that ends it
 unfoldable pub count_of : Loaded → ℕ
-count_of i = length (steps_from 262144 (start_of i))
+count_of i = length (steps_from most_steps (start_of i))
 
 -- the bytes of a range in a memory that begins at base
 abbrev pub bytes_at : ℕ → List ℕ → WatchRange → List ℕ

@@ -6,6 +6,7 @@ ghost use Rattle.clap.specs.Simple.{shape_of};
 ghost use Rattle.clap.specs.Words.{found_of};
 ghost use Rattle.clap.specs.Walk.{rows_of};
 ghost use Rattle.tomex_command_line.specs.Values.{IsAnimateAsked, IsNoAnimate};
+ghost use Rattle.tomex_command_line.specs.Limits.{last_cycle};
 
 use super::described::{Texts, taking};
 use super::studied::{OneRun, on_one_run, one_run_of};
@@ -35,7 +36,7 @@ pub struct AnimateLine<'a> {
     /// The most cycles that are shown.
     pub cycles: u32,
     pub ghost from_least: { 1 ≤ from },
-    pub ghost from_to: { from ≤ 17563648 },
+    pub ghost from_to: { from ≤ last_cycle },
     pub ghost cycles_least: { 1 ≤ cycles },
     pub ghost cycles_to: { cycles ≤ 256 },
 }

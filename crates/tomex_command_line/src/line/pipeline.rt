@@ -6,6 +6,7 @@ ghost use Rattle.clap.specs.Simple.{shape_of};
 ghost use Rattle.clap.specs.Words.{found_of};
 ghost use Rattle.clap.specs.Walk.{rows_of};
 ghost use Rattle.tomex_command_line.specs.Values.{IsPipelineAsked, IsNoPipeline};
+ghost use Rattle.tomex_command_line.specs.Limits.{most_steps};
 
 use super::described::{Texts, taking};
 use super::studied::{OneRun, on_one_run, one_run_of};
@@ -31,8 +32,8 @@ pub struct PipelineLine<'a> {
     /// True if a log for the viewer Konata is asked for, and no picture.
     pub konata: bool,
     pub ghost from_least: { 1 ≤ from },
-    pub ghost from_to: { from ≤ 262144 },
-    pub ghost steps_to: { steps ≤ 262144 },
+    pub ghost from_to: { from ≤ most_steps },
+    pub ghost steps_to: { steps ≤ most_steps },
 }
 
 const ABOUT: &str = "Draws what instructions do, cycle by cycle, on one configuration";

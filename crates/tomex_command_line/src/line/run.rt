@@ -6,6 +6,7 @@ ghost use Rattle.clap.specs.Simple.{shape_of};
 ghost use Rattle.clap.specs.Words.{found_of};
 ghost use Rattle.clap.specs.Walk.{rows_of};
 ghost use Rattle.tomex_command_line.specs.Values.{IsRunAsked, IsNoRun};
+ghost use Rattle.tomex_command_line.specs.Limits.{most_steps};
 
 use super::described::{Texts, described, taking};
 use super::values::{number, word};
@@ -43,7 +44,7 @@ pub struct RunLine<'a> {
     pub ghost size_from: { 4 ≤ size },
     pub ghost size_to: { size ≤ 1048576 },
     pub ghost limit_from: { 1 ≤ limit },
-    pub ghost limit_to: { limit ≤ 262144 },
+    pub ghost limit_to: { limit ≤ most_steps },
 }
 
 const ABOUT: &str = "Runs an image in order and prints the registers at its end";

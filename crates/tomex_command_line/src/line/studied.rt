@@ -6,6 +6,7 @@ ghost use Rattle.clap.specs.Walk.{rows_of};
 ghost use Rattle.tomex_arguments.specs.Faults.{IsRefusedIf};
 ghost use Rattle.tomex_command_line.specs.Grammar.{study_app, one_run_app};
 ghost use Rattle.tomex_command_line.specs.Values.{IsOneRunAsked, IsNoOneRun};
+ghost use Rattle.tomex_command_line.specs.Limits.{last_row};
 
 use super::described::{Texts, described, taking};
 use super::values::{numeral, word};
@@ -28,7 +29,7 @@ pub struct OneRun<'a> {
     pub config: u32,
     /// The name by which the study calls the program.
     pub program: &'a str,
-    pub ghost config_to: { config ≤ 16383 },
+    pub ghost config_to: { config ≤ last_row },
 }
 
 const STUDY_HELP: &str = "The file of the study";

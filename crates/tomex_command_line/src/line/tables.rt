@@ -6,6 +6,7 @@ ghost use Rattle.clap.specs.Simple.{shape_of};
 ghost use Rattle.clap.specs.Words.{found_of};
 ghost use Rattle.clap.specs.Walk.{rows_of};
 ghost use Rattle.tomex_command_line.specs.Values.{IsTablesAsked, IsNoTables};
+ghost use Rattle.tomex_command_line.specs.Limits.{last_cycle};
 
 use super::described::{Texts, taking};
 use super::studied::{OneRun, on_one_run, one_run_of};
@@ -26,7 +27,7 @@ pub struct TablesLine<'a> {
     pub run: OneRun<'a>,
     /// The cycle after which the tables are shown.
     pub cycle: u32,
-    pub ghost cycle_to: { cycle ≤ 17563648 },
+    pub ghost cycle_to: { cycle ≤ last_cycle },
 }
 
 const ABOUT: &str = "Prints the stations and registers after a cycle of a program";

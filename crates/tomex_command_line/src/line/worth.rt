@@ -6,6 +6,7 @@ ghost use Rattle.clap.specs.Simple.{shape_of};
 ghost use Rattle.clap.specs.Words.{found_of};
 ghost use Rattle.clap.specs.Walk.{rows_of};
 ghost use Rattle.tomex_command_line.specs.Values.{IsWorthAsked, IsNoWorth};
+ghost use Rattle.tomex_command_line.specs.Limits.{last_row};
 
 use super::described::{Texts, taking};
 use super::explore::{ExploreLine, line_of as explore_of, on_rows};
@@ -21,7 +22,7 @@ pub struct WorthLine<'a> {
     pub explore: ExploreLine<'a>,
     /// The number of the configuration.
     pub config: u32,
-    pub ghost config_to: { config ≤ 16383 },
+    pub ghost config_to: { config ≤ last_row },
 }
 
 const ABOUT: &str = "Prints what one more or one less of a part brings on a configuration";

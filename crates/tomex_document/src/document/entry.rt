@@ -2,6 +2,7 @@
 
 ghost use Rattle.std.specs.Prelude.{◌≡◌, ◌≢◌, ◌≤◌, [], string_bytes, true};
 ghost use Rattle.tomex_document.specs.Program.{IsProgramEntry, entry_of, is_name};
+ghost use Rattle.tomex_rvexec.specs.Run.{most_steps};
 ghost use Rattle.tomex_study.specs.Watch.{IsWatch};
 
 use std::alloc::{Allocator, Global};
@@ -50,7 +51,7 @@ impl<A: Allocator> Entry<A> {
         requires name { is_name (string_bytes name) ≡ true }
         requires file { string_bytes file ≢ [] }
         requires some_steps { 1 ≤ limit }
-        requires few_steps { limit ≤ 262144 }
+        requires few_steps { limit ≤ most_steps }
         requires watch { IsWatch window watch.items }
         requires least_weight { 1 ≤ weight }
         requires most_weight { weight ≤ 1000 }

@@ -41,7 +41,7 @@ fn is_faulty(rt: &HostRuntime, image: &Image, wanted: Fault) -> bool {
 }
 
 /// Fails unless the in-order run of a program and its machine have this fault.
-fn is_told(rt: &HostRuntime, config: &Config, words: &[u32], wanted: Fault) -> Result<(), Fail> {
+fn is_said(rt: &HostRuntime, config: &Config, words: &[u32], wanted: Fault) -> Result<(), Fail> {
     let image = image_at_0(rt, words)?;
     holds(is_faulty(rt, &image, wanted), "another fault of the run")?;
     comes_to(&mut machine_of(rt, &image, config)?, wanted)
@@ -54,7 +54,7 @@ fn are_told(rt: &HostRuntime, config: &Config) -> Result<(), Fail> {
             kind: *kind,
             pc: *pc,
         };
-        is_told(rt, config, words, wanted)?;
+        is_said(rt, config, words, wanted)?;
     }
     Ok(())
 }

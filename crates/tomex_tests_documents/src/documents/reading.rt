@@ -121,8 +121,8 @@ static FAILING: [(&[u8], &[u8], &str); 7] = [
 #[test]
 fn the_first_program_that_fails_is_named(rt: HostRuntime) -> Result<(), Fail> {
     for (first, second, wanted) in &FAILING {
-        let told = refusal(&rt, LIMITED, &[*first, *second])?;
-        assert!(rt; told.as_str() == *wanted);
+        let said = refusal(&rt, LIMITED, &[*first, *second])?;
+        assert!(rt; said.as_str() == *wanted);
     }
     Ok(())
 }
@@ -166,12 +166,12 @@ const ONE_IMAGE: &str = "[[program]]\nname = \"a\"\nfile = \"a\"\nbase = 65536\n
 fn each_refusal_of_an_image_is_named(rt: HostRuntime) -> Result<(), Fail> {
     for (place, byte, more, apart, wanted) in &IMAGES {
         let file = elf_with(rt.alloc(), *place, *byte, *more, *apart)?;
-        let told = refusal(&rt, ONE_IMAGE, &[file.as_slice()])?;
-        assert!(rt; told.as_str() == *wanted, "{told}");
+        let said = refusal(&rt, ONE_IMAGE, &[file.as_slice()])?;
+        assert!(rt; said.as_str() == *wanted, "{said}");
     }
     let long = vec![in rt.alloc(); 0u8; 4100]?;
-    let told = refusal(&rt, ONE_IMAGE, &[long.as_slice()])?;
-    assert!(rt; told.as_str() == "program a: image: too large");
+    let said = refusal(&rt, ONE_IMAGE, &[long.as_slice()])?;
+    assert!(rt; said.as_str() == "program a: image: too large");
     Ok(())
 }
 
@@ -181,9 +181,9 @@ fn are_alike<R: AllocGlobal>(
     refused: &StudyError,
     named: &StudyError,
 ) -> Result<bool, Fail> {
-    let told = format!(in rt.alloc(); "{refused}")?;
-    let same = told == format!(in rt.alloc(); "{named}")?;
-    Ok(same && told.starts_with("study: "))
+    let said = format!(in rt.alloc(); "{refused}")?;
+    let same = said == format!(in rt.alloc(); "{named}")?;
+    Ok(same && said.starts_with("study: "))
 }
 
 /// True if a damaged study of one program is read with a file that runs, or refused with the same

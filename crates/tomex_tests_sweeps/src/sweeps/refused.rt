@@ -24,7 +24,7 @@ impl Stacks for Absurd {
 }
 
 /// True if this number of workers report that this one's thread is refused.
-fn is_told<R: AllocGlobal + Threads + Wait + Sync>(
+fn is_said<R: AllocGlobal + Threads + Wait + Sync>(
     rt: &R,
     study: &Study,
     worker: usize,
@@ -46,7 +46,7 @@ fn is_told<R: AllocGlobal + Threads + Wait + Sync>(
 fn a_refused_thread_is_told(rt: HostRuntime) -> Result<(), Fail> {
     let study = study_of(rt.alloc(), [(1, 5), (10, 9), (1, 9)].as_slice())?;
     for (worker, workers) in [(0, 1), (0, 3), (1, 2), (2, 3)] {
-        assert!(rt; is_told(&rt, &study, worker, workers));
+        assert!(rt; is_said(&rt, &study, worker, workers));
     }
     Ok(())
 }

@@ -42,7 +42,8 @@ returns-in_ok-one_run_of-in-Some-times-default-clause-command c = (
 pub returns-in_err-one_run_of-in-Some-times-default-clause-refused :
     goal.returns-in_err-one_run_of-in-Some-times-default-clause-refused
 returns-in_err-one_run_of-in-Some-times-default-clause-refused c =
-    passed_on _ _ _ c.from_residual-in_err-one_run_of-in-Some-times-default.result c.from_residual-in_err-one_run_of-in-Some-times-default.ensures.1
+    passed_on _ _ _ c.from_residual-in_err-one_run_of-in-Some-times-default.result
+    c.from_residual-in_err-one_run_of-in-Some-times-default.ensures.1
     c.in_err-one_run_of-in-Some-times-default.ensures.refused (no_times _
     (found_as c.args.matches.now _ (codes "times") _ c.in-Some-times-default.ensures.name
     c.in-Some-times-default.ensures.rows c.in-Some-times-default.is-times))
@@ -59,7 +60,8 @@ returns-in_ok-line_of-in-Some-stalls-default-clause-command c = (
 pub returns-in_err-line_of-in-Some-stalls-default-clause-refused :
     goal.returns-in_err-line_of-in-Some-stalls-default-clause-refused
 returns-in_err-line_of-in-Some-stalls-default-clause-refused c =
-    passed_on _ _ _ c.from_residual-in_err-line_of-in-Some-stalls-default.result c.from_residual-in_err-line_of-in-Some-stalls-default.ensures.1
+    passed_on _ _ _ c.from_residual-in_err-line_of-in-Some-stalls-default.result
+    c.from_residual-in_err-line_of-in-Some-stalls-default.ensures.1
     c.in_err-line_of-in-Some-stalls-default.ensures.refused (no_stalls _
     (found_as c.args.matches.now _ (codes "stalls") _ c.in-Some-stalls-default.ensures.name
     c.in-Some-stalls-default.ensures.rows c.in-Some-stalls-default.is-stalls))
@@ -76,7 +78,8 @@ returns-in_ok-line_of-in-Some-pipeline-default-clause-command c = (
 pub returns-in_err-line_of-in-Some-pipeline-default-clause-refused :
     goal.returns-in_err-line_of-in-Some-pipeline-default-clause-refused
 returns-in_err-line_of-in-Some-pipeline-default-clause-refused c =
-    passed_on _ _ _ c.from_residual-in_err-line_of-in-Some-pipeline-default.result c.from_residual-in_err-line_of-in-Some-pipeline-default.ensures.1
+    passed_on _ _ _ c.from_residual-in_err-line_of-in-Some-pipeline-default.result
+    c.from_residual-in_err-line_of-in-Some-pipeline-default.ensures.1
     c.in_err-line_of-in-Some-pipeline-default.ensures.refused (no_pipeline _
     (found_as c.args.matches.now _ (codes "pipeline") _ c.in-Some-pipeline-default.ensures.name
     c.in-Some-pipeline-default.ensures.rows c.in-Some-pipeline-default.is-pipeline))
@@ -93,7 +96,8 @@ returns-in_ok-line_of-in-Some-tables-default-clause-command c = (
 pub returns-in_err-line_of-in-Some-tables-default-clause-refused :
     goal.returns-in_err-line_of-in-Some-tables-default-clause-refused
 returns-in_err-line_of-in-Some-tables-default-clause-refused c =
-    passed_on _ _ _ c.from_residual-in_err-line_of-in-Some-tables-default.result c.from_residual-in_err-line_of-in-Some-tables-default.ensures.1
+    passed_on _ _ _ c.from_residual-in_err-line_of-in-Some-tables-default.result
+    c.from_residual-in_err-line_of-in-Some-tables-default.ensures.1
     c.in_err-line_of-in-Some-tables-default.ensures.refused (no_tables _
     (found_as c.args.matches.now _ (codes "tables") _ c.in-Some-tables-default.ensures.name
     c.in-Some-tables-default.ensures.rows c.in-Some-tables-default.is-tables))
@@ -110,7 +114,8 @@ returns-in_ok-line_of-in-Some-animate-default-clause-command c = (
 pub returns-in_err-line_of-in-Some-animate-default-clause-refused :
     goal.returns-in_err-line_of-in-Some-animate-default-clause-refused
 returns-in_err-line_of-in-Some-animate-default-clause-refused c =
-    passed_on _ _ _ c.from_residual-in_err-line_of-in-Some-animate-default.result c.from_residual-in_err-line_of-in-Some-animate-default.ensures.1
+    passed_on _ _ _ c.from_residual-in_err-line_of-in-Some-animate-default.result
+    c.from_residual-in_err-line_of-in-Some-animate-default.ensures.1
     c.in_err-line_of-in-Some-animate-default.ensures.refused (no_animate _
     (found_as c.args.matches.now _ (codes "animate") _ c.in-Some-animate-default.ensures.name
     c.in-Some-animate-default.ensures.rows c.in-Some-animate-default.is-animate))
@@ -127,7 +132,8 @@ returns-in_ok-line_of-in-Some-all-default-clause-command c = (
 pub returns-in_err-line_of-in-Some-all-default-clause-refused :
     goal.returns-in_err-line_of-in-Some-all-default-clause-refused
 returns-in_err-line_of-in-Some-all-default-clause-refused c =
-    passed_on _ _ _ c.from_residual-in_err-line_of-in-Some-all-default.result c.from_residual-in_err-line_of-in-Some-all-default.ensures.1
+    passed_on _ _ _ c.from_residual-in_err-line_of-in-Some-all-default.result
+    c.from_residual-in_err-line_of-in-Some-all-default.ensures.1
     c.in_err-line_of-in-Some-all-default.ensures.refused (no_all _
     (found_as c.args.matches.now _ (codes "all") _ c.in-Some-all-default.ensures.name
     c.in-Some-all-default.ensures.rows c.in-Some-all-default.is-all))
@@ -144,7 +150,8 @@ returns-in_ok-line_of-in-Some-explore-default-clause-command c = (
 pub returns-in_err-line_of-in-Some-explore-default-clause-refused :
     goal.returns-in_err-line_of-in-Some-explore-default-clause-refused
 returns-in_err-line_of-in-Some-explore-default-clause-refused c =
-    passed_on _ _ _ c.from_residual-in_err-line_of-in-Some-explore-default.result c.from_residual-in_err-line_of-in-Some-explore-default.ensures.1
+    passed_on _ _ _ c.from_residual-in_err-line_of-in-Some-explore-default.result
+    c.from_residual-in_err-line_of-in-Some-explore-default.ensures.1
     c.in_err-line_of-in-Some-explore-default.ensures.refused (no_explore _
     (found_as c.args.matches.now _ (codes "explore") _ c.in-Some-explore-default.ensures.name
     c.in-Some-explore-default.ensures.rows c.in-Some-explore-default.is-explore))
@@ -161,7 +168,8 @@ returns-in_ok-line_of-in-Some-front-default-clause-command c = (
 pub returns-in_err-line_of-in-Some-front-default-clause-refused :
     goal.returns-in_err-line_of-in-Some-front-default-clause-refused
 returns-in_err-line_of-in-Some-front-default-clause-refused c =
-    passed_on _ _ _ c.from_residual-in_err-line_of-in-Some-front-default.result c.from_residual-in_err-line_of-in-Some-front-default.ensures.1
+    passed_on _ _ _ c.from_residual-in_err-line_of-in-Some-front-default.result
+    c.from_residual-in_err-line_of-in-Some-front-default.ensures.1
     c.in_err-line_of-in-Some-front-default.ensures.refused (no_front _
     (found_as c.args.matches.now _ (codes "front") _ c.in-Some-front-default.ensures.name
     c.in-Some-front-default.ensures.rows c.in-Some-front-default.is-front))
@@ -178,7 +186,8 @@ returns-in_ok-line_of-in-Some-plot-default-clause-command c = (
 pub returns-in_err-line_of-in-Some-plot-default-clause-refused :
     goal.returns-in_err-line_of-in-Some-plot-default-clause-refused
 returns-in_err-line_of-in-Some-plot-default-clause-refused c =
-    passed_on _ _ _ c.from_residual-in_err-line_of-in-Some-plot-default.result c.from_residual-in_err-line_of-in-Some-plot-default.ensures.1
+    passed_on _ _ _ c.from_residual-in_err-line_of-in-Some-plot-default.result
+    c.from_residual-in_err-line_of-in-Some-plot-default.ensures.1
     c.in_err-line_of-in-Some-plot-default.ensures.refused (no_plot _
     (found_as c.args.matches.now _ (codes "plot") _ c.in-Some-plot-default.ensures.name
     c.in-Some-plot-default.ensures.rows c.in-Some-plot-default.is-plot))
@@ -195,7 +204,8 @@ returns-in_ok-line_of-in-Some-rows-default-clause-command c = (
 pub returns-in_err-line_of-in-Some-rows-default-clause-refused :
     goal.returns-in_err-line_of-in-Some-rows-default-clause-refused
 returns-in_err-line_of-in-Some-rows-default-clause-refused c =
-    passed_on _ _ _ c.from_residual-in_err-line_of-in-Some-rows-default.result c.from_residual-in_err-line_of-in-Some-rows-default.ensures.1
+    passed_on _ _ _ c.from_residual-in_err-line_of-in-Some-rows-default.result
+    c.from_residual-in_err-line_of-in-Some-rows-default.ensures.1
     c.in_err-line_of-in-Some-rows-default.ensures.refused (no_rows _
     (found_as c.args.matches.now _ (codes "rows") _ c.in-Some-rows-default.ensures.name
     c.in-Some-rows-default.ensures.rows c.in-Some-rows-default.is-rows))
@@ -212,7 +222,8 @@ returns-in_ok-line_of-in-Some-worth-default-clause-command c = (
 pub returns-in_err-line_of-in-Some-worth-default-clause-refused :
     goal.returns-in_err-line_of-in-Some-worth-default-clause-refused
 returns-in_err-line_of-in-Some-worth-default-clause-refused c =
-    passed_on _ _ _ c.from_residual-in_err-line_of-in-Some-worth-default.result c.from_residual-in_err-line_of-in-Some-worth-default.ensures.1
+    passed_on _ _ _ c.from_residual-in_err-line_of-in-Some-worth-default.result
+    c.from_residual-in_err-line_of-in-Some-worth-default.ensures.1
     c.in_err-line_of-in-Some-worth-default.ensures.refused (no_worth _
     (found_as c.args.matches.now _ (codes "worth") _ c.in-Some-worth-default.ensures.name
     c.in-Some-worth-default.ensures.rows c.in-Some-worth-default.is-worth))
@@ -229,7 +240,8 @@ returns-in_ok-line_of-in-Some-prices-default-clause-command c = (
 pub returns-in_err-line_of-in-Some-prices-default-clause-refused :
     goal.returns-in_err-line_of-in-Some-prices-default-clause-refused
 returns-in_err-line_of-in-Some-prices-default-clause-refused c =
-    passed_on _ _ _ c.from_residual-in_err-line_of-in-Some-prices-default.result c.from_residual-in_err-line_of-in-Some-prices-default.ensures.1
+    passed_on _ _ _ c.from_residual-in_err-line_of-in-Some-prices-default.result
+    c.from_residual-in_err-line_of-in-Some-prices-default.ensures.1
     c.in_err-line_of-in-Some-prices-default.ensures.refused (no_prices _
     (found_as c.args.matches.now _ (codes "prices") _ c.in-Some-prices-default.ensures.name
     c.in-Some-prices-default.ensures.rows c.in-Some-prices-default.is-prices))
@@ -246,7 +258,8 @@ returns-in_ok-line_of-in-Some-page-default-clause-command c = (
 pub returns-in_err-line_of-in-Some-page-default-clause-refused :
     goal.returns-in_err-line_of-in-Some-page-default-clause-refused
 returns-in_err-line_of-in-Some-page-default-clause-refused c =
-    passed_on _ _ _ c.from_residual-in_err-line_of-in-Some-page-default.result c.from_residual-in_err-line_of-in-Some-page-default.ensures.1
+    passed_on _ _ _ c.from_residual-in_err-line_of-in-Some-page-default.result
+    c.from_residual-in_err-line_of-in-Some-page-default.ensures.1
     c.in_err-line_of-in-Some-page-default.ensures.refused (no_page _
     (found_as c.args.matches.now _ (codes "page") _ c.in-Some-page-default.ensures.name
     c.in-Some-page-default.ensures.rows c.in-Some-page-default.is-page))
@@ -270,8 +283,37 @@ returns-in_default-clause-refused c = elim c.in_default.branch [
       (found_is c.args.matches.now name rows
       (sym (ap (option_map (λ p. p.0.now)) w.in_default.is) ∙ c.subcommand.ensures.name)
       (sym (ap (option_map (λ p. rows_of (found_of p.1.now))) w.in_default.is) ∙ c.subcommand.ensures.rows))
-      (All-from_recursion (λ (command : Shape). name ≢ command.name) tomex_app.subs
-      (search rules, (search rules, (search rules, (search rules, (search rules, (search rules, (search rules, (search rules, (search rules, (search rules, (search rules, (search rules, (search rules, (search rules, (search rules, tt)))))))))))))))))
+      (All-from_recursion (λ (command : Shape). name ≢ command.name) tomex_app.subs (
+        search rules,
+        (
+          search rules,
+          (
+            search rules,
+            (
+              search rules,
+              (
+                search rules,
+                (
+                  search rules,
+                  (
+                    search rules,
+                    (
+                      search rules,
+                      (
+                        search rules,
+                        (
+                          search rules,
+                          (search rules, (search rules, (search rules, (search rules, (search rules, tt))))),
+                        ),
+                      ),
+                    ),
+                  ),
+                ),
+              ),
+            ),
+          ),
+        ),
+      )))
   | in_default-via-in_default w ↦
       let none = none_found (subcommand_rows_of c.args.matches.now)
       (sym (ap (option_map (λ p. rows_of (found_of p.1.now))) w.in_default.is) ∙ c.subcommand.ensures.rows) in

@@ -10,4 +10,5 @@ returns-clause-text g c =
     c.in_ok-text_of_listing.ensures
 
 pub returns-then-not-has_symbols-clause-refused : goal.returns-then-not-has_symbols-clause-refused
-returns-then-not-has_symbols-clause-refused g c = λ e. no_symbols c.args.file.now (sym c.has_symbols.ensures ∙ c.if-not-has_symbols.true)
+returns-then-not-has_symbols-clause-refused g c =
+    λ e. no_symbols c.args.file.now (sym c.has_symbols.ensures ∙ c.if-not-has_symbols.true)

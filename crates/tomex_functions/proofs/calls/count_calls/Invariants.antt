@@ -10,6 +10,7 @@ use Rattle.tomex_functions.proofs.calls.count_calls.Given as goal
 
 abbrev pub invariant-loop-index : goal.invariant-loop-index
 invariant-loop-index g l = (symbols : List Symbol) → l.functions ≡ map (function_of symbols) l.steps → record {
-  by_key : (k : ℕ) → unwrap_or (get nat_cmp l.calls.by_key k) 0 ≡ calls_of symbols k (calls_in symbols (take l.index l.steps));
+  by_key : (k : ℕ) → unwrap_or (get nat_cmp l.calls.by_key k) 0
+      ≡ calls_of symbols k (calls_in symbols (take l.index l.steps));
   all : l.calls.all ≡ length (calls_in symbols (take l.index l.steps));
 }

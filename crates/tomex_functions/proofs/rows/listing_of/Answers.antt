@@ -11,7 +11,8 @@ use Rattle.tomex_functions.proofs.rows.listing_of.Goals as goal
 pub count_run-requires-clause-keys : goal.count_run-requires-clause-keys
 count_run-requires-clause-keys g c = (
   function_key c.args.symbols.items,
-  keys_are c.args.symbols.items c.args.steps.now _ _ _ (c.in_ok-functions.ensures c.args.symbols.items c.in_ok-index.ensures)
+  keys_are c.args.symbols.items c.args.steps.now _ _ _
+      (c.in_ok-functions.ensures c.args.symbols.items c.in_ok-index.ensures)
       c.as_slice.ensures.value (c.as_slice-3.ensures.value ∙ c.in_ok-keys.ensures),
 )
 
@@ -28,7 +29,8 @@ returns g c =
     let has = addresses_are (function_key symbols) c.args.config.now steps c.in_ok-counted.counted.tally counted.tally
     ordered in
     record {
-      rows = rows_are symbols (calls_in symbols steps) (visits_in c.args.config.now steps) c.in_ok-counted.counted.tally _ _ counted.tally ordered
+      rows = rows_are symbols (calls_in symbols steps) (visits_in c.args.config.now steps)
+          c.in_ok-counted.counted.tally _ _ counted.tally ordered
           (c.in_ok-rows.ensures.rows symbols steps c.in_ok-index.ensures calls has) c.sort_rows.ensures.moved
           c.sort_rows.ensures.order;
       last = c.only_drain.ensures ∙ ap only_drain counted.drain;

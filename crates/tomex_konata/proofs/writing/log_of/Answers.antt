@@ -30,5 +30,6 @@ returns g c =
     (log_is c.args.number _ c.args.steps.now c.args.times.now _ c.first_issue-first.ensures
     (written_is c.args.number _ _ c.args.steps.now c.args.times.now _ _ _ _ c.in_ok-entries.ensures
     c.as_slice-2.ensures.value
-    (omega (arith, c.total.ensures)) c.as_slice-3.ensures.value (rw c.as_slice.ensures.value at c.in_ok-events.ensures)))
+    (omega (arith, c.total.ensures)) c.as_slice-3.ensures.value
+    (rw c.as_slice.ensures.value at c.in_ok-events.ensures)))
     c.text_of.ensures

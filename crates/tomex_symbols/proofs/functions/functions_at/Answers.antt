@@ -7,7 +7,8 @@ use Rattle.tomex_symbols.proofs.functions.functions_at.Goals as goal
 pub function_at-requires-clause-numbered : goal.function_at-requires-clause-numbered
 function_at-requires-clause-numbered g c =
     rw c.as_slice.ensures.value
-    (numbered_moved c.args.symbols.items c.sort_symbols.new.symbols.items c.requires.numbered c.sort_symbols.ensures.moved)
+    (numbered_moved c.args.symbols.items c.sort_symbols.new.symbols.items c.requires.numbered
+    c.sort_symbols.ensures.moved)
 
 pub loop-pc-preserved : goal.loop-pc-preserved
 loop-pc-preserved g c = record {

@@ -7,5 +7,6 @@ pub returns : goal.returns
 returns c =
     c.before_zero.ensures
     ∙ cut_string c.args.most _ _ _
-    (part_is c.args.symbol.now.name c.args.symbol.now.names_end _ _ c.args.bytes.now c.min-end.ensures c.min-start.ensures)
+    (part_is c.args.symbol.now.name c.args.symbol.now.names_end _ _ c.args.bytes.now c.min-end.ensures
+    c.min-start.ensures)
     c.min.ensures

@@ -6,7 +6,8 @@ use Rattle.tomex_command.proofs.commands.survey.text_of_survey.Goals as goal
 pub returns-in_err-text-clause-failure : goal.returns-in_err-text-clause-failure
 returns-in_err-text-clause-failure g c =
     let p = err_from_is_err_and c.from_residual-in_err-text.result c.from_residual-in_err-text.ensures.1 in
-    let refusal = rw (c.as_slice-study.ensures.value, c.as_slice-contents.ensures.value) at c.in_err-text.ensures.refused
+    let refusal =
+    rw (c.as_slice-study.ensures.value, c.as_slice-contents.ensures.value) at c.in_err-text.ensures.refused
     in
     rw (p.1) (survey_refused c.args.view (g.F.Files.file c.args.files.now) c.args.line.study.now _ _ _ p.0
     c.in_ok-sources.ensures.read refusal p.2)

@@ -8,5 +8,6 @@ invariant_of-result c = search rules fits 100
 
 pub returns-in_err-number_of-clause-refused : goal.returns-in_err-number_of-clause-refused
 returns-in_err-number_of-clause-refused c =
-    passed_on _ _ _ c.from_residual-in_err-number_of.result c.from_residual-in_err-number_of.ensures.1 c.in_err-number_of.ensures.refused
+    passed_on _ _ _ c.from_residual-in_err-number_of.result c.from_residual-in_err-number_of.ensures.1
+    c.in_err-number_of.ensures.refused
     (λ none study workers asked. none workers asked.is_workers)

@@ -13,10 +13,12 @@ returns-in_err-one_run_of-clause-refused c =
 
 pub returns-in_err-number_of-clause-refused : goal.returns-in_err-number_of-clause-refused
 returns-in_err-number_of-clause-refused c =
-    passed_on _ _ _ c.from_residual-in_err-number_of.result c.from_residual-in_err-number_of.ensures.1 c.in_err-number_of.ensures.refused
+    passed_on _ _ _ c.from_residual-in_err-number_of.result c.from_residual-in_err-number_of.ensures.1
+    c.in_err-number_of.ensures.refused
     (λ none study config program from steps konata asked. none from asked.is_from)
 
 pub returns-in_err-number_of-2-clause-refused : goal.returns-in_err-number_of-2-clause-refused
 returns-in_err-number_of-2-clause-refused c =
-    passed_on _ _ _ c.from_residual-in_err-number_of-2.result c.from_residual-in_err-number_of-2.ensures.1 c.in_err-number_of-2.ensures.refused
+    passed_on _ _ _ c.from_residual-in_err-number_of-2.result c.from_residual-in_err-number_of-2.ensures.1
+    c.in_err-number_of-2.ensures.refused
     (λ none study config program from steps konata asked. none steps asked.is_steps)

@@ -9,5 +9,6 @@ returns-in_err-line_of-clause-refused c =
 
 pub returns-in_err-number_of-clause-refused : goal.returns-in_err-number_of-clause-refused
 returns-in_err-number_of-clause-refused c =
-    passed_on _ _ _ c.from_residual-in_err-number_of.result c.from_residual-in_err-number_of.ensures.1 c.in_err-number_of.ensures.refused
+    passed_on _ _ _ c.from_residual-in_err-number_of.result c.from_residual-in_err-number_of.ensures.1
+    c.in_err-number_of.ensures.refused
     (λ none study config workers asked. none config asked.is_config)

@@ -22,7 +22,8 @@ loop-place-preserved g c =
     let few : length c.args.self.now.programs ≤ 8 = is.few in
     let eight : length c.loop-place.known ≡ 8 = c.loop-place.invariant.totals.count in
     record {
-      known = one_looked_up c.args.self.now.lists c.args.config.now _ c.loop-place.place c.list-item.result c.total_on.result low (omega arith) at
+      known = one_looked_up c.args.self.now.lists c.args.config.now _ c.loop-place.place c.list-item.result
+          c.total_on.result low (omega arith) at
           c.total_on.ensures.known c.loop-place.invariant.known;
       totals = one_known _ _ _ c.loop-place.place c.total_on.result c.loop-place.invariant.totals
           (list_total c.args.self.now.programs c.args.self.now.lists c.args.config.now c.loop-place.place

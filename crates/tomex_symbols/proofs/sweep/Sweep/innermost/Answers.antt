@@ -20,7 +20,8 @@ loop-symbol-preserved g c =
     let e : slice_get c.loop-symbol.self.nested.items (length c.loop-symbol.self.nested.items - 1)
     ≡ Some c.in-Some.symbol.now =
     rw c.deref.ensures.value at (sym c.last.ensures.value ∙ ap option_copied c.in-Some.is) in
-    let same : c.pop.new.self.items ≡ take (length c.loop-symbol.self.nested.items - 1) c.loop-symbol.self.nested.items =
+    let same : c.pop.new.self.items
+    ≡ take (length c.loop-symbol.self.nested.items - 1) c.loop-symbol.self.nested.items =
     search rules in
     record {
       begun = c.loop-symbol.invariant.begun;
