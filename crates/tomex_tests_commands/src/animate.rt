@@ -1,12 +1,12 @@
 //! Pages that show a run cycle by cycle, over a study and a program in memory: their cycles, and
 //! refusals. Whole pages are compared in `tomex_tests_pages`.
-use super::commands::{Asked, each_comes_to, outcome_of, words_of};
 use std::sync::Wait;
 use std::test::Fail;
 use std::thread::Threads;
 use tomex_streams::NoMeter;
 use tomex_tests_fixtures::programs::PRODUCT;
 use tomex_tests_fixtures::studies::PRODUCT_STUDY;
+use tomex_tests_whole_runs::{Asked, each_comes_to, outcome_of, words_of};
 
 const PAST: (u8, &str, &str) = (1, "", "tomex: cycle past the end\n");
 

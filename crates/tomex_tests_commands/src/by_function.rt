@@ -1,10 +1,10 @@
 //! Stalls reports by function, over studies and executables in memory. The texts are another implementation's.
 
-use super::commands::{Asked, Refused, each_comes_to, each_is_refused};
 use super::executables::{BY_GNU, BY_LLVM};
 use std::test::Fail;
 use tomex_tests_fixtures::programs::PRODUCT;
 use tomex_tests_fixtures::studies::PRODUCT_STUDY;
+use tomex_tests_whole_runs::{Asked, Refused, each_comes_to, each_is_refused};
 
 /// A study of one executable.
 pub const LOOPS: &str = "[[program]]\nname = \"p\"\nfile = \"loops.elf\"\n";

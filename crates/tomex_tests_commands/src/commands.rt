@@ -1,60 +1,12 @@
 //! Whole runs of the program over files in memory: their output, and their statuses.
-use std::alloc::{AllocError, Allocator, Global};
+use std::alloc::{AllocError, Global};
 use std::process::Abort;
 use std::sync::Wait;
 use std::test::Fail;
 use std::thread::Threads;
-use tomex_command::{Heaps, command};
-use tomex_streams::{Meter, NoMeter};
-use tomex_tests_fixtures::in_memory::{Narrow, Shelf};
+use tomex_streams::NoMeter;
 use tomex_tests_fixtures::programs::PRODUCT;
-
-/// The outcome of a run of the program.
-#[derive(Drop)]
-pub struct Outcome {
-    pub status: u8,
-    pub out: Vec<u8>,
-    pub err: Vec<u8>,
-}
-
-/// Runs the program on these words over these files, with a standard output that takes a limited
-/// number of bytes.
-pub fn outcome_of<
-    R: AllocGlobal + Threads + Wait + Sync,
-    A: Allocator + Clone + Send + Sync + Drop,
-    M: Meter + Sync,
->(
-    rt: &R,
-    heap: A,
-    files: &[(&str, &[u8])],
-    words: &[&str],
-    meter: &M,
-    room: usize,
-) -> Result<Outcome, AllocError> {
-    let mut line = Vec::new(rt.alloc());
-    for word in words {
-        line.push(String::from_str(rt.alloc(), word)?)?;
-    }
-    let mut out = Narrow::new(rt.alloc(), room, 1000);
-    let mut err = Narrow::new(rt.alloc(), 10_000, 1000);
-    let status = command(
-        rt,
-        Heaps {
-            images: heap,
-            texts: rt.alloc(),
-        },
-        line.as_slice(),
-        &Shelf { files },
-        meter,
-        &mut out,
-        &mut err,
-    );
-    Ok(Outcome {
-        status,
-        out: out.bytes,
-        err: err.bytes,
-    })
-}
+use tomex_tests_whole_runs::{Outcome, comes_to, outcome_of};
 
 /// Runs the program on these words, over the one file `image` or none.
 fn run_into<R: AllocGlobal + Threads + Wait + Sync>(
@@ -74,108 +26,6 @@ fn run_into<R: AllocGlobal + Threads + Wait + Sync>(
         ),
         None => outcome_of(rt, rt.alloc(), [].as_slice(), words, &NoMeter, room),
     }
-}
-
-/// Fails unless the words give this status, output and error text, on an output that takes a
-/// limited number of bytes.
-pub fn comes_to_within<R: Abort + AllocGlobal + Threads + Wait + Sync>(
-    rt: &R,
-    files: &[(&str, &[u8])],
-    words: &[&str],
-    room: usize,
-    wanted: (u8, &str, &str),
-) -> Result<(), Fail> {
-    let outcome = outcome_of(rt, rt.alloc(), files, words, &NoMeter, room)?;
-    let (status, out, err) = wanted;
-    assert!(rt; outcome.out.as_slice() == out.as_bytes());
-    assert!(rt; outcome.err.as_slice() == err.as_bytes());
-    assert!(rt; outcome.status == status);
-    Ok(())
-}
-
-/// Fails unless the words give this status, output and error text.
-pub fn comes_to<R: Abort + AllocGlobal + Threads + Wait + Sync>(
-    rt: &R,
-    files: &[(&str, &[u8])],
-    words: &[&str],
-    wanted: (u8, &str, &str),
-) -> Result<(), Fail> {
-    comes_to_within(rt, files, words, 10_000, wanted)
-}
-
-/// The words of a line, split at each space.
-pub fn words_of<'a>(alloc: Global, line: &'a str) -> Result<Vec<&'a str>, AllocError> {
-    let mut words = Vec::new(alloc);
-    for word in line.split(' ') {
-        words.push(word)?;
-    }
-    Ok(words)
-}
-
-/// The files of a study, if there is one, and of its programs.
-fn files_of<'a>(
-    alloc: Global,
-    study: Option<&'a str>,
-    programs: &[(&'a str, &'a [u8])],
-) -> Result<Vec<(&'a str, &'a [u8])>, AllocError> {
-    let mut files = Vec::new(alloc);
-    if let Some(study) = study {
-        files.push(("study", study.as_bytes()))?;
-    }
-    files.extend_from_slice(programs)?;
-    Ok(files)
-}
-
-/// Fails unless a line, over a study or none and its programs' files, gives this status, output and
-/// error text, on an output that takes a limited number of bytes.
-pub fn asks_within<R: Abort + AllocGlobal + Threads + Wait + Sync>(
-    rt: &R,
-    study: Option<&str>,
-    programs: &[(&str, &[u8])],
-    line: &str,
-    room: usize,
-    wanted: (u8, &str, &str),
-) -> Result<(), Fail> {
-    let files = files_of(rt.alloc(), study, programs)?;
-    let words = words_of(rt.alloc(), line)?;
-    comes_to_within(rt, files.as_slice(), words.as_slice(), room, wanted)
-}
-
-/// A line on a study, with the status, output and error text that it gives.
-pub type Asked = (&'static str, (u8, &'static str, &'static str));
-
-/// Fails unless each of these lines, over a study and its programs' files, gives the result beside
-/// it.
-pub fn each_comes_to<R: Abort + AllocGlobal + Threads + Wait + Sync>(
-    rt: &R,
-    study: &str,
-    programs: &[(&str, &[u8])],
-    asked: &[Asked],
-) -> Result<(), Fail> {
-    for (line, wanted) in asked {
-        asks_within(rt, Some(study), programs, line, 10_000, *wanted)?;
-    }
-    Ok(())
-}
-
-/// A study, or none, and its programs' files, with the status and the error text of their refusal.
-pub type Refused = (
-    Option<&'static str>,
-    &'static [(&'static str, &'static [u8])],
-    u8,
-    &'static str,
-);
-
-/// Fails unless this line is refused like this over each of these.
-pub fn each_is_refused<R: Abort + AllocGlobal + Threads + Wait + Sync>(
-    rt: &R,
-    line: &str,
-    refused: &[Refused],
-) -> Result<(), Fail> {
-    for (study, programs, status, said) in refused {
-        asks_within(rt, *study, programs, line, 10_000, (*status, "", *said))?;
-    }
-    Ok(())
 }
 
 /// The text of a run that ends: the registers that aren't zero, and the last line.

@@ -1,11 +1,11 @@
 //! Logs of instructions for the viewer Konata, over studies and programs in memory. The expected
 //! logs are those of a second implementation of the rules.
-use super::commands::{Asked, each_comes_to, outcome_of};
 use super::pipeline::SLOW_LOOP;
 use std::test::Fail;
 use tomex_streams::NoMeter;
 use tomex_tests_fixtures::programs::{LOOP, PRODUCT};
 use tomex_tests_fixtures::studies::PRODUCT_STUDY;
+use tomex_tests_whole_runs::{Asked, each_comes_to, outcome_of};
 
 /// The product on the first row, of two alu stations.
 pub const PRODUCT_LOG: &str = "Kanata\t0004\nC=\t1\n\

@@ -1,4 +1,5 @@
-//! Tests of the program, except its words, files and streams: whole runs over files in memory.
+//! Tests of the program on one program or one run, except its words, files and streams: whole runs over
+//! files in memory.
 #![tactic(auto)]
 
 #[cfg(test)]
@@ -16,17 +17,9 @@ mod executables;
 #[cfg(test)]
 mod explain;
 #[cfg(test)]
-mod explorations;
-#[cfg(test)]
-mod fronts;
-#[cfg(test)]
-mod greatest;
-#[cfg(test)]
 mod konata;
 #[cfg(test)]
 mod line_faults;
-#[cfg(test)]
-mod page;
 #[cfg(test)]
 mod pipeline;
 #[cfg(test)]
@@ -34,12 +27,8 @@ mod refused_memory;
 #[cfg(test)]
 mod stalls;
 #[cfg(test)]
-mod surveys;
-#[cfg(test)]
 mod tables;
 #[cfg(test)]
 mod times;
 #[cfg(test)]
 mod wide;
-#[cfg(test)]
-mod workers;

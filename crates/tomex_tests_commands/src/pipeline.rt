@@ -1,9 +1,9 @@
 //! Pictures of instructions, over studies and programs in memory. Their signs are in the cycles of
 //! the tests of times reports.
-use super::commands::{Asked, each_comes_to};
 use std::test::Fail;
 use tomex_tests_fixtures::programs::{LOOP, PRODUCT};
 use tomex_tests_fixtures::studies::PRODUCT_STUDY;
+use tomex_tests_whole_runs::{Asked, each_comes_to};
 
 /// The product on the first row, of two alu stations.
 const ON_TWO_STATIONS: &str = "cycles 1 to 8\n\

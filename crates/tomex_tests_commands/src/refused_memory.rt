@@ -1,26 +1,21 @@
-//! The text of a run, and whole runs of the program, that run out of memory. The command line takes
+//! The text of a run, and whole runs on one program, that run out of memory. The command line takes
 //! other memory.
 
-use super::fronts::{DROPPED_PICTURE, DROPPED_TABLE};
 use crate::by_function::{LOOPS, OF_GNU, PLACES_OF_GNU};
-use crate::commands::{PRODUCT_END, outcome_of, text_of, words_of};
+use crate::commands::{PRODUCT_END, text_of};
 use crate::executables::BY_GNU;
 use crate::konata::PRODUCT_LOG;
 use crate::pipeline::ON_ONE_STATION;
-use crate::surveys::{TWELVE, TWELVE_PICTURE, TWELVE_PRICES, TWELVE_ROWS, WORTH_FOUR};
 use std::alloc::AllocError;
-use std::sync::Wait;
 use std::test::Fail;
-use std::thread::Threads;
 use tomex_command::{RunRefusal, run_text};
 use tomex_image::Window;
-use tomex_streams::NoMeter;
-use tomex_tests_fixtures::programs::{ELF, LOOP, PRODUCT};
+use tomex_tests_fixtures::programs::{ELF, PRODUCT};
 use tomex_tests_fixtures::studies::{
-    DROPPED, DROPPED_REPORT, PRODUCT_AFTER_3, PRODUCT_STALLS, PRODUCT_STALLS_BY_PC, PRODUCT_STUDY,
-    PRODUCT_TIMES,
+    PRODUCT_AFTER_3, PRODUCT_STALLS, PRODUCT_STALLS_BY_PC, PRODUCT_STUDY, PRODUCT_TIMES,
 };
-use tomex_tests_fixtures::{ALL_REFUSALS, Attempt, Heap, OVERLAP, Try, refusals, refusals_of};
+use tomex_tests_fixtures::{ALL_REFUSALS, Attempt, Heap, OVERLAP, Try, refusals};
+use tomex_tests_whole_runs::each_is_granted;
 
 /// Makes the text of the run.
 struct Text;
@@ -44,48 +39,6 @@ impl Attempt for Text {
 fn of_the_text_of_a_run(rt: HostRuntime) -> Result<(), Fail> {
     // A text grows several times; the library decides how often.
     assert!(rt; refusals(rt.alloc(), &Text)? > Some(2));
-    Ok(())
-}
-
-/// Runs the program on a command line over files in memory. It must print this.
-fn command_in<R: AllocGlobal + Threads + Wait + Sync>(
-    rt: &R,
-    heap: Heap,
-    words: &[&str],
-    files: &[(&str, &[u8])],
-    output: &str,
-) -> Result<Try, AllocError> {
-    let outcome = outcome_of(rt, heap, files, words, &NoMeter, 200_000)?;
-    let said = outcome.err.as_slice() == b"tomex: out of memory\n".as_slice();
-    match outcome.status {
-        0 => Ok(Try::right_if(outcome.out.as_slice() == output.as_bytes())),
-        3 if said && outcome.out.is_empty() => Ok(Try::Refused),
-        _ => Ok(Try::Wrong),
-    }
-}
-
-/// The number of blocks that the program needs before it answers, if no try is wrong.
-fn granted<R: AllocGlobal + Threads + Wait + Sync>(
-    rt: &R,
-    words: &[&str],
-    files: &[(&str, &[u8])],
-    output: &str,
-) -> Result<Option<u64>, AllocError> {
-    Ok(refusals_of!(rt.alloc(), heap => command_in(rt, heap, words, files, output)?))
-}
-
-/// Fails unless each of these lines prints its text, and needs at least its number of blocks.
-fn each_is_granted<R: AllocGlobal + Threads + Wait + Sync>(
-    rt: &R,
-    files: &[(&str, &[u8])],
-    asked: &[(&str, &str, u64)],
-) -> Result<(), Fail> {
-    for (line, output, least) in asked {
-        let words = words_of(rt.alloc(), line)?;
-        if granted(rt, words.as_slice(), files, *output)? < Some(*least) {
-            return Err("a command answers wrongly, or with too few blocks".into());
-        }
-    }
     Ok(())
 }
 
@@ -158,81 +111,4 @@ fn of_explanations(rt: HostRuntime) -> Result<(), Fail> {
         ("tomex explain", ALL_REFUSALS, 1),
     ];
     each_is_granted(&rt, [].as_slice(), asked.as_slice())
-}
-
-/// Lines on a whole study, their output, and the least number of blocks that they need.
-static OF_DROPPED: [(&str, &str, u64); 5] = [
-    // The study's bytes and its file's, names, the program, rows, costs and the text; marks, machines, the
-    // front and its ends.
-    ("tomex all study", DROPPED_REPORT, 16),
-    ("tomex explore study", DROPPED_REPORT, 14),
-    ("tomex explore study --workers 2", DROPPED_REPORT, 14),
-    // All of that, with columns of numbers and their names in place of the records.
-    ("tomex front study", DROPPED_TABLE, 14),
-    // The front is enough.
-    ("tomex plot study", DROPPED_PICTURE, 14),
-];
-
-#[test]
-fn of_what_a_study_comes_to(rt: HostRuntime) -> Result<(), Fail> {
-    let files = [("study", DROPPED.as_bytes()), ("loop.bin", LOOP.as_slice())];
-    each_is_granted(&rt, files.as_slice(), OF_DROPPED.as_slice())
-}
-
-/// Lines on all rows of a study, their output, and the least number of blocks that they need.
-static OF_TWELVE: [(&str, &str, u64); 5] = [
-    // The study's bytes and its file's, names, the program, rows, costs and the text; stretches, totals, the plateaus,
-    // all rows, marks and the front.
-    ("tomex rows study", TWELVE_ROWS, 14),
-    ("tomex rows study --workers 3", TWELVE_ROWS, 14),
-    // Small values aren't allocated in this memory.
-    ("tomex worth study 4", WORTH_FOUR, 14),
-    ("tomex prices study", TWELVE_PRICES, 14),
-    ("tomex plot study --rows", TWELVE_PICTURE, 14),
-];
-
-#[test]
-fn of_all_rows_of_a_study(rt: HostRuntime) -> Result<(), Fail> {
-    let files = [
-        ("study", TWELVE.as_bytes()),
-        ("mul.bin", PRODUCT.as_slice()),
-    ];
-    each_is_granted(&rt, files.as_slice(), OF_TWELVE.as_slice())
-}
-
-/// Pages, over the files of the twelve machines: with enough memory they print what they print with
-/// ample memory, and with less nothing.
-#[test]
-fn of_pages(rt: HostRuntime) -> Result<(), Fail> {
-    let files = [
-        ("study", TWELVE.as_bytes()),
-        ("mul.bin", PRODUCT.as_slice()),
-    ];
-    for line in ["tomex animate study 4 mul --cycles 2", "tomex page study"] {
-        let words = words_of(rt.alloc(), line)?;
-        let whole = outcome_of(&rt, rt.alloc(), &files, words.as_slice(), &NoMeter, 200_000)?;
-        let page = String::from_utf8(whole.out)?;
-        let granted = granted(&rt, words.as_slice(), &files, page.as_str())?;
-        assert!(rt; granted >= Some(14), "{line}: {granted:?}");
-    }
-    Ok(())
-}
-
-/// The number of blocks that a line needs to make the report of the study.
-fn granted_to<R: AllocGlobal + Threads + Wait + Sync>(
-    rt: &R,
-    line: &str,
-) -> Result<Option<u64>, AllocError> {
-    let files = [("study", DROPPED.as_bytes()), ("loop.bin", LOOP.as_slice())];
-    let words = words_of(rt.alloc(), line)?;
-    granted(rt, words.as_slice(), files.as_slice(), DROPPED_REPORT)
-}
-
-#[test]
-fn each_worker_takes_memory(rt: HostRuntime) -> Result<(), Fail> {
-    // A lane for each worker.
-    let one = granted_to(&rt, "tomex explore study")?;
-    let eight = granted_to(&rt, "tomex explore study --workers 8")?;
-    assert!(rt; one < eight, "{one:?} {eight:?}");
-    Ok(())
 }

@@ -1,9 +1,9 @@
 //! Stalls reports, over studies and programs in memory. Their numbers are counted by hand, from the
 //! cycles of the tests of times reports.
-use super::commands::{Asked, Refused, each_comes_to, each_is_refused};
 use std::test::Fail;
 use tomex_tests_fixtures::programs::PRODUCT;
 use tomex_tests_fixtures::studies::{PRODUCT_STALLS, PRODUCT_STALLS_BY_PC, PRODUCT_STUDY};
+use tomex_tests_whole_runs::{Asked, Refused, each_comes_to, each_is_refused};
 
 /// The stalls of the product on the first row, of two alu stations: only for a wider issue, and for
 /// the second factor.

@@ -1,9 +1,9 @@
 //! Tables after a cycle, over studies and programs in memory.
-use super::commands::{Asked, Refused, each_comes_to, each_is_refused};
 use super::times::SUM;
 use std::test::Fail;
 use tomex_tests_fixtures::programs::PRODUCT;
 use tomex_tests_fixtures::studies::{PRODUCT_AFTER_3, PRODUCT_STUDY};
+use tomex_tests_whole_runs::{Asked, Refused, each_comes_to, each_is_refused};
 
 /// `mul x5,x1,x2; addi x5,x0,1; ebreak`
 const WRITTEN_TWICE: &[u8; 12] = b"\xb3\x82\x20\x02\x93\x02\x10\x00\x73\x00\x10\x00";

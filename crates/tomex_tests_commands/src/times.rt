@@ -1,8 +1,8 @@
 //! Times reports, over studies and programs in memory.
-use super::commands::{Asked, Refused, each_comes_to, each_is_refused};
 use std::test::Fail;
 use tomex_tests_fixtures::programs::PRODUCT;
 use tomex_tests_fixtures::studies::{PRODUCT_STUDY, PRODUCT_TIMES};
+use tomex_tests_whole_runs::{Asked, Refused, each_comes_to, each_is_refused};
 
 /// The product's times on the first row, of two alu stations.
 const ON_TWO_STATIONS: &str = "step,pc,instr,issue,addr,start,finish,end,station\n\

@@ -1,8 +1,8 @@
 //! The product on a machine that issues two instructions in a cycle, over a study and a program in memory. Its cycles
 //! are counted by hand: both factors issue in cycle 1, and the product, which waits for them, with EBREAK in cycle 2.
-use super::commands::{Asked, each_comes_to};
 use std::test::Fail;
 use tomex_tests_fixtures::programs::PRODUCT;
+use tomex_tests_whole_runs::{Asked, each_comes_to};
 
 const WIDE: &str = "[[program]]\nname = \"mul\"\nfile = \"mul.bin\"\n\
     [axes]\nalu = [2]\nbuses = [2]\nwidth = [2]\n[[unit.alu]]\nunits = 2\n[[unit.mul]]\nlatency = 3\n";

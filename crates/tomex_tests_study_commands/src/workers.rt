@@ -1,6 +1,5 @@
 //! The commands that explore a study share its configurations among threads.
 
-use crate::commands::{outcome_of, words_of};
 use crate::explorations::PRICED;
 use std::sync::Wait;
 use std::sync::atomic::{AtomicU64, Ordering};
@@ -9,6 +8,7 @@ use std::thread;
 use std::thread::Threads;
 use tomex_streams::Meter;
 use tomex_tests_fixtures::programs::PRODUCT;
+use tomex_tests_whole_runs::{outcome_of, words_of};
 
 /// The most turns that a thread is held.
 const TURNS: u32 = 10_000_000;

@@ -1,6 +1,5 @@
 //! Reports of studies as pages, over studies and programs in memory: their rows, and refusals.
 //! Whole pages are compared in `tomex_tests_pages`.
-use super::commands::{Refused, each_is_refused, outcome_of, words_of};
 use super::surveys::TWELVE;
 use std::alloc::Global;
 use std::sync::Wait;
@@ -8,6 +7,7 @@ use std::test::Fail;
 use std::thread::Threads;
 use tomex_streams::NoMeter;
 use tomex_tests_fixtures::programs::PRODUCT;
+use tomex_tests_whole_runs::{Refused, each_is_refused, outcome_of, words_of};
 
 /// The page of the twelve machines, by this number of workers. Fails if it isn't printed.
 fn page_of<R: AllocGlobal + Threads + Wait + Sync>(

@@ -1,5 +1,4 @@
 //! Front reports, over studies and programs in memory.
-use crate::commands::{asks_within, outcome_of, words_of};
 use std::process::Abort;
 use std::sync::Wait;
 use std::sync::atomic::{AtomicU64, Ordering};
@@ -10,6 +9,7 @@ use tomex_tests_fixtures::front_report_of;
 use tomex_tests_fixtures::in_memory::Narrow;
 use tomex_tests_fixtures::programs::{LOOP, PRODUCT};
 use tomex_tests_fixtures::studies::{DROPPED, DROPPED_REPORT};
+use tomex_tests_whole_runs::{asks_within, outcome_of, words_of};
 
 /// Two rows, of two alu stations and of one.
 pub const PRICED: &str = "[[program]]\nname = \"mul\"\nfile = \"mul.bin\"\n[prices]\nalu = 10\n\
