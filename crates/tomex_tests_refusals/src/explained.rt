@@ -1,6 +1,7 @@
 //! Each refusal is explained by its own entry: its text is written as the program writes it, and the first line of
 //! the explanation has its form.
 
+use std::alloc::Global;
 use std::process::Abort;
 use std::test::Fail;
 use tomex_image::ImageError;
@@ -45,6 +46,27 @@ fn images(rt: HostRuntime) -> Result<(), Fail> {
         is_explained(&rt, alone.as_str(), *form)?;
         let in_study = format!(in rt.alloc(); "tomex: program a: image: {error}")?;
         is_explained(&rt, in_study.as_str(), *form)?;
+    }
+    Ok(())
+}
+
+/// What is said of an image's refusal after the first line.
+fn words_after(alloc: Global, form: &str) -> Result<String, Fail> {
+    let Ok(explained) = explain(alloc, form) else {
+        return Err("not explained".into());
+    };
+    let text = String::from_utf8(explained)?;
+    let (_, words) = text.split_once('\n').ok_or("one line")?;
+    Ok(String::from_str(alloc, words)?)
+}
+
+#[test]
+fn no_two_images_are_explained_alike(rt: HostRuntime) -> Result<(), Fail> {
+    for (place, (_, form)) in IMAGES.iter().enumerate() {
+        let words = words_after(rt.alloc(), *form)?;
+        for (_, other) in &IMAGES[..place] {
+            assert!(rt; words_after(rt.alloc(), *other)? != words, "{form}");
+        }
     }
     Ok(())
 }

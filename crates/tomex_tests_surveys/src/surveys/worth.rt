@@ -99,13 +99,27 @@ fn is_machine(line: &str, plain: &[FrontRow], own: FrontRow) -> bool {
         && word(line, 8) == front_word(plain, own)
 }
 
+/// True if the programs' changes, each by its weight, add up to the change of the cycles.
+fn adds_up(study: &Study, line: &str) -> Result<bool, Fail> {
+    let mut sum = 0i64;
+    for (place, program) in study.programs().iter().enumerate().take(3) {
+        let change = word(line, 9 + place).parse::<i64>()?;
+        let weighed = change
+            .checked_mul(i64::from(program.weight()))
+            .ok_or("too much")?;
+        sum = sum.checked_add(weighed).ok_or("too much")?;
+    }
+    Ok(sum == word(line, 5).parse::<i64>()?)
+}
+
 /// True if a line is about a row that differs from the machine in one list, and is true.
 fn is_right(study: &Study, plain: &[FrontRow], own: FrontRow, line: &str) -> Result<bool, Fail> {
     let row = word(line, 3).parse::<usize>()?;
     let other = *plain.get(row).ok_or("no such row")?;
     let a = study.config(own.row).ok_or("no such row")?;
     let b = study.config(row).ok_or("no such row")?;
-    Ok(differences(a, b) == 1 && says_what_is_so(line, plain, own, other))
+    let is_so = says_what_is_so(line, plain, own, other) && adds_up(study, line)?;
+    Ok(differences(a, b) == 1 && is_so)
 }
 
 /// True if that holds for all lines of a table after the machine's own, and there are as many lines
