@@ -1,5 +1,5 @@
 -- The command that was found, by its name and its values.
-use Rattle.std.proofs.Common.{◌≡◌, ◌∙◌, ap, ap₂, sym, refl, List, Option, Some, None}
+use Rattle.std.proofs.Common.{◌≡◌, ap₂, sym, refl, List, Option, Some, None}
 use Rattle.std.specs.Box.{box_value}
 use Rattle.std.specs.Option.{option_map}
 use Rattle.clap.specs.Matches.{found_of, subcommand_name_of}
@@ -25,13 +25,6 @@ pub found_is : (m : ArgMatches) (name : Text) (rows : List Row) → Some name �
     → subcommand_rows_of m ≡ Some (name, rows)
 found_is m name rows a b = both_of (λ s. (out-SubCommand (box_value s)).name.now)
     (λ s. rows_of (found_of (out-SubCommand (box_value s)).matches)) (out-ArgMatches m).subcommand name rows a b
-
--- the same if the name is this word
-pub found_as : (m : ArgMatches) (name word : Text) (rows : List Row) → Some name ≡ subcommand_name_of m
-    → Some rows ≡ option_map (λ (p : Text × List Row). p.1) (subcommand_rows_of m) → name ≡ word
-    → subcommand_rows_of m ≡ Some (word, rows)
-found_as m name word rows a b is =
-    found_is m name rows a b ∙ ap (λ (n : Text). Some (n, rows)) is
 
 -- there is no subcommand if it has no rows
 pub none_found : (found : Option (Text × List Row)) → None ≡ option_map (λ (p : Text × List Row). p.1) found

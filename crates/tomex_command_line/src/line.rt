@@ -2,15 +2,18 @@
 //!
 //! Each command has a file here with two functions: `grammar`, what `clap` reads and prints in its
 //! help, and `line_of`, what was read. A further command is a further file, a variant of `Line` and
-//! a line in each of `grammar` and `line_of` below.
-ghost use Rattle.std.specs.Prelude.{◌≡◌, [], IfOk, IfErr, map, string_bytes};
+//! of `CommandName`, and a line in each of `grammar` and `line_with` below.
+ghost use Rattle.std.specs.Prelude.{◌≡◌, [], IfOk, IfErr, Some, map, string_bytes};
 ghost use Rattle.tomex_arguments.specs.Faults.{IsRefusedIf};
 ghost use Rattle.tomex_command_line.specs.Grammar.{bare_app, tomex_app};
-ghost use Rattle.clap.specs.Words.{app_of, fault_of as faults_of, subcommand_rows_of};
+ghost use Rattle.tomex_command_line.specs.Names.{name_of};
+ghost use Rattle.clap.specs.Words.{app_of, fault_of as faults_of, found_of, subcommand_rows_of};
+ghost use Rattle.clap.specs.Walk.{rows_of};
 ghost use Rattle.tomex_command_line.specs.Asked.{IsCommand, IsAsked, IsNoCommand, IsNoLineAsked};
 
 pub mod all;
 pub mod animate;
+mod command_name;
 mod described;
 pub mod explain;
 pub mod explore;
@@ -31,6 +34,7 @@ pub mod worth;
 use all::AllLine;
 use animate::AnimateLine;
 use clap::{ArgMatches, Command};
+use command_name::{CommandName, command_named};
 use described::offering;
 use explain::ExplainLine;
 use explore::ExploreLine;
@@ -131,29 +135,45 @@ fn grammar<'a>(alloc: Global) -> Result<Command<'a>, AllocError>
     offering(program, explain::grammar(alloc))
 }
 
+/// The line of this command, with the values that the parser found.
+fn line_with<'a>(
+    alloc: Global,
+    command: CommandName,
+    found: &ArgMatches<'a>,
+) -> Result<Line<'a>, LineFault>
+    ensures command { IfOk result (λ line. IsCommand (Some (name_of command, rows_of (found_of found.now))) line) }
+    ensures refused { IfErr result (IsRefusedIf (IsNoLineAsked (Some (name_of command, rows_of (found_of found.now))))) }
+{
+    match command {
+        CommandName::Run => Ok(Line::Run(run::line_of(alloc, found)?)),
+        CommandName::Times => Ok(Line::Times(one_run_of(alloc, found)?)),
+        CommandName::Stalls => Ok(Line::Stalls(stalls::line_of(alloc, found)?)),
+        CommandName::Pipeline => Ok(Line::Pipeline(pipeline::line_of(alloc, found)?)),
+        CommandName::Tables => Ok(Line::Tables(tables::line_of(alloc, found)?)),
+        CommandName::Animate => Ok(Line::Animate(animate::line_of(alloc, found)?)),
+        CommandName::All => Ok(Line::All(all::line_of(alloc, found)?)),
+        CommandName::Explore => Ok(Line::Explore(explore::line_of(alloc, found)?)),
+        CommandName::Front => Ok(Line::Front(explore::line_of(alloc, found)?)),
+        CommandName::Plot => Ok(Line::Plot(plot::line_of(alloc, found)?)),
+        CommandName::Rows => Ok(Line::Rows(explore::line_of(alloc, found)?)),
+        CommandName::Worth => Ok(Line::Worth(worth::line_of(alloc, found)?)),
+        CommandName::Prices => Ok(Line::Prices(explore::line_of(alloc, found)?)),
+        CommandName::Page => Ok(Line::Page(explore::line_of(alloc, found)?)),
+        CommandName::Explain => Ok(Line::Explain(explain::line_of(alloc, found)?)),
+    }
+}
+
 /// The line of the command that the parser found.
 fn line_of<'a>(alloc: Global, matches: &ArgMatches<'a>) -> Result<Line<'a>, LineFault>
     ensures command { IfOk result (λ line. IsCommand (subcommand_rows_of matches.now) line) }
     ensures refused { IfErr result (IsRefusedIf (IsNoLineAsked (subcommand_rows_of matches.now))) }
 {
-    match matches.subcommand() {
-        Some(("run", inner)) => Ok(Line::Run(run::line_of(alloc, inner)?)),
-        Some(("times", inner)) => Ok(Line::Times(one_run_of(alloc, inner)?)),
-        Some(("stalls", inner)) => Ok(Line::Stalls(stalls::line_of(alloc, inner)?)),
-        Some(("pipeline", inner)) => Ok(Line::Pipeline(pipeline::line_of(alloc, inner)?)),
-        Some(("tables", inner)) => Ok(Line::Tables(tables::line_of(alloc, inner)?)),
-        Some(("animate", inner)) => Ok(Line::Animate(animate::line_of(alloc, inner)?)),
-        Some(("all", inner)) => Ok(Line::All(all::line_of(alloc, inner)?)),
-        Some(("explore", inner)) => Ok(Line::Explore(explore::line_of(alloc, inner)?)),
-        Some(("front", inner)) => Ok(Line::Front(explore::line_of(alloc, inner)?)),
-        Some(("plot", inner)) => Ok(Line::Plot(plot::line_of(alloc, inner)?)),
-        Some(("rows", inner)) => Ok(Line::Rows(explore::line_of(alloc, inner)?)),
-        Some(("worth", inner)) => Ok(Line::Worth(worth::line_of(alloc, inner)?)),
-        Some(("prices", inner)) => Ok(Line::Prices(explore::line_of(alloc, inner)?)),
-        Some(("page", inner)) => Ok(Line::Page(explore::line_of(alloc, inner)?)),
-        Some(("explain", inner)) => Ok(Line::Explain(explain::line_of(alloc, inner)?)),
-        _ => Err(refusal_of(alloc, "command")),
+    if let Some((name, found)) = matches.subcommand() {
+        if let Some(command) = command_named(name) {
+            return line_with(alloc, command, found);
+        }
     }
+    Err(refusal_of(alloc, "command"))
 }
 
 /// Reads a command line, the program's own name first.

@@ -1,0 +1,26 @@
+-- The names of the commands.
+use Rattle.std.specs.Prelude.{codes}
+use Rattle.clap.specs.Words.{Text}
+use Rattle.tomex_command_line.specs.declared.line.command_name.CommandName.{CommandName}
+use Rattle.tomex_command_line.specs.declared.line.command_name.CommandName.TheVariants.{Run, Times, Stalls, Pipeline}
+use Rattle.tomex_command_line.specs.declared.line.command_name.CommandName.TheVariants.{Tables, Animate, All, Explore}
+use Rattle.tomex_command_line.specs.declared.line.command_name.CommandName.TheVariants.{Front, Plot, Rows, Worth}
+use Rattle.tomex_command_line.specs.declared.line.command_name.CommandName.TheVariants.{Prices, Page, Explain}
+
+-- the command's name, as it is written
+abbrev pub name_of : CommandName → Text
+name_of Run = codes "run"
+name_of Times = codes "times"
+name_of Stalls = codes "stalls"
+name_of Pipeline = codes "pipeline"
+name_of Tables = codes "tables"
+name_of Animate = codes "animate"
+name_of All = codes "all"
+name_of Explore = codes "explore"
+name_of Front = codes "front"
+name_of Plot = codes "plot"
+name_of Rows = codes "rows"
+name_of Worth = codes "worth"
+name_of Prices = codes "prices"
+name_of Page = codes "page"
+name_of Explain = codes "explain"

@@ -1,0 +1,51 @@
+//! The names of the commands.
+ghost use Rattle.std.specs.Prelude.{◌≡◌, ◌≢◌, IfSome, IfNone};
+ghost use Rattle.std.specs.List.{All as Each};
+ghost use Rattle.clap.specs.Words.{Shape};
+ghost use Rattle.tomex_command_line.specs.Grammar.{tomex_app};
+ghost use Rattle.tomex_command_line.specs.Names.{name_of};
+
+/// A command of the program.
+#[derive(Clone, Copy)]
+pub enum CommandName {
+    Run,
+    Times,
+    Stalls,
+    Pipeline,
+    Tables,
+    Animate,
+    All,
+    Explore,
+    Front,
+    Plot,
+    Rows,
+    Worth,
+    Prices,
+    Page,
+    Explain,
+}
+
+/// The command of this name, if there is one.
+pub(super) fn command_named(name: &str) -> Option<CommandName>
+    ensures known { IfSome result (λ command. name.now ≡ name_of command) }
+    ensures unknown { IfNone result (Each (λ (command : Shape). name.now ≢ command.name) tomex_app.subs) }
+{
+    match name {
+        "run" => Some(CommandName::Run),
+        "times" => Some(CommandName::Times),
+        "stalls" => Some(CommandName::Stalls),
+        "pipeline" => Some(CommandName::Pipeline),
+        "tables" => Some(CommandName::Tables),
+        "animate" => Some(CommandName::Animate),
+        "all" => Some(CommandName::All),
+        "explore" => Some(CommandName::Explore),
+        "front" => Some(CommandName::Front),
+        "plot" => Some(CommandName::Plot),
+        "rows" => Some(CommandName::Rows),
+        "worth" => Some(CommandName::Worth),
+        "prices" => Some(CommandName::Prices),
+        "page" => Some(CommandName::Page),
+        "explain" => Some(CommandName::Explain),
+        _ => None,
+    }
+}
