@@ -38,6 +38,11 @@ fn a_page_has_the_rows_of_the_front(rt: HostRuntime) -> Result<(), Fail> {
     }
     let sections = page.lines().filter(|line| line.starts_with("<section "));
     assert!(rt; sections.count() == 4);
+    // Each view except the first one leads to it.
+    let first = page
+        .lines()
+        .filter(|line| *line == "<a href=\"#n2\">first</a>");
+    assert!(rt; first.count() == 3);
     assert!(rt; page.ends_with("</html>\n"));
     Ok(())
 }

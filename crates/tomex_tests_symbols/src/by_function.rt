@@ -44,13 +44,18 @@ fn machine() -> Result<Config, Fail> {
     one_unit_each([1, 1, 1, 1, 1, 1], [1, 3, 1, 1, 1], 1)
 }
 
-/// The program of the file.
-fn program_of<A: Allocator + Clone>(alloc: A) -> Result<Program<A>, AllocError> {
+/// The program of these bytes.
+fn program_from<A: Allocator + Clone>(alloc: A, bytes: &[u8]) -> Result<Program<A>, AllocError> {
     let window = Window::new(0x1000, 4096).ok_or(AllocError)?;
-    let image = load(alloc.clone()?, WHOLE.as_slice(), window).map_err(|_| AllocError)?;
+    let image = load(alloc.clone()?, bytes, window).map_err(|_| AllocError)?;
     let name = String::from_str(alloc.clone()?, "calls")?;
     let watch = Vec::new(alloc.clone()?);
     Program::new(alloc, name, image, 1000, watch, 1).map_err(|_| AllocError)
+}
+
+/// The program of the file.
+fn program_of<A: Allocator + Clone>(alloc: A) -> Result<Program<A>, AllocError> {
+    program_from(alloc, WHOLE.as_slice())
 }
 
 /// True if the report by function is this text.
@@ -118,6 +123,24 @@ fn places(rt: HostRuntime) -> Result<(), Fail> {
         BY_PLACE.as_bytes(),
     );
     assert!(rt; holds(answer));
+    Ok(())
+}
+
+/// `jal x0,16` in `_start`, which leads to `ebreak` in `work`.
+const TAIL_CALL: &[u8; 20] =
+    b"\x6f\x00\x00\x01\x00\x00\x00\x00\x00\x00\x00\x00\x00\x00\x00\x00\x73\x00\x10\x00";
+
+#[test]
+fn a_jump_to_another_function_is_a_call(rt: HostRuntime) -> Result<(), Fail> {
+    let alloc = rt.alloc();
+    let program = program_from(alloc, TAIL_CALL.as_slice())?;
+    let config = machine()?;
+    let Ok(report) = stalls_by_function(alloc, alloc, &program, &config, WHOLE.as_slice()) else {
+        return Err("no report".into());
+    };
+    let report = String::from_utf8(report)?;
+    assert!(rt; report.contains("\n00001010,work,1,1,"));
+    assert!(rt; report.contains("\n00001000,_start,0,1,"));
     Ok(())
 }
 
