@@ -140,7 +140,7 @@ fn a_jump_to_another_function_is_a_call(rt: HostRuntime) -> Result<(), Fail> {
     };
     let report = String::from_utf8(report)?;
     assert!(rt; report.contains("\n00001010,work,1,1,"));
-    assert!(rt; report.contains("\n00001000,_start,0,1,"));
+    assert!(rt; report.contains("\n00001000,_start,1,1,"));
     Ok(())
 }
 
