@@ -56,6 +56,16 @@ fn workers_change_no_page(rt: HostRuntime) -> Result<(), Fail> {
     Ok(())
 }
 
+#[test]
+fn the_studys_name_is_text(rt: HostRuntime) -> Result<(), Fail> {
+    let files = [("a<b", TWELVE.as_bytes()), ("mul.bin", PRODUCT.as_slice())];
+    let words = words_of(rt.alloc(), "tomex page a<b")?;
+    let outcome = outcome_of(&rt, rt.alloc(), &files, words.as_slice(), &NoMeter, 200_000)?;
+    let page = String::from_utf8(outcome.out)?;
+    assert!(rt; page.contains("<title>a&lt;b: 4 of 12 rows are on the front</title>"));
+    Ok(())
+}
+
 /// Refusals are those of the study.
 static REFUSED: [Refused; 3] = [
     (None, &[], 3, "tomex: cannot read study\n"),
