@@ -1,12 +1,13 @@
 //! Reports of studies as pages, over studies and programs in memory: their rows, and refusals.
 //! Whole pages are compared in `tomex_tests_pages`.
+use super::explorations::TWO;
 use super::surveys::TWELVE;
 use std::alloc::Global;
 use std::sync::Wait;
 use std::test::Fail;
 use std::thread::Threads;
 use tomex_streams::NoMeter;
-use tomex_tests_fixtures::programs::PRODUCT;
+use tomex_tests_fixtures::programs::{LOOP, PRODUCT};
 use tomex_tests_whole_runs::{Refused, each_is_refused, outcome_of, words_of};
 
 /// The page of the twelve machines, by this number of workers. Fails if it isn't printed.
@@ -52,6 +53,23 @@ fn workers_change_no_page(rt: HostRuntime) -> Result<(), Fail> {
     let page = page_of(&rt, rt.alloc(), 1)?;
     for workers in [2u32, 3, 7, 32] {
         assert!(rt; page_of(&rt, rt.alloc(), workers)? == page);
+    }
+    Ok(())
+}
+
+#[test]
+fn each_program_has_its_own_run(rt: HostRuntime) -> Result<(), Fail> {
+    let files = [
+        ("study", TWO.as_bytes()),
+        ("mul.bin", PRODUCT.as_slice()),
+        ("loop.bin", LOOP.as_slice()),
+    ];
+    let words = words_of(rt.alloc(), "tomex page study")?;
+    let outcome = outcome_of(&rt, rt.alloc(), &files, words.as_slice(), &NoMeter, 200_000)?;
+    let page = String::from_utf8(outcome.out)?;
+    for name in ["mul", "loop"] {
+        let summary = format!(in rt.alloc(); "<summary>{name}: its first instructions")?;
+        assert!(rt; page.contains(summary.as_str()), "{name}");
     }
     Ok(())
 }
