@@ -2,6 +2,7 @@
 //! images, a sink and files in memory, and calls that run out of memory.
 #![tactic(auto)]
 
+mod digest;
 mod explained;
 mod images;
 pub mod in_memory;
@@ -10,6 +11,7 @@ pub mod programs;
 pub mod studies;
 mod tries;
 
+pub use digest::is_digest;
 pub use explained::{ALL_REFUSALS, OVERLAP};
 pub use images::image_of;
 pub use tries::{Attempt, Heap, Try, ample, heap_of, refusals};

@@ -14,4 +14,6 @@ mod refused_memory;
 #[cfg(test)]
 mod surveys;
 #[cfg(test)]
+mod whole_pages;
+#[cfg(test)]
 mod workers;

@@ -6,7 +6,7 @@ use tomex_animate::animation;
 use tomex_config::{Config, UnitOption};
 use tomex_image::Image;
 use tomex_study::Program;
-use tomex_tests_fixtures::image_of;
+use tomex_tests_fixtures::{image_of, is_digest};
 
 /// `units` units of this latency.
 fn units(units: u8, latency: u8) -> UnitOption {
@@ -33,19 +33,6 @@ fn page_of(
     let name = String::from_str(alloc, name)?;
     let program = Program::new(alloc, name, image, 262_144, Vec::new(alloc), 1)?;
     Ok(animation(alloc, alloc, study, &program, 0, config, first, count)?)
-}
-
-/// Fails unless a text has this length and digest.
-fn is_digest(text: &[u8], length: usize, digest: u64) -> Result<(), Fail> {
-    let mut hash = 0xcbf29ce484222325u64;
-    for byte in text {
-        hash = (hash ^ u64::from(*byte)).wrapping_mul(0x100000001b3);
-    }
-    if text.len() == length && hash == digest {
-        Ok(())
-    } else {
-        Err("another text")?
-    }
 }
 
 /// Loads, a store for which one of them waits, and results that wait for the bus.
