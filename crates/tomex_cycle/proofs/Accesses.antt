@@ -1,16 +1,16 @@
 -- In the cycle in which it starts an access finds in memory the bytes that the run has before it.
 use Rattle.std.proofs.Common.{ℕ, ◌+◌, ◌<◌, ◌≤◌, ◌≡◌, ◌∙◌, Bool, true, arith, refl, List, [], ◌∷◌, ◌++◌, Option, Some}
 use Rattle.std.proofs.Common.{None, inl, inr}
-use Rattle.tomex_cycle.proofs.Words.{nat_lt, ◌||◌, not, is_some, MatchOption, cases_Bool, ltb-true, nat_tests, lt-leb}
-use Rattle.tomex_cycle.proofs.Words.{le-leb, and_parts, or_right, or_left, Loaded, Configuration, IsWithinLimits}
-use Rattle.tomex_cycle.proofs.Words.{PoolId, UnitId, ByteRange, Step, covers, overwrites, byte_after, bytes_of, is_in}
-use Rattle.tomex_cycle.proofs.Words.{is_store, step_pool, step_unit, unit_with_pool, Done, cycle_of, AreTimed, IsTimed}
-use Rattle.tomex_cycle.proofs.Words.{IsLeast, can_start, conflicts, are_conflicts_finished, byte_at, steps_in}
-use Rattle.tomex_rvdec.specs.declared.pool.PoolId.TheVariants as pools
+use Rattle.tomex_cycle.proofs.Words.{nat_lt, not, is_some, MatchOption, cases_Bool, ltb-true, nat_tests, lt-leb, le-leb}
+use Rattle.tomex_cycle.proofs.Words.{and_parts, or_right, or_left, Loaded, Configuration, IsWithinLimits, PoolId}
+use Rattle.tomex_cycle.proofs.Words.{UnitId, ByteRange, Step, covers, overwrites, byte_after, bytes_of, is_in, is_store}
+use Rattle.tomex_cycle.proofs.Words.{step_pool, step_unit, unit_with_pool, Done, cycle_of, AreTimed, IsTimed, IsLeast}
+use Rattle.tomex_cycle.proofs.Words.{can_start, conflicts, are_conflicts_finished, byte_at, steps_in, ◌||◌, IsUpTo}
 use Rattle.tomex_steps.specs.Results.{is_among}
 use Rattle.tomex_timing.specs.Recurrence.{shares_byte}
 use Rattle.tomex_cycle.proofs.Totals.{reach}
-use Rattle.tomex_cycle.proofs.Fields.{timed_part}
+use Rattle.tomex_cycle.proofs.Parts.{older_up_to, part_up_to}
+use Rattle.tomex_rvdec.specs.declared.pool.PoolId.TheVariants as pools
 
 share_from : (x y : Option ByteRange) (a : ℕ) → is_among x a ≡ true → is_among y a ≡ true → shares_byte x y ≡ true
 share_from x y a h3 h4 = grind (arith, nat_tests)
@@ -85,31 +85,31 @@ clear_at (e ∷ newer) d older n a cd cn store clear =
     (are_conflicts_finished (newer ++ (d ∷ older)) n.step n.at.start) clear).1
 
 -- and younger ones haven't
-newer_waits : (i : Loaded) {config : Configuration} (t a : ℕ) (d : Done) (newer older : List Done)
-    → IsWithinLimits config → AreTimed config (newer ++ (d ∷ older)) → covers d.step a ≡ true → t < d.at.start
+newer_waits : {i : Loaded} {config : Configuration} {s : ℕ} (t a : ℕ) (d : Done) (newer older : List Done)
+    → IsUpTo i config s (newer ++ (d ∷ older)) → covers d.step a ≡ true → t < d.at.start
     → byte_at i t (newer ++ (d ∷ older)) a ≡ byte_at i t older a
-newer_waits i t a d [] older good timed c l = elim (cases_Bool (overwrites d.step a)) [
+newer_waits t a d [] older up c l = elim (cases_Bool (overwrites d.step a)) [
   | inl o ↦ rw (o, lt-leb d.at.start t l) refl
   | inr o ↦ rw o refl
 ]
-newer_waits i {config} t a d (n ∷ newer) older good timed c l =
-    let rest = newer_waits i t a d newer older good timed.1 c l in
+newer_waits t a d (n ∷ newer) older up c l =
+    let rest = newer_waits t a d newer older (older_up_to up) c l in
     elim (cases_Bool (overwrites n.step a)) [
       | inr o ↦ rw o rest
       | inl o ↦
           let p = and_parts (is_store n.step) (covers n.step a) o in
-          let clear = starts_clear n timed.0 (store_unit n.step p.0) in
+          let clear = starts_clear n up.timed.0 (store_unit n.step p.0) in
           let m : d.at.finish < n.at.start = clear_at newer d older n a c p.1 p.0 clear in
-          let r : d.at.start ≤ d.at.finish = (reach d older good (timed_part config newer (d ∷ older) timed.1)).order in
+          let part = part_up_to newer (older_up_to up) in
+          let r : d.at.start ≤ d.at.finish = (reach d older part.lawful part.timed).order in
           rw (o, lt-leb n.at.start t (omega arith)) rest
     ]
 
 -- so an access that starts in cycle t + 1 finds what the run has
-pub found_is : (i : Loaded) {config : Configuration} (t a : ℕ) (d : Done) (newer older : List Done)
-    → IsWithinLimits config → AreTimed config (newer ++ (d ∷ older)) → is_some (step_unit d.step) ≡ true
-    → covers d.step a ≡ true → d.at.start ≡ t + 1
-    → byte_at i t (newer ++ (d ∷ older)) a ≡ byte_after i (steps_in older) a
-found_is i {config} t a d newer older good timed some c at =
-    let here : AreTimed config (d ∷ older) = timed_part config newer (d ∷ older) timed in
-    newer_waits i t a d newer older good timed c (omega arith)
-    ∙ older_made i t a d older good here.1 c at (starts_clear d here.0 some)
+pub found_is : {i : Loaded} {config : Configuration} {s : ℕ} (t a : ℕ) (d : Done) (newer older : List Done)
+    → IsUpTo i config s (newer ++ (d ∷ older)) → is_some (step_unit d.step) ≡ true → covers d.step a ≡ true
+    → d.at.start ≡ t + 1 → byte_at i t (newer ++ (d ∷ older)) a ≡ byte_after i (steps_in older) a
+found_is {i} t a d newer older up some c at =
+    let here = part_up_to newer up in
+    newer_waits t a d newer older up c (omega arith)
+    ∙ older_made i t a d older here.lawful here.timed.1 c at (starts_clear d here.timed.0 some)

@@ -1,15 +1,17 @@
 -- Which load or store gets its address in a cycle, by the recurrence.
+use Rattle.tomex_cycle.proofs.Truth.{some_not_none}
 use Rattle.std.proofs.Common.{ℕ, ◌+◌, ◌<◌, ◌≤◌, ◌≡◌, Bool, true, false, arith, refl, List, [], ◌∷◌, Option, Some, None}
-use Rattle.std.proofs.Common.{ap, inl, inr}
+use Rattle.std.proofs.Common.{ap, inl, inr, ◌∙◌, sym}
 use Rattle.tomex_cycle.proofs.Words.{nat_lt, nat_le, if◌then◌else◌, ◌&&◌, ◌==◌, not, is_some, MatchBool, cases_Bool}
 use Rattle.tomex_cycle.proofs.Words.{nat_tests, ltb-true, lt-ltb, leb-true, leb-false, lt-leb, and_parts, and_right}
-use Rattle.tomex_cycle.proofs.Words.{eq-eqb, Configuration, IsWithinLimits, Done, cycle_of, is_memory, last_address}
-use Rattle.tomex_cycle.proofs.Words.{AreTimed, IsTimed, IsLeast, can_address, AreIssuedBy, place_of, holds_place}
-use Rattle.tomex_cycle.proofs.Words.{station_of, clocks, Loaded, address_of, j_of, field_of, with_address, is_there}
-use Rattle.tomex_cycle.proofs.Words.{Station}
+use Rattle.tomex_cycle.proofs.Words.{eq-eqb, Configuration, Done, cycle_of, is_memory, last_address, AreTimed, IsTimed}
+use Rattle.tomex_cycle.proofs.Words.{IsLeast, can_address, place_of, holds_place, station_of, clocks, Loaded}
+use Rattle.tomex_cycle.proofs.Words.{address_of, j_of, field_of, with_address, is_there, Station, IsUpTo}
 use Rattle.tomex_cycle.proofs.Fields.{there_test}
 use Rattle.tomex_cycle.proofs.Places.{is_vacant, least_test}
-use Rattle.tomex_cycle.proofs.Totals.{reach, place_there}
+use Rattle.tomex_cycle.proofs.Totals.{reach}
+use Rattle.tomex_cycle.proofs.Held.{busy_at}
+use Rattle.tomex_cycle.proofs.Parts.{older_up_to}
 
 abbrev pub or_else : Option ℕ → Option ℕ → Option ℕ
 or_else None y = y
@@ -50,22 +52,21 @@ or_none None b e = (refl, e)
 or_none (Some x) b e = absurd (cc)
 
 -- if none waits, all addresses are made
-pub none_waits : {config : Configuration} (t : ℕ) (h : List Done) → IsWithinLimits config → AreTimed config h
-    → AreIssuedBy t h → chosen t h ≡ None → last_address h ≤ t
-none_waits t [] good timed issued e = omega arith
-none_waits t (d ∷ older) good timed issued e =
+pub none_waits : {i : Loaded} {config : Configuration} (t : ℕ) (h : List Done) → IsUpTo i config t h
+    → chosen t h ≡ None → last_address h ≤ t
+none_waits t [] up e = omega arith
+none_waits t (d ∷ older) up e =
     let two = or_none (chosen t older) (if waits_for_address t d then place_of d else None) e in
     elim (cases_Bool (is_memory d.step)) [
-      | inr m ↦ rw m (none_waits t older good timed.1 issued.1 two.0)
+      | inr m ↦ rw m (none_waits t older (older_up_to up) two.0)
       | inl m ↦ rw m (elim (cases_Bool (nat_le (cycle_of d.at.address) t)) [
         | inl l ↦ leb-true _ _ l
         | inr l ↦
             let k : t < cycle_of d.at.address = leb-false _ _ l in
-            let r : cycle_of d.at.address ≤ d.at.end = (reach d older good timed).address in
-            let busy : waits_for_address t d ≡ true = rw (lt-ltb t d.at.end (omega arith), m, l) refl in
-            let f : place_of d ≡ None = rw busy at two.1 in
-            absurd (some_none_of 0 (place_of d)
-            (place_there d timed.0 (let i : d.at.issue ≤ t = issued.0 in omega arith)) f)
+            let r : cycle_of d.at.address ≤ d.at.end = (reach d older up.lawful up.timed).address in
+            let late : nat_lt t d.at.end ≡ true = lt-ltb t d.at.end (omega arith) in
+            let f : place_of d ≡ None = rw (late, m, l) at two.1 in
+            absurd (some_not_none (busy_at d up late).0 (sym (busy_at d up late).1 ∙ f))
       ])
     ]
 
@@ -119,13 +120,14 @@ chosen_held t y [] e free = cc
 chosen_held t y (d ∷ older) e free = chosen_by t y d older (chosen t older) refl (chosen_held t y older) e free
 
 -- the address test of the next cycle, if no older address is to come
-pub test_is : {config : Configuration} (t u : ℕ) (d : Done) {older : List Done} → IsTimed config older d.step d.at
-    → AreTimed config older → AreIssuedBy t (d ∷ older) → u ≡ t + 1 → is_memory d.step ≡ true → last_address older ≤ t
+pub test_is : {i : Loaded} {config : Configuration} (t u : ℕ) (d : Done) {older : List Done}
+    → IsUpTo i config t (d ∷ older) → u ≡ t + 1 → is_memory d.step ≡ true → last_address older ≤ t
     → t < cycle_of d.at.address → is_there (field_of t older (j_of d.step)) ≡ (cycle_of d.at.address == u)
-test_is {config} t u d {older} timed before issued e m last late =
-    let test : can_address older d.step d.at.issue u ≡ (cycle_of d.at.address == u) =
-    least_test (can_address older d.step d.at.issue) (cycle_of d.at.address) u (address_is d timed m) (omega arith) in
-    let there = there_test config t older (j_of d.step) before issued.1 in
+test_is t u d {older} up e m last late =
+    let issued : d.at.issue ≤ t = up.issued.0 in
+    let test : can_address older d.step d.at.issue u ≡ (cycle_of d.at.address == u) = least_test
+    (can_address older d.step d.at.issue) (cycle_of d.at.address) u (address_is d up.timed.0 m) (omega arith) in
+    let there = there_test t older (j_of d.step) (older_up_to up) in
     grind (arith, nat_tests)
 
 -- A of a station by the address clock

@@ -3,12 +3,12 @@ use Rattle.std.proofs.Common.{ℕ, ◌+◌, ◌<◌, ◌≤◌, ◌≡◌, ◌�
 use Rattle.std.proofs.Common.{None, sym, inl, inr}
 use Rattle.tomex_cycle.proofs.Words.{nat_lt, if◌then◌else◌, Result, Ok, not, cases_Bool, ltb-true, lt-leb, nat_tests}
 use Rattle.tomex_cycle.proofs.Words.{and_parts, Loaded, Configuration, UnitId, Fault, overwrites, Bytes, is_store, Done}
-use Rattle.tomex_cycle.proofs.Words.{cycle_of, greatest_end, AreTimed, IsTimed, can_start, Fetch, RunEndsAfter}
-use Rattle.tomex_cycle.proofs.Words.{first_timed, byte_at, IsHistory, clocks, ShowsMemory, IsIssuedTo, IsSnapshot}
-use Rattle.tomex_cycle.proofs.Words.{IsYetToIssue, MakesStarts, MakesAddress, MakesIssue, MakesEnds, is_done, Progress}
-use Rattle.tomex_cycle.proofs.Words.{Running, Ended, AreBusy, Pools, RegStatus}
+use Rattle.tomex_cycle.proofs.Words.{cycle_of, greatest_end, AreTimed, IsTimed, can_start, RunEndsAfter, first_timed}
+use Rattle.tomex_cycle.proofs.Words.{byte_at, clocks, ShowsMemory, IsIssuedTo, IsSnapshot, IsYetToIssue, MakesStarts}
+use Rattle.tomex_cycle.proofs.Words.{MakesAddress, MakesIssue, MakesEnds, is_done, Progress, Running, Ended, AreBusy}
+use Rattle.tomex_cycle.proofs.Words.{Pools, Core, Front, IsNextCycle, IsUpTo, core, front}
 use Rattle.tomex_cycle.proofs.Totals.{done_is}
-use Rattle.tomex_cycle.proofs.Runs.{rest_to, run_history, run_timed, AreLater}
+use Rattle.tomex_cycle.proofs.Runs.{rest_to, run_timed, AreLater, issued_up_to}
 
 pub can_start_later : (config : Configuration) (d : Done) (older : List Done) (u : UnitId) (t : ℕ)
     → can_start config older d.step u d.at.issue (cycle_of d.at.address) t ≡ true → d.at.issue < t
@@ -49,78 +49,74 @@ memory_issued {config} {i} k m t {u} {bytes} run next low high e shown =
           ∙ rw rest.1.same (sym (bytes_later config i rest.0 (first_timed config i k) t u a timed rest.1.later e));
     }
 
--- what a cycle makes of a snapshot up to its issue
-pub record IsUnderWay (i : Loaded) (config : Configuration) (n t next before count : ℕ) (fault : Option Fault)
-    (stations : Pools) (registers : RegStatus) (fetch : Fetch) (memory : Bytes) : Type 0 where
+-- what the phases of a cycle make of its state, as far as the issues
+pub record AreMade (i : Loaded) (config : Configuration) (next : ℕ) (old : Core) (fault : Option Fault)
+    (result : Result Bool Fault) (new : Core) : Type 0 where
+  pub started : Pools
+  pub placed : Pools
+  pub starts : MakesStarts config next old.front.pools old.memory fault started new.memory
+  pub addresses : MakesAddress next started placed
+  pub issues : MakesIssue i config next old.issued (front placed old.front.registers old.front.fetch) result
+      new.issued new.front
+
+-- so in a run that ends
+pub record IsUnderWay (i : Loaded) (config : Configuration) (n t next : ℕ) (old : Core) (fault : Option Fault)
+    (result : Result Bool Fault) (new : Core) : Type 0 where
   pub good : fault ≡ None
-  pub low : before ≤ count
-  pub after : IsIssuedTo i config n next (clocks next next t) count stations registers fetch
-  pub bytes : ShowsMemory i next (first_timed config i count) memory
+  pub some : result ≡ Ok (nat_lt old.issued new.issued)
+  pub low : old.issued ≤ new.issued
+  pub after : IsIssuedTo i config n next next (clocks next next t) new.issued new.front
+  pub bytes : ShowsMemory i next (first_timed config i new.issued) new.memory
 
-pub issue_made : {i : Loaded} {config : Configuration} {n t : ℕ} (next : ℕ) {count : ℕ} (counted : ℕ)
-    {fault : Option Fault} {result : Result Bool Fault} {st0 st1 st2 st3 : Pools} {rg0 rg1 : RegStatus}
-    {ft0 ft1 : Fetch} {m0 m1 : Bytes} → MakesStarts config next st0 m0 fault st1 m1 → MakesAddress next st1 st2
-    → MakesIssue i config next count st2 rg0 ft0 result counted st3 rg1 ft1 → RunEndsAfter i config n → next ≡ t + 1
-    → IsSnapshot i config n t count st0 rg0 ft0 m0
-    → (result ≡ Ok (nat_lt count counted)) × IsUnderWay i config n t next count counted fault st3 rg1 ft1 m1
-issue_made {i} {config} {n} {t} next {count} counted {st2} {rg0} {ft0} starts addresses issues run e old =
-    let few : count ≤ n + 1 = old.issue.few in
-    let h0 : IsHistory i config (first_timed config i count) = run_history count run few in
-    let a = starts i (first_timed config i count) t e h0 old.issue.issued old.issue.slots old.bytes in
-    let b = addresses i config (first_timed config i count) t e h0 old.issue.issued a.1 in
-    let shown : IsIssuedTo i config n t (clocks next next t) count st2 rg0 ft0 = record {
-      few = few;
-      slots = b;
-      status = old.issue.status;
-      from = old.issue.from;
-      issued = old.issue.issued;
-      next = old.issue.next;
-    } in
-    let d = issues n t run e shown in (
-      d.0,
-      record {
-        good = a.0;
-        low = d.1;
-        after = d.2;
-        bytes = memory_issued count counted t run old.issue.next d.1 d.2.few e a.2;
-      },
-    )
-
-pub cycle_made : {i : Loaded} {config : Configuration} {n t next count counted : ℕ} {fault : Option Fault}
-    {st3 st4 : Pools} {rg1 rg2 : RegStatus} {ft1 ft2 : Fetch} {m1 : Bytes}
-    → IsUnderWay i config n t next count counted fault st3 rg1 ft1 m1 → MakesEnds config next st3 rg1 ft1 st4 rg2 ft2
-    → RunEndsAfter i config n → next ≡ t + 1 → IsSnapshot i config n next counted st4 rg2 ft2 m1
-cycle_made {i} {config} {t} {next} {counted} on end_phase run e =
-    let h1 : IsHistory i config (first_timed config i counted) = run_history counted run on.after.few in
-    let f = end_phase i (first_timed config i counted) t e h1 on.after.issued on.after.slots on.after.status
-    on.after.from in
-    record {
-      issue = record {
-        few = on.after.few;
-        slots = f.0;
-        status = f.1;
-        from = f.2;
-        issued = on.after.issued;
-        next = on.after.next;
+pub under_way : {i : Loaded} {config : Configuration} {n t next : ℕ} {old new : Core} {fault : Option Fault}
+    {result : Result Bool Fault} → AreMade i config next old fault result new → IsNextCycle i config n t next
+    → IsSnapshot i config n t old → IsUnderWay i config n t next old fault result new
+under_way {i} {config} {n} {t} {next} {old} {new} made at before =
+    let h : List Done = first_timed config i old.issued in
+    let up : IsUpTo i config t h = issued_up_to at.run before.issue in
+    let started = made.starts i h t at.next up before.issue.shown.slots before.bytes in
+    let issued = made.issues n t at (record {
+      few = before.issue.few;
+      shown = record {
+        slots = made.addresses i config h t at.next up started.1;
+        status = before.issue.shown.status;
+        from = before.issue.shown.from;
       };
-      bytes = on.bytes;
+      issued = before.issue.issued;
+      next = before.issue.next;
+    }) in
+    record {
+      good = started.0;
+      some = issued.0;
+      low = issued.1;
+      after = issued.2;
+      bytes = memory_issued old.issued new.issued t at.run before.issue.next issued.1 issued.2.few at.next started.2;
     }
 
--- nothing that starts in a run faults
-pub starts_good : {i : Loaded} {config : Configuration} {n t : ℕ} (next : ℕ) {count : ℕ} (fault : Option Fault)
-    {st0 st1 : Pools} {rg0 : RegStatus} {ft0 : Fetch} {m0 m1 : Bytes} → MakesStarts config next st0 m0 fault st1 m1
-    → RunEndsAfter i config n → next ≡ t + 1 → IsSnapshot i config n t count st0 rg0 ft0 m0 → fault ≡ None
-starts_good {i} {config} {t} next {count} fault starts run e old = (starts i (first_timed config i count) t e
-    (run_history count run old.issue.few) old.issue.issued old.issue.slots old.bytes).0
+pub cycle_made : {i : Loaded} {config : Configuration} {n t next : ℕ} {old mid : Core} {fault : Option Fault}
+    {result : Result Bool Fault} {new : Front} → IsNextCycle i config n t next
+    → IsUnderWay i config n t next old fault result mid → MakesEnds config next mid.front new
+    → IsSnapshot i config n next (core mid.issued new mid.memory)
+cycle_made {i} {config} {t} {mid} at on ends = record {
+  issue = record {
+    few = on.after.few;
+    shown = ends i (first_timed config i mid.issued) t at.next (issued_up_to at.run on.after) on.after.shown;
+    issued = on.after.issued;
+    next = on.after.next;
+  };
+  bytes = on.bytes;
+}
 
 progress_same : (a : Bool) (over : Bool) (p : Progress) → over ≡ not a → p ≡ (if over then Ended else Running)
     → p ≡ (if a then Running else Ended)
 progress_same true over p e f = rw e at f
 progress_same false over p e f = rw e at f
 
-pub cycle_answer : {i : Loaded} {config : Configuration} {n next count : ℕ} {st : Pools} {rg : RegStatus} {ft : Fetch}
-    {m : Bytes} {over : Bool} {p : Progress} → IsSnapshot i config n next count st rg ft m → RunEndsAfter i config n
-    → AreBusy st.slots st.busy st.issue_numbers → over ≡ is_done ft st.busy → p ≡ (if over then Ended else Running)
+pub cycle_answer : {i : Loaded} {config : Configuration} {n next : ℕ} {s : Core} {over : Bool} {p : Progress}
+    → RunEndsAfter i config n → IsSnapshot i config n next s
+    → AreBusy s.front.pools.slots s.front.pools.busy s.front.pools.issue_numbers
+    → over ≡ is_done s.front.fetch s.front.pools.busy → p ≡ (if over then Ended else Running)
     → p ≡ (if nat_lt next (greatest_end (first_timed config i (n + 1))) then Running else Ended)
-cycle_answer {i} {config} {n} {next} {ft} {over} {p} shown run filled e f = progress_same
-    (nat_lt next (greatest_end (first_timed config i (n + 1)))) over p (e ∙ done_is ft run shown.issue filled) f
+cycle_answer {i} {config} {n} {next} {s} {over} {p} run shown filled e f = progress_same
+    (nat_lt next (greatest_end (first_timed config i (n + 1)))) over p (e ∙ done_is s.front.fetch run shown.issue filled)
+    f

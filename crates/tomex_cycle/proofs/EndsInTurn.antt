@@ -1,10 +1,10 @@
 -- What ends in one place after another, and what is sent by them together.
 use Rattle.std.proofs.Common.{ℕ, ◌+◌, ◌<◌, ◌≡◌, ◌∙◌, Bool, true, false, arith, refl, List, Option, Some, None, ap, sym}
 use Rattle.std.proofs.Common.{length, slice_index, slice_index_or, option_map}
-use Rattle.tomex_cycle.proofs.Words.{nat_lt, ◌&&◌, ◌||◌, ◌==◌, le-ltb, nat_tests, eqb-false, ne_eqb, field_from, Field}
-use Rattle.tomex_cycle.proofs.Words.{Value, Unread, Tag, is_number, EndsIn, Hears, after_ends, sends_of, sent_below}
-use Rattle.tomex_cycle.proofs.Words.{hears, field_after, only, value_or_tag, place_at, place_of_tag, Pools, RegStatus}
-use Rattle.tomex_cycle.proofs.Words.{Station, has}
+use Rattle.tomex_cycle.proofs.Words.{nat_lt, ◌&&◌, ◌==◌, le-ltb, nat_tests, eqb-false, ne_eqb, field_from, Field, Value}
+use Rattle.tomex_cycle.proofs.Words.{Unread, Tag, is_number, EndsIn, Hears, after_ends, sends_of, sent_below, hears}
+use Rattle.tomex_cycle.proofs.Words.{field_after, only, value_or_tag, place_at, place_of_tag, Pools, RegStatus, Station}
+use Rattle.tomex_cycle.proofs.Words.{has, ◌||◌}
 use Rattle.tomex_timing.specs.declared.tables.Field.TheVariants.{Waits}
 use Rattle.tomex_cycle.proofs.AddressChosen.{or_else}
 

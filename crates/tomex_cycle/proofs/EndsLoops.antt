@@ -2,12 +2,10 @@
 use Rattle.std.proofs.Common.{ℕ, ◌+◌, ◌<◌, ◌≤◌, ◌≡◌, ◌∙◌, Bool, true, false, arith, refl, List, Option, Some, None, ap}
 use Rattle.std.proofs.Common.{sym, inl, inr, length, slice_index, slice_index_or, slice_set, option_map}
 use Rattle.tomex_cycle.proofs.Words.{nat_lt, if◌then◌else◌, ◌&&◌, ◌==◌, cases_Bool, lt-ltb, le-ltb, eqb-true, eqb-false}
-use Rattle.tomex_cycle.proofs.Words.{nat_tests, ltb-true, ltb-false, get_or-set_same, get_or-set_other}
-use Rattle.tomex_cycle.proofs.Words.{length-set, get_or_past, field_from, Field, Value, Unread, Tag, is_number, EndsIn}
-use Rattle.tomex_cycle.proofs.Words.{Hears, after_ends, sends_of, sent_below, AreNamed, HaveReceived, hears}
-use Rattle.tomex_cycle.proofs.Words.{field_after}
-use Rattle.tomex_cycle.proofs.Words.{only, value_or_tag, place_at, place_of_tag, Pools, RegStatus, Station, has}
-use Rattle.tomex_cycle.proofs.Words.{IsWithout}
+use Rattle.tomex_cycle.proofs.Words.{nat_tests, ltb-true, ltb-false, get_or-set_same, get_or-set_other, length-set}
+use Rattle.tomex_cycle.proofs.Words.{get_or_past, field_from, Field, Value, Unread, Tag, is_number, EndsIn, Hears}
+use Rattle.tomex_cycle.proofs.Words.{after_ends, sends_of, sent_below, AreNamed, HaveReceived, hears, field_after, only}
+use Rattle.tomex_cycle.proofs.Words.{value_or_tag, place_at, place_of_tag, Pools, RegStatus, Station, has, IsWithout}
 use Rattle.tomex_cycle.proofs.Words.{AreFrom, all_left, least_from, least_in, left_from, none_after, none_between}
 use Rattle.tomex_cycle.proofs.Words.{skip_to, dest_of, AreLow}
 use Rattle.tomex_timing.specs.declared.tables.Field.TheVariants.{Waits}

@@ -5,7 +5,7 @@ use Rattle.tomex_cycle.proofs.Words.{nat_lt, ◌&&◌, if◌then◌else◌, and_
 use Rattle.tomex_cycle.proofs.Words.{nat_tests, Unread, has, none_in, Fetch, AreDone, AreEnding, EndsIn, Hears}
 use Rattle.tomex_cycle.proofs.Words.{after_ends, sends_of, sent_below, IsTimetableOf, LeavesTimetable, MakesEnds}
 use Rattle.tomex_cycle.proofs.Words.{Finishes, hears, field_after, value_or_tag, place_of_tag, AreBusy, Pools}
-use Rattle.tomex_cycle.proofs.Words.{RegStatus, Station}
+use Rattle.tomex_cycle.proofs.Words.{RegStatus, Station, Front, front}
 use Rattle.tomex_timing.specs.declared.tables.Field.TheVariants.{Waits}
 use Rattle.tomex_cycle.specs.Ends.{Follows}
 use Rattle.tomex_cycle.proofs.EndsFetch.{made_ends}
@@ -39,11 +39,12 @@ none_received slots registers count status = record {
       (field_from (slice_index registers.values r) (slice_index_or registers.tags r None)) (none_sent slots 96);
 }
 
-pub ends_none : (config : Configuration) {next : ℕ} (ending : ℕ) (old : Pools) (registers : RegStatus)
-    {fetch result : Fetch} → AreEnding old config.buses next ending → AreBusy old.slots old.busy old.issue_numbers
-    → Follows next old.slots fetch result → ending ≡ 0 → MakesEnds config next old registers fetch old registers result
-ends_none config ending old registers ends filled follows e = made_ends config old old registers registers 0
-    (rw e at ends) filled follows (λ low. none_ended old) (λ count low named. none_received old.slots registers)
+pub ends_none : (config : Configuration) {next : ℕ} (ending : ℕ) (old : Front) {fetch : Fetch}
+    → AreEnding old.pools config.buses next ending → AreBusy old.pools.slots old.pools.busy old.pools.issue_numbers
+    → Follows next old.pools.slots old.fetch fetch → ending ≡ 0
+    → MakesEnds config next old (front old.pools old.registers fetch)
+ends_none config ending old ends filled follows e = made_ends config old 0 (rw e at ends) filled follows
+    (λ low. none_ended old.pools) (λ count low named. none_received old.pools.slots old.registers)
 
 pub none_over : (slots : List (Option Station)) (next ending : ℕ) (f : Finishes) → length slots ≡ 96
     → LeavesTimetable slots next ending f → ending ≡ 0 → IsTimetableOf slots (next + 1) f

@@ -1,21 +1,21 @@
 -- What ends in a cycle: the recurrence's test, by the buses that are left.
-use Rattle.std.proofs.Common.{ℕ, ◌+◌, ◌<◌, ◌≤◌, ◌≡◌, ◌∙◌, Bool, true, false, arith, refl, List, [], ◌∷◌, ◌++◌, Option}
-use Rattle.std.proofs.Common.{Some, None, ap, sym, inl, inr, ◌⊎◌, append_assoc, slice_index_or}
-use Rattle.tomex_cycle.proofs.Words.{nat_lt, nat_le, if◌then◌else◌, ◌&&◌, ◌||◌, ◌==◌, is_some, count_by, MatchOption}
+use Rattle.std.proofs.Common.{ℕ, ◌+◌, ◌<◌, ◌≤◌, ◌≡◌, ◌∙◌, Bool, true, false, arith, refl, List, [], ◌∷◌, Option, Some}
+use Rattle.std.proofs.Common.{None, ap, sym, inl, inr, ◌⊎◌, slice_index_or}
+use Rattle.tomex_cycle.proofs.Words.{nat_lt, nat_le, if◌then◌else◌, ◌&&◌, ◌==◌, is_some, count_by, MatchOption}
 use Rattle.tomex_cycle.proofs.Words.{nat_tests, not, MatchBool, cases_Bool, ltb-true, ltb-false, lt-ltb, and_parts}
-use Rattle.tomex_cycle.proofs.Words.{eq-eqb, eqb-true, ne_eqb, both_ways, Loaded, Configuration, IsWithinLimits, PoolId}
+use Rattle.tomex_cycle.proofs.Words.{eqb-true, ne_eqb, both_ways, Loaded, Configuration, IsWithinLimits, PoolId}
 use Rattle.tomex_cycle.proofs.Words.{unit_at, is_number, step_dest, step_pool, Done, AreTimed, IsLeast, can_end, tag_at}
-use Rattle.tomex_cycle.proofs.Words.{AreIssuedBy, clocks, holds_place, order_of, place_of, station_at, station_of}
-use Rattle.tomex_cycle.proofs.Words.{ShowsStations, is_finished_by, AreEnding, can_send, ends_alone, is_finished_before}
-use Rattle.tomex_cycle.proofs.Words.{place_at, Pools, AreBusy, Station, has, IsInIssueOrder}
-use Rattle.tomex_cycle.proofs.Addresses.{number_is_some}
-use Rattle.tomex_cycle.proofs.Places.{place_low, is_vacant, vacant, least_test, low, station_here}
-use Rattle.tomex_cycle.proofs.Fields.{timed_part}
+use Rattle.tomex_cycle.proofs.Words.{clocks, holds_place, order_of, place_of, station_at, station_of, ShowsStations}
+use Rattle.tomex_cycle.proofs.Words.{is_finished_by, AreEnding, can_send, ends_alone, is_finished_before, place_at}
+use Rattle.tomex_cycle.proofs.Words.{Pools, AreBusy, Station, has, IsInIssueOrder, ◌||◌, IsUpTo}
+use Rattle.tomex_cycle.proofs.Places.{is_vacant, vacant, least_test, held_place}
 use Rattle.tomex_cycle.proofs.Totals.{reach}
 use Rattle.tomex_cycle.proofs.Serving.{AreServed, Serves, goes_at, picked_goes}
 use Rattle.tomex_cycle.proofs.Orders.{order_is}
 use Rattle.tomex_cycle.proofs.StartsPicked.{all_alone}
 use Rattle.tomex_cycle.proofs.Truth.{or_false, and_false}
+use Rattle.tomex_cycle.proofs.Held.{ShowsPart, shows_part, held_here, older_shown}
+use Rattle.tomex_cycle.proofs.Parts.{older_up_to}
 
 -- whether a step ends in the cycle that has its station in the place
 abbrev pub ends_in : ℕ → List Done → ℕ → Bool
@@ -54,17 +54,17 @@ last_is : (t u end : ℕ) → u ≡ t + 1 → t < end → nat_le end u ≡ (end 
 last_is t u end e l = grind (arith, nat_tests)
 
 -- whether a busy step ends, as its station shows it
-one_ends : (i : Loaded) {config : Configuration} (t u p : ℕ) (d : Done) (older : List Done) → IsWithinLimits config
-    → AreTimed config (d ∷ older) → place_of d ≡ Some p → u ≡ t + 1 → t < d.at.end
+one_ends : {i : Loaded} {config : Configuration} {s : ℕ} (t u p : ℕ) (d : Done) (older : List Done)
+    → IsUpTo i config s (d ∷ older) → place_of d ≡ Some p → u ≡ t + 1 → t < d.at.end
     → (sends_in u d || ends_alone u (Some (station_of i (clocks u u t) d older))) ≡ (d.at.end == u)
-one_ends i {config} t u p d older good timed place next late =
-    let l : d.at.start ≤ d.at.finish = (reach d older good timed).order in
+one_ends {config = config} t u p d older up place next late =
+    let l : d.at.start ≤ d.at.finish = (reach d older up.lawful up.timed).order in
     elim (cases_Bool (is_some (step_dest d.step))) [
       | inl dest ↦ rw dest (or_false (d.at.end == u))
       | inr dest ↦
           let clause = end_clause (step_pool d.step) d.at.station p (d.at.end ≡ d.at.issue)
           (IsLeast (can_end config older d.at.finish) d.at.end) (d.at.end ≡ d.at.finish)
-          (is_some (step_dest d.step)) place timed.0.end in
+          (is_some (step_dest d.step)) place up.timed.0.end in
           let same : d.at.end ≡ d.at.finish = clause_false (IsLeast (can_end config older d.at.finish) d.at.end)
           (d.at.end ≡ d.at.finish) (is_some (step_dest d.step)) dest clause in
           let done : is_finished_by (if nat_le d.at.start u then Some d.at.finish else None) u ≡ (d.at.end == u) =
@@ -73,16 +73,16 @@ one_ends i {config} t u p d older good timed place next late =
     ]
 
 -- whether it sends: the recurrence's test
-one_sends : {config : Configuration} (t u p : ℕ) (d : Done) (older : List Done) → IsWithinLimits config
-    → AreTimed config (d ∷ older) → place_of d ≡ Some p → u ≡ t + 1 → t < d.at.end
+one_sends : {i : Loaded} {config : Configuration} {s : ℕ} (t u p : ℕ) (d : Done) (older : List Done)
+    → IsUpTo i config s (d ∷ older) → place_of d ≡ Some p → u ≡ t + 1 → t < d.at.end
     → sends_in u d ≡ ((is_some (step_dest d.step) && nat_lt d.at.finish u) && nat_lt (count_by (sends_in u) older)
     config.buses)
-one_sends {config} t u p d older good timed place next late = elim (cases_Bool (is_some (step_dest d.step))) [
+one_sends {config = config} t u p d older up place next late = elim (cases_Bool (is_some (step_dest d.step))) [
   | inr dest ↦ rw dest refl
   | inl dest ↦
       let clause = end_clause (step_pool d.step) d.at.station p (d.at.end ≡ d.at.issue)
       (IsLeast (can_end config older d.at.finish) d.at.end) (d.at.end ≡ d.at.finish) (is_some (step_dest d.step))
-      place timed.0.end in
+      place up.timed.0.end in
       let least = clause_true (IsLeast (can_end config older d.at.finish) d.at.end) (d.at.end ≡ d.at.finish)
       (is_some (step_dest d.step)) dest clause in
       let test = least_test (can_end config older d.at.finish) d.at.end u least (omega arith) in
@@ -100,54 +100,36 @@ no_dest : {config : Configuration} (d : Done) (older : List Done) → IsWithinLi
     → place_of d ≡ None → is_some (step_dest d.step) ≡ false
 no_dest d older good timed e = grind (arith, nat_tests)
 
--- a place that is held is one of the 96, and the state shows the station
-pub slot_here : (i : Loaded) (config : Configuration) (t u p : ℕ) (st : Pools) (h newer : List Done) (d : Done)
-    (older : List Done) → IsWithinLimits config → AreTimed config h → AreIssuedBy u h → u ≡ t + 1
-    → ShowsStations i (clocks u u t) h st → h ≡ newer ++ (d ∷ older) → place_of d ≡ Some p → t < d.at.end
-    → (p < 96) × (slice_index_or st.slots p None ≡ Some (station_of i (clocks u u t) d older))
-slot_here i config t u p st h newer d older good timed issued next shown e place late =
-    let here : AreTimed config (newer ++ (d ∷ older)) = rw e at timed in
-    let by : AreIssuedBy u (newer ++ (d ∷ older)) = rw e at issued in
-    let part : AreTimed config (d ∷ older) = timed_part config newer (d ∷ older) here in
-    let held : holds_place t p d ≡ true = rw (place, lt-ltb t d.at.end late, eq-eqb p p refl) refl in
-    let small : p < 96 = place_low (step_pool d.step) d.at.station p (low config (d ∷ older) good part).0 place in
-    let there = station_here i (clocks u u t) newer d older p good here (rw next at by) held in
-    (small, shown.slots p small ∙ (ap (λ xs. station_at i (clocks u u t) xs p) e ∙ there))
-
 -- the busy steps whose results are ready are served by the recurrence
-send_serves : {i : Loaded} {config : Configuration} (t u ready : ℕ) {st : Pools} {h : List Done} (newer : List Done)
-    (d : Done) (older : List Done) → IsWithinLimits config → AreTimed config h → AreIssuedBy u h → u ≡ t + 1
-    → ShowsStations i (clocks u u t) h st → AreBusy st.slots st.busy st.issue_numbers
-    → ((x : ℕ) → x < 128 → has ready x ≡ (has st.busy x && can_send u (slice_index_or st.slots x None)))
-    → h ≡ newer ++ (d ∷ older) → Serves t config.buses ready (sends_in u) d older
-send_serves {i} {config} t u ready {st} {h} newer d older good timed issued next shown filled said e =
-    let part : AreTimed config (d ∷ older) = timed_part config newer (d ∷ older) (rw e at timed) in
-    record {
-      idle = λ l. let k : d.at.end ≤ t = ltb-false _ _ l in
-          rw (ne_eqb d.at.end u (λ (z : d.at.end ≡ u). absurd (omega arith))) (and_false (is_some (step_dest d.step)));
-      nowhere = λ none. rw (no_dest d older good part none) refl;
-      ready = λ x held.
-          let two = and_parts (is_number (place_of d) x) (nat_lt t d.at.end) held in
-          let late : t < d.at.end = ltb-true _ _ two.1 in
-          let place : place_of d ≡ Some x = number_is_some (place_of d) x two.0 in
-          let there = slot_here i config t u x st h newer d older good timed issued next shown e place late in
-          let l : d.at.start ≤ d.at.finish = (reach d older good part).order in
-          let busy : has st.busy x ≡ true = filled.each x (omega arith) ∙ ap is_some there.1 in
-          one_sends t u x d older good part place next late
-          ∙ sym (ap (λ b. b && nat_lt (count_by (sends_in u) older) config.buses) (said x (omega arith)
-          ∙ rw (busy, there.1, before_is u d.at.start d.at.finish l) refl));
-    }
-
-all_send : (i : Loaded) (config : Configuration) (t u ready : ℕ) (st : Pools) (h newer part : List Done)
-    → IsWithinLimits config → AreTimed config h → AreIssuedBy u h → u ≡ t + 1 → ShowsStations i (clocks u u t) h st
+send_serves : {i : Loaded} {config : Configuration} {s t u : ℕ} (ready : ℕ) {st : Pools} (d : Done) (older : List Done)
+    → IsUpTo i config s (d ∷ older) → u ≡ t + 1 → ShowsPart i (clocks u u t) st (d ∷ older)
     → AreBusy st.slots st.busy st.issue_numbers
-    → ((x : ℕ) → x < 128 → has ready x ≡ (has st.busy x && can_send u (slice_index_or st.slots x None))) → h ≡ newer
-    ++ part → AreServed t config.buses ready (sends_in u) part
-all_send i config t u ready st h newer [] good timed issued next shown filled said e = tt
-all_send i config t u ready st h newer (d ∷ older) good timed issued next shown filled said e = (
-  send_serves t u ready newer d older good timed issued next shown filled said e,
-  all_send i config t u ready st h (newer ++ (d ∷ [])) older good timed issued next shown filled said
-      (e ∙ sym (append_assoc newer (d ∷ []) older)),
+    → ((x : ℕ) → x < 128 → has ready x ≡ (has st.busy x && can_send u (slice_index_or st.slots x None)))
+    → Serves t config.buses ready (sends_in u) d older
+send_serves {config = config} {t = t} {u} ready {st} d older up next shown filled said = record {
+  idle = λ l. let k : d.at.end ≤ t = ltb-false _ _ l in
+      rw (ne_eqb d.at.end u (λ (z : d.at.end ≡ u). absurd (omega arith))) (and_false (is_some (step_dest d.step)));
+  nowhere = λ none. rw (no_dest d older up.lawful up.timed none) refl;
+  ready = λ x held.
+      let late : t < d.at.end = ltb-true _ _ (and_parts (is_number (place_of d) x) (nat_lt t d.at.end) held).1 in
+      let there = held_here shown x held in
+      let small : x < 96 = there.small in
+      let l : d.at.start ≤ d.at.finish = (reach d older up.lawful up.timed).order in
+      let busy : has st.busy x ≡ true = filled.each x (omega arith) ∙ ap is_some there.slot in
+      one_sends t u x d older up (held_place t x d held) next late
+      ∙ sym (ap (λ b. b && nat_lt (count_by (sends_in u) older) config.buses) (said x (omega arith)
+      ∙ rw (busy, there.slot, before_is u d.at.start d.at.finish l) refl));
+}
+
+all_send : {i : Loaded} {config : Configuration} {s t u : ℕ} (ready : ℕ) {st : Pools} (part : List Done)
+    → IsUpTo i config s part → u ≡ t + 1 → ShowsPart i (clocks u u t) st part
+    → AreBusy st.slots st.busy st.issue_numbers
+    → ((x : ℕ) → x < 128 → has ready x ≡ (has st.busy x && can_send u (slice_index_or st.slots x None)))
+    → AreServed t config.buses ready (sends_in u) part
+all_send ready [] up next shown filled said = tt
+all_send ready (d ∷ older) up next shown filled said = (
+  send_serves ready d older up next shown filled said,
+  all_send ready older (older_up_to up) next (older_shown shown) filled said,
 )
 
 pub idle_ends : (t u x : ℕ) (h : List Done) → u ≡ t + 1 → is_vacant t x h ≡ true → ends_in u h x ≡ false
@@ -163,20 +145,17 @@ idle_ends t u x (d ∷ older) e free = elim (cases_Bool (is_number (place_of d) 
 ]
 
 -- steps that send and steps that end without a result end in the cycle
-both_end : (i : Loaded) {config : Configuration} (t u x : ℕ) (h : List Done) → IsWithinLimits config → AreTimed config h
-    → AreIssuedBy u h → u ≡ t + 1
+both_end : {i : Loaded} {config : Configuration} (t u x : ℕ) (h : List Done) → IsUpTo i config u h → u ≡ t + 1
     → (goes_at t (sends_in u) h x || ends_alone u (station_at i (clocks u u t) h x)) ≡ ends_in u h x
-both_end i t u x [] good timed issued next = refl
-both_end i t u x (d ∷ older) good timed issued next =
-    let before = both_end i t u x older good timed.1 issued.1 next in
+both_end t u x [] up next = refl
+both_end t u x (d ∷ older) up next =
+    let before = both_end t u x older (older_up_to up) next in
     elim (cases_Bool (holds_place t x d)) [
       | inl held ↦
           let two = and_parts (is_number (place_of d) x) (nat_lt t d.at.end) held in
-          let place : place_of d ≡ Some x = number_is_some (place_of d) x two.0 in
-          let late : t < d.at.end = ltb-true _ _ two.1 in
-          let free = vacant d older t x good timed (let l : d.at.issue ≤ u = issued.0 in omega arith) two.0 in
-          rw (held, two.0, idle_ends t u x older next free) (one_ends i t u x d older good timed place next late
-          ∙ sym (or_false (d.at.end == u)))
+          let free = vacant d older t x up (omega arith) two.0 in
+          rw (held, two.0, idle_ends t u x older next free) (one_ends t u x d older up (held_place t x d held) next
+          (ltb-true _ _ two.1) ∙ sym (or_false (d.at.end == u)))
       | inr held ↦ elim (cases_Bool (is_number (place_of d) x)) [
         | inr at ↦ rw (held, at) before
         | inl at ↦
@@ -192,17 +171,16 @@ and_alone None u = refl
 and_alone (Some s) u = refl
 
 -- the places that end are those whose steps end
-pub ending_is : {i : Loaded} {config : Configuration} (t : ℕ) {u : ℕ} (x : ℕ) {st : Pools} {h : List Done} {ending : ℕ}
-    → IsWithinLimits config → AreTimed config h → AreIssuedBy u h → u ≡ t + 1 → ShowsStations i (clocks u u t) h st
+pub ending_is : {i : Loaded} {config : Configuration} {t u : ℕ} (x : ℕ) {st : Pools} {h : List Done} {ending : ℕ}
+    → IsUpTo i config u h → u ≡ t + 1 → ShowsStations i (clocks u u t) h st
     → AreBusy st.slots st.busy st.issue_numbers → AreEnding st config.buses u ending → x < 96
     → has ending x ≡ ends_in u h x
-ending_is {i} {config} t {u} x {st} {h} good timed issued next shown filled ends l =
-    let more : AreIssuedBy (t + 1) h = rw next at issued in
-    let by : IsInIssueOrder st.busy st.issue_numbers (order_of t h) = order_is good timed more shown filled in
-    let sends : has ends.sending x ≡ goes_at t (sends_in u) h x = picked_goes t (sends_in u) h by (λ y m k.
-    (and_parts (has st.busy y) (can_send u (slice_index_or st.slots y None)) (sym (ends.are_unsent y m) ∙ k)).0)
-    ends.sent (all_send i config t u ends.unsent st h [] h good timed issued next shown filled ends.are_unsent refl)
-    (all_alone t (sends_in u) h good timed more) x (omega arith) in
+ending_is {t = t} {u} x {st} {h} up next shown filled ends l =
+    let by : IsInIssueOrder st.busy st.issue_numbers (order_of t h) = order_is up (omega arith) shown filled in
+    let sends : has ends.sending x ≡ goes_at t (sends_in u) h x = picked_goes t (sends_in u) h by (λ y m k. (and_parts
+    (has st.busy y) (can_send u (slice_index_or st.slots y None)) (sym (ends.are_unsent y m) ∙ k)).0) ends.sent
+    (all_send ends.unsent h up next (shows_part up (omega arith) shown) filled ends.are_unsent)
+    (all_alone t (sends_in u) h up (omega arith)) x (omega arith) in
     let alone = ap (λ b. b && ends_alone u (slice_index_or st.slots x None)) (filled.each x (omega arith))
     ∙ (and_alone (slice_index_or st.slots x None) u ∙ ap (ends_alone u) (shown.slots x l)) in
-    ends.all x (omega arith) ∙ (rw (sends, alone) (both_end i t u x h good timed issued next))
+    ends.all x (omega arith) ∙ (rw (sends, alone) (both_end t u x h up next))

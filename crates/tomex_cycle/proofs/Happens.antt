@@ -1,21 +1,19 @@
 -- What a phase or a station shows is an event of the cycle.
 use Rattle.std.proofs.Common.{ℕ, ◌+◌, ◌^◌, ◌<◌, ◌≤◌, ◌≡◌, ◌∙◌, Bool, true, false, arith, refl, List, [], ◌∷◌, ◌++◌}
-use Rattle.std.proofs.Common.{Option, Some, None, ap, sym, inl, inr, ◌⊎◌, append_assoc, slice_index_or, length, max}
+use Rattle.std.proofs.Common.{Option, Some, None, ap, sym, inl, inr, ◌⊎◌, slice_index_or, length, max}
 use Rattle.std.specs.Int.{trailing_zeros}
 use Rattle.tomex_cycle.proofs.Words.{◌≢◌, nat_lt, nat_le, ◌&&◌, ◌==◌, if◌then◌else◌, is_some, not, w128, nat_tests}
 use Rattle.tomex_cycle.proofs.Words.{bit_at-trailing_zeros, get_or_past, cases_Bool, both_ways, and_parts, eq-eqb}
-use Rattle.tomex_cycle.proofs.Words.{eqb-true, ne_eqb, ltb-true, ltb-false, Loaded, Configuration, IsWithinLimits}
-use Rattle.tomex_cycle.proofs.Words.{is_number, j_of, step_pool, step_unit, Field, Value, Unread, Done, Times, cycle_of}
-use Rattle.tomex_cycle.proofs.Words.{greatest_end, is_memory, last_address, AreTimed, field_of, has, has_one, AreDone}
-use Rattle.tomex_cycle.proofs.Words.{AreEnding, finishes, events_in, IsSnapshot, IsYetToIssue, MakesStarts}
-use Rattle.tomex_cycle.proofs.Words.{IsInIssueOrder, Fetch, Bytes, Fault, RegStatus, AreIssuedBy, IsHistory}
-use Rattle.tomex_cycle.proofs.Words.{first_timed, RunEndsAfter, IsStarting, Clocks, clocks, holds_place, order_of}
-use Rattle.tomex_cycle.proofs.Words.{place_of, station_at, station_of, ShowsStations, has_base, is_value, is_there}
-use Rattle.tomex_cycle.proofs.Words.{AreBusy, Pools, Station}
+use Rattle.tomex_cycle.proofs.Words.{eqb-true, ne_eqb, ltb-true, ltb-false, Loaded, Configuration, is_number, j_of}
+use Rattle.tomex_cycle.proofs.Words.{step_unit, Field, Value, Unread, Done, Times, cycle_of, greatest_end, is_memory}
+use Rattle.tomex_cycle.proofs.Words.{field_of, has, has_one, AreDone, AreEnding, finishes, events_in, IsSnapshot}
+use Rattle.tomex_cycle.proofs.Words.{IsYetToIssue, IsInIssueOrder, Fault, AreIssuedBy, first_timed, RunEndsAfter}
+use Rattle.tomex_cycle.proofs.Words.{IsStarting, Clocks, clocks, holds_place, order_of, place_of, station_at}
+use Rattle.tomex_cycle.proofs.Words.{station_of, ShowsStations, has_base, is_value, is_there, AreBusy, Pools, Station}
+use Rattle.tomex_cycle.proofs.Words.{Core, IsNextCycle, IsUpTo, Result}
 use Rattle.tomex_timing.specs.declared.tables.Field.TheVariants.{Waits}
 use Rattle.tomex_cycle.specs.Events.{events_of}
 use Rattle.tomex_cycle.specs.Phases.{AddressHappens, EndsHappen, StartsHappen}
-use Rattle.tomex_cycle.proofs.Cycles.{IsUnderWay}
 use Rattle.tomex_cycle.proofs.Shifting.{run_split}
 use Rattle.tomex_cycle.proofs.Orders.{order_is}
 use Rattle.tomex_cycle.proofs.Addresses.{waiting_is}
@@ -23,12 +21,14 @@ use Rattle.tomex_cycle.proofs.IssueOrder.{next_address, where_base_is_there}
 use Rattle.tomex_cycle.proofs.AddressChosen.{chosen, holds_by, none_waits, not_le, or_else, test_is, waits_for_address}
 use Rattle.tomex_cycle.proofs.EndsFetch.{ending_low}
 use Rattle.tomex_cycle.proofs.EndsPass.{ending_is, ends_in}
-use Rattle.tomex_cycle.proofs.Fields.{timed_part, issued_part}
-use Rattle.tomex_cycle.proofs.Places.{low, place_low, station_here}
+use Rattle.tomex_cycle.proofs.Places.{low}
 use Rattle.tomex_cycle.proofs.Quiet.{AllQuiet}
-use Rattle.tomex_cycle.proofs.Runs.{rest_to, run_history}
+use Rattle.tomex_cycle.proofs.Runs.{rest_to, issued_up_to}
 use Rattle.tomex_cycle.proofs.StartsPicked.{starting_is, starts_at}
-use Rattle.tomex_cycle.proofs.Totals.{issued_more}
+use Rattle.tomex_cycle.proofs.Cycles.{AreMade, under_way}
+use Rattle.tomex_cycle.specs.Views.{front}
+use Rattle.tomex_cycle.proofs.Held.{ShowsPart, shows_part, held_here, older_shown}
+use Rattle.tomex_cycle.proofs.Parts.{older_up_to}
 
 -- One event.
 
@@ -95,13 +95,13 @@ member_of set fits some =
     let small : trailing_zeros w128 set < 128 = grind (arith, nat_tests) in
     (trailing_zeros w128 set, small, here)
 
-pub start_happens : {i : Loaded} {config : Configuration} (t : ℕ) {u : ℕ} {st : Pools} {h : List Done} {starting : ℕ}
-    → IsHistory i config h → AreIssuedBy t h → ShowsStations i (clocks t t t) h st
+pub start_happens : {i : Loaded} {config : Configuration} {t u : ℕ} {st : Pools} {h : List Done} {starting : ℕ}
+    → IsUpTo i config t h → ShowsStations i (clocks t t t) h st
     → AreBusy st.slots st.busy st.issue_numbers → IsStarting config st u starting → u ≡ t + 1 → starting < 2 ^ 128
     → starting ≢ 0 → 0 < events_in u h
-start_happens t {u} {h} {starting} past issued shown filled begins e fits some =
+start_happens {t = t} {u} {h = h} {starting} up shown filled begins e fits some =
     let x = member_of starting fits some in
-    starts_happen t u x.0 h (sym (starting_is t x.0 past.lawful past.timed issued shown filled begins e x.1) ∙ x.2)
+    starts_happen t u x.0 h (sym (starting_is x.0 up shown filled begins e x.1) ∙ x.2)
 
 -- Ends.
 
@@ -115,13 +115,13 @@ ends_happen u x (d ∷ h) e = elim (cases_Bool (is_number (place_of d) x && (d.a
   | inr k ↦ let more : 0 < events_in u h = ends_happen u x h (rw k at e) in omega arith
 ]
 
-pub end_happens : {i : Loaded} {config : Configuration} (t u : ℕ) {st : Pools} {h : List Done} (ending : ℕ)
-    → IsHistory i config h → AreIssuedBy u h → ShowsStations i (clocks u u t) h st
+pub end_happens : {i : Loaded} {config : Configuration} {t u : ℕ} {st : Pools} {h : List Done} (ending : ℕ)
+    → IsUpTo i config u h → ShowsStations i (clocks u u t) h st
     → AreBusy st.slots st.busy st.issue_numbers → AreEnding st config.buses u ending → u ≡ t + 1 → ending < 2 ^ 128
     → ending ≢ 0 → 0 < events_in u h
-end_happens {config} t u {st} {h} ending past issued shown filled ends e fits some =
+end_happens {config = config} {u = u} {st} {h} ending up shown filled ends e fits some =
     let x = member_of ending fits some in
-    ends_happen u x.0 h (sym (ending_is t x.0 past.lawful past.timed issued e shown filled ends
+    ends_happen u x.0 h (sym (ending_is x.0 up e shown filled ends
     (ending_low st config.buses u ending ends filled x.0 x.1 x.2)) ∙ x.2)
 
 -- Finishes.
@@ -179,14 +179,12 @@ there_by (Value v) e = refl
 there_by (Waits tag) e = absurd (cc)
 there_by Unread e = refl
 
-pub chosen_happens : (i : Loaded) (config : Configuration) (t u x : ℕ) (st : Pools) (h newer part : List Done)
-    → IsWithinLimits config → AreTimed config h → AreIssuedBy t h → u ≡ t + 1 → ShowsStations i (clocks u t t) h st
-    → h ≡ newer ++ part
-    → chosen t part ≡ Some x → has_base (slice_index_or st.slots x None) ≡ true → 0 < events_in u part
-chosen_happens i config t u x st h newer [] good timed issued e shown split c base = absurd (cc)
-chosen_happens i config t u x st h newer (d ∷ older) good timed issued e shown split c base =
-    elder (chosen t older) refl c (λ k. chosen_happens i config t u x st h (newer ++ (d ∷ [])) older good timed issued e
-    shown (split ∙ sym (append_assoc newer (d ∷ []) older)) k base)
+pub chosen_happens : {i : Loaded} {config : Configuration} {t u x : ℕ} {st : Pools} (part : List Done)
+    → IsUpTo i config t part → u ≡ t + 1 → ShowsPart i (clocks u t t) st part → chosen t part ≡ Some x
+    → has_base (slice_index_or st.slots x None) ≡ true → 0 < events_in u part
+chosen_happens [] up e shown c base = absurd (cc)
+chosen_happens {t = t} {u} {x} (d ∷ older) up e shown c base =
+    elder (chosen t older) refl c (λ k. chosen_happens older (older_up_to up) e (older_shown shown) k base)
   where
     elder : (o : Option ℕ) → chosen t older ≡ o
         → or_else o (if waits_for_address t d then place_of d else None) ≡ Some x
@@ -198,21 +196,11 @@ chosen_happens i config t u x st h newer (d ∷ older) good timed issued e shown
     elder None f c again = elim (cases_Bool (waits_for_address t d)) [
       | inr w ↦ let g : None ≡ Some x = rw w at c in absurd (cc)
       | inl w ↦
-          let place : place_of d ≡ Some x = rw w at c in
           let a = and_parts (nat_lt t d.at.end) (is_memory d.step && not (nat_le (cycle_of d.at.address) t)) w in
           let b = and_parts (is_memory d.step) (not (nat_le (cycle_of d.at.address) t)) a.1 in
           let late : t < cycle_of d.at.address = not_le (cycle_of d.at.address) t b.1 in
-          let here : AreTimed config (newer ++ (d ∷ older)) = rw split at timed in
-          let by : AreIssuedBy t (newer ++ (d ∷ older)) = rw split at issued in
-          let part : AreTimed config (d ∷ older) = timed_part config newer (d ∷ older) here in
-          let mine : AreIssuedBy t (d ∷ older) = issued_part t newer (d ∷ older) by in
-          let last : last_address older ≤ t = none_waits t older good part.1 mine.1 f in
-          let test = test_is t u d part.0 part.1 mine e b.0 last late in
-          let held : holds_place t x d ≡ true = holds_by t x d place w in
-          let small : x < 96 = place_low (step_pool d.step) d.at.station x (low config (d ∷ older) good part).0 place in
-          let there = station_here i (clocks u t t) newer d older x good here
-          (issued_more t (t + 1) (newer ++ (d ∷ older)) (omega arith) by) held in
-          let slot = shown.slots x small ∙ (ap (λ xs. station_at i (clocks u t t) xs x) split ∙ there) in
+          let test = test_is t u d up e b.0 (none_waits t older (older_up_to up) f) late in
+          let slot = (held_here shown x (holds_by t x d (rw w at c) w)).slot in
           let value : is_value (field_of t older (j_of d.step)) ≡ true = ap has_base (sym slot) ∙ base in
           let at : cycle_of d.at.address ≡ u =
           eqb-true _ _ (sym test ∙ there_by (field_of t older (j_of d.step)) value) in
@@ -224,11 +212,11 @@ chosen_happens i config t u x st h newer (d ∷ older) good timed issued e shown
 pub address_happens : (next x : ℕ) (old : Pools) → AreBusy old.slots old.busy old.issue_numbers
     → ((order : List ℕ) → IsInIssueOrder old.busy old.issue_numbers order → Some x ≡ next_address old.slots order)
     → AddressHappens next old
-address_happens next x old filled some i config h t e past issued shown =
-    let by = order_is past.lawful past.timed (issued_more t (t + 1) h (omega arith) issued) shown filled in
-    let waits = waiting_is i config t next old h [] h past.lawful past.timed issued shown refl in
-    let found = here old.slots (chosen t h) (rw waits at (some (order_of t h) by)) in
-    chosen_happens i config t next x old h [] h past.lawful past.timed issued e shown refl found.0 found.1
+address_happens next x old filled some i config h t e up shown =
+    let by = order_is up (omega arith) shown filled in
+    let part = shows_part up (omega arith) shown in
+    let found = here old.slots (chosen t h) (rw (waiting_is h up part) at (some (order_of t h) by)) in
+    chosen_happens h up e part found.0 found.1
   where
     here : (slots : List (Option Station)) (o : Option ℕ) → Some x ≡ where_base_is_there slots o → (o ≡ Some x)
         × (has_base (slice_index_or slots x None) ≡ true)
@@ -242,30 +230,23 @@ run_happens {config} {i} {n} k u run l some =
     let more = events_older u part.0 (first_timed config i k) in
     rw part.1 (omega arith)
 
--- a cycle whose phases report something has an event
-pub cycle_happens : {i : Loaded} {config : Configuration} {n t next count c : ℕ} {fault : Option Fault}
-    {any addressed ended : Bool} {st0 st1 st3 : Pools} {rg0 rg1 : RegStatus} {ft0 ft1 : Fetch} {m0 m1 : Bytes}
-    → MakesStarts config next st0 m0 fault st1 m1 → (any ≡ true → StartsHappen config next st0)
-    → (addressed ≡ true → AddressHappens next st1) → (ended ≡ true → EndsHappen config next st3)
-    → IsUnderWay i config n t next count c fault st3 rg1 ft1 m1 → RunEndsAfter i config n → next ≡ t + 1
-    → IsSnapshot i config n t count st0 rg0 ft0 m0
-    → (any ≡ true) ⊎ ((addressed ≡ true) ⊎ ((c ≢ count) ⊎ (ended ≡ true)))
+-- something happens in a cycle if a phase reports it
+pub cycle_happens : {i : Loaded} {config : Configuration} {n t next : ℕ} {old new : Core} {fault : Option Fault}
+    {result : Result Bool Fault} (made : AreMade i config next old fault result new) → IsNextCycle i config n t next
+    → IsSnapshot i config n t old → StartsHappen config next old.front.pools
+    ⊎ (AddressHappens next made.started ⊎ ((new.issued ≢ old.issued) ⊎ EndsHappen config next new.front.pools))
     → 0 < events_in next (first_timed config i (n + 1))
-cycle_happens {i} {config} {n} {t} {next} {count} {c} starts a b d on run e old which =
-    let few : count ≤ n + 1 = old.issue.few in
-    let h0 : IsHistory i config (first_timed config i count) = run_history count run few in
+cycle_happens {i} {config} {n} {t} {next} {old} {new} made at before which =
+    let h : List Done = first_timed config i old.issued in
+    let up : IsUpTo i config t h = issued_up_to at.run before.issue in
+    let on = under_way made at before in
     elim which [
-      | inl k ↦ run_happens count next run few (a k i (first_timed config i count) t e h0 old.issue.issued
-          old.issue.slots)
-      | inr other ↦ elim other [
-        | inl k ↦
-            let made = starts i (first_timed config i count) t e h0 old.issue.issued old.issue.slots old.bytes in
-            run_happens count next run few (b k i config (first_timed config i count) t e h0 old.issue.issued made.1)
-        | inr other ↦ elim other [
-          | inl k ↦ run_happens c next run on.after.few (issue_happens t next count c run e old.issue.next on.low
-              on.after.few k on.after.issued)
-          | inr k ↦ run_happens c next run on.after.few (d k i (first_timed config i c) t e
-              (run_history c run on.after.few) on.after.issued on.after.slots)
-        ]
-      ]
+      | inl starts ↦ run_happens old.issued next at.run before.issue.few
+          (starts i h t at.next up before.issue.shown.slots)
+      | inr (inl address) ↦ run_happens old.issued next at.run before.issue.few (address i config h t at.next up
+          (made.starts i h t at.next up before.issue.shown.slots before.bytes).1)
+      | inr (inr (inl more)) ↦ run_happens new.issued next at.run on.after.few (issue_happens t next old.issued
+          new.issued at.run at.next before.issue.next on.low on.after.few more on.after.issued)
+      | inr (inr (inr ends)) ↦ run_happens new.issued next at.run on.after.few (ends i (first_timed config i new.issued)
+          t at.next (issued_up_to at.run on.after) on.after.shown.slots)
     ]

@@ -1,22 +1,22 @@
 -- What the issue of a step makes of the stations, the register status and fetch.
-use Rattle.std.proofs.Common.{ℕ, ◌+◌, ◌<◌, ◌≤◌, ◌≡◌, ◌∙◌, Bool, true, arith, refl, List, ◌∷◌, Option, Some, None}
-use Rattle.std.proofs.Common.{ap, sym, inl, inr, length, slice_index_or, slice_set}
+use Rattle.std.proofs.Common.{ℕ, ◌+◌, ◌<◌, ◌≤◌, ◌≡◌, ◌∙◌, Bool, true, arith, refl, List, ◌∷◌, Option, Some, None, ap}
+use Rattle.std.proofs.Common.{sym, inl, inr, length, slice_index_or, slice_set}
 use Rattle.tomex_cycle.proofs.Words.{nat_lt, nat_le, ◌&&◌, ◌==◌, if◌then◌else◌, slice_index, option_map, IfSome}
 use Rattle.tomex_cycle.proofs.Words.{nat_tests, MatchOption, cases_Bool, ltb-true, lt-ltb, lt-leb, and_parts, eqb-true}
 use Rattle.tomex_cycle.proofs.Words.{eqb-false, get_or-set_same, get_or-set_other, length-set, Loaded, Configuration}
 use Rattle.tomex_cycle.proofs.Words.{IsWithinLimits, Form, PoolId, Instruction, form_of, sources_at, sources_of, Step}
 use Rattle.tomex_cycle.proofs.Words.{end_of, result_of, byte_after, register_after, address_of, is_branch, is_in}
 use Rattle.tomex_cycle.proofs.Words.{is_number, j_of, k_of, operand, step_dest, step_pool, dest_needs_pool, Field, Tag}
-use Rattle.tomex_cycle.proofs.Words.{Done, cycle_of, is_memory, AreTimed, IsTimed, IsLeast, can_issue}
-use Rattle.tomex_cycle.proofs.Words.{is_free, field_of, tag_at, tag_of, unsent_tag, issue_from, Fetch, IsYetToIssue}
-use Rattle.tomex_cycle.proofs.Words.{first_timed, steps_in, Clocks, ShowsRegisters, ShowsStations, clocks, fetch_after}
-use Rattle.tomex_cycle.proofs.Words.{fetch_of, place_of, station_at, station_of, issue_number_at, place_at, new_station}
-use Rattle.tomex_cycle.proofs.Words.{Pools, operand_in, tags_with, RegStatus, Station}
-use Rattle.tomex_rvdec.specs.declared.pool.PoolId.TheVariants as pools
+use Rattle.tomex_cycle.proofs.Words.{Done, cycle_of, is_memory, AreTimed, IsTimed, IsLeast, can_issue, is_free}
+use Rattle.tomex_cycle.proofs.Words.{field_of, tag_at, tag_of, unsent_tag, issue_from, Fetch, IsYetToIssue, first_timed}
+use Rattle.tomex_cycle.proofs.Words.{steps_in, Clocks, ShowsRegisters, ShowsStations, clocks, fetch_after, fetch_of}
+use Rattle.tomex_cycle.proofs.Words.{place_of, station_at, station_of, issue_number_at, place_at, new_station, Pools}
+use Rattle.tomex_cycle.proofs.Words.{operand_in, tags_with, RegStatus, Station}
 use Rattle.tomex_rvexec.specs.History.{Follows}
 use Rattle.tomex_cycle.proofs.AddressChosen.{address_is}
 use Rattle.tomex_cycle.proofs.Cycles.{can_start_later}
 use Rattle.tomex_cycle.proofs.Totals.{reach}
+use Rattle.tomex_rvdec.specs.declared.pool.PoolId.TheVariants as pools
 
 -- The times of what issues lie after the cycle.
 
@@ -126,17 +126,17 @@ number_with x y n d h issue_numbers place small count same before = elim (cases_
   | inr e ↦ rw (place, e) (get_or-set_other issue_numbers x y n 0 (λ z. eqb-false x y e (sym z)) ∙ before)
 ]
 
-pub stations_with : {i : Loaded} {c : Clocks} (x n : ℕ) (d : Done) {h : List Done} {old : Pools} (new : Pools)
-    (s : Station) → ShowsStations i c h old → place_of d ≡ Some x → x < 96 → c.end < d.at.end → n ≡ length h
-    → s ≡ station_of i c d h → new.slots ≡ slice_set old.slots x (Some s)
-    → new.issue_numbers ≡ slice_set old.issue_numbers x n → ShowsStations i c (d ∷ h) new
-stations_with {i} {c} x n d {h} {old} new s shown place small late count_is same slots issue_numbers = record {
-  places = ap length slots ∙ (length-set old.slots x (Some s) ∙ shown.places);
-  slots = λ y l. ap (λ xs. slice_index_or xs y None) slots ∙ (set_slot old.slots x y s (omega arith)
-      ∙ (rw (same, shown.slots y l) refl ∙ sym (slot_with i c x y d h place late)));
-  order_count = ap length issue_numbers ∙ (length-set old.issue_numbers x n ∙ shown.order_count);
-  issue_numbers = λ y l. ap (λ xs. slice_index xs y) issue_numbers
-      ∙ number_with x y n d h old.issue_numbers place small shown.order_count count_is (shown.issue_numbers y l);
+pub stations_with : {i : Loaded} {c : Clocks} (x : ℕ) (d : Done) {h : List Done} {old new : Pools}
+    → ShowsStations i c h old → place_of d ≡ Some x → x < 96 → c.end < d.at.end
+    → new.slots ≡ slice_set old.slots x (Some (station_of i c d h))
+    → new.issue_numbers ≡ slice_set old.issue_numbers x (length h) → ShowsStations i c (d ∷ h) new
+stations_with {i} {c} x d {h} {old} shown place small late slots issue_numbers = record {
+  places = ap length slots ∙ (length-set old.slots x (Some (station_of i c d h)) ∙ shown.places);
+  slots = λ y l. ap (λ xs. slice_index_or xs y None) slots ∙ (set_slot old.slots x y (station_of i c d h) (omega arith)
+      ∙ (rw (shown.slots y l) refl ∙ sym (slot_with i c x y d h place late)));
+  order_count = ap length issue_numbers ∙ (length-set old.issue_numbers x (length h) ∙ shown.order_count);
+  issue_numbers = λ y l. ap (λ xs. slice_index xs y) issue_numbers ∙ number_with x y (length h) d h old.issue_numbers
+      place small shown.order_count refl (shown.issue_numbers y l);
 }
 
 none_place : (pool : Option PoolId) (station : Option ℕ) → pool ≡ None → tag_at pool station ≡ None

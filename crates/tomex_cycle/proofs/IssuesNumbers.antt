@@ -1,11 +1,8 @@
 -- The numbers of a pool's stations: which are free, and how many are held.
 use Rattle.std.proofs.Common.{ℕ, zero, suc, ◌+◌, ◌*◌, ◌<◌, ◌≤◌, ◌≡◌, Bool, true, false, arith, refl, List, [], ◌∷◌, sym}
-use Rattle.std.proofs.Common.{◌∙◌}
-use Rattle.std.proofs.Common.{Option, Some, None, ap, inl, inr}
+use Rattle.std.proofs.Common.{◌∙◌, Option, Some, None, ap, inl, inr}
 use Rattle.tomex_cycle.proofs.Words.{nat_lt, nat_le, ◌&&◌, not, count_by, is_none, MatchOption, list_all, cases_Bool}
-use Rattle.tomex_cycle.proofs.Words.{eqb-true}
-use Rattle.tomex_cycle.proofs.Words.{◌==◌}
-use Rattle.tomex_cycle.proofs.Words.{nat_tests, cases_order, lt-ltb, and_parts, sum_by-cons, Loaded}
+use Rattle.tomex_cycle.proofs.Words.{eqb-true, ◌==◌, nat_tests, cases_order, lt-ltb, and_parts, sum_by-cons, Loaded}
 use Rattle.tomex_cycle.proofs.Words.{Configuration, stations_of, PoolId, place_of_pool, is_in, is_number, step_pool}
 use Rattle.tomex_cycle.proofs.Words.{Done, AreTimed, IsLeast, least, has_station, is_free, is_held, least_same}
 use Rattle.tomex_cycle.proofs.Words.{issue_station, number_is, AreIssuedBy, clocks, holds_place, station_at}

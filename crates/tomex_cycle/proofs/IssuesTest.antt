@@ -1,12 +1,12 @@
 -- Whether the next step can issue in a cycle: fetch and the pool's stations say so.
 use Rattle.std.proofs.Common.{ℕ, ◌+◌, ◌<◌, ◌≤◌, ◌≡◌, ◌∙◌, Bool, true, false, arith, refl, List, [], ◌∷◌, Option, Some}
 use Rattle.std.proofs.Common.{None, sym, inl, inr}
-use Rattle.tomex_cycle.proofs.Words.{nat_lt, ◌&&◌, ◌||◌, not, Ok, cases_order, lt-ltb, nat_tests, and_parts, Loaded}
+use Rattle.tomex_cycle.proofs.Words.{nat_lt, ◌&&◌, not, Ok, cases_order, lt-ltb, nat_tests, and_parts, Loaded}
 use Rattle.tomex_cycle.proofs.Words.{Configuration, IsWithinLimits, EndKind, Step, instruction_at, end_of, next_pc_of}
 use Rattle.tomex_cycle.proofs.Words.{step_after, is_branch, step_pool, step_follows, Done, AreTimed}
 use Rattle.tomex_cycle.proofs.Words.{are_branches_finished, can_issue, can_issue_another, times_of, has_station}
 use Rattle.tomex_cycle.proofs.Words.{least_same, times_are, At, IsYetToIssue, AreIssuedBy, first_timed, steps_in}
-use Rattle.tomex_cycle.proofs.Words.{RunEndsAfter, fetch_after, fetch_of}
+use Rattle.tomex_cycle.proofs.Words.{RunEndsAfter, fetch_after, fetch_of, IsUpTo, ◌||◌}
 use Rattle.tomex_rvexec.specs.History.{Follows, pc_after}
 use Rattle.tomex_cycle.specs.declared.fetch.Fetch.TheVariants.{Waits}
 use Rattle.tomex_cycle.proofs.Runs.{step_is, steps_are}
@@ -49,11 +49,11 @@ can_from : (config : Configuration) (h : List Done) (x : Step) (u : ℕ) (b s : 
 can_from config h x u b s l slot e f = rw (lt-ltb 0 u l, slot, e, f) refl
 
 -- the test for issue in the cycle, if the width leaves one
-pub can_is : (config : Configuration) (h : List Done) (x : Step) (t u : ℕ) → AreTimed config h → AreIssuedBy u h → u ≡ t
-    + 1 → can_issue_another config h u ≡ true
+pub can_is : {i : Loaded} {config : Configuration} (t : ℕ) {u : ℕ} (h : List Done) (x : Step) → IsUpTo i config u h
+    → u ≡ t + 1 → can_issue_another config h u ≡ true
     → can_issue config h x u ≡ (not (is_waiting t h) && has_station config h (step_pool x) u)
-can_is config h x t u timed issued e slot =
-    can_from config h x u _ _ (omega arith) slot (branches_is config t u h timed issued e) refl
+can_is {config = config} t {u} h x up e slot =
+    can_from config h x u _ _ (omega arith) slot (branches_is config t u h up.timed up.issued e) refl
 
 -- what couldn't issue by t and can in the next cycle issues then
 pub issues_at : {config : Configuration} (h : List Done) (x : Step) (t u : ℕ) → IsWithinLimits config
@@ -62,11 +62,15 @@ pub issues_at : {config : Configuration} (h : List Done) (x : Step) (t u : ℕ) 
 issues_at {config} h x t u good timed e never can =
     least_same (can_issue config h x) _ u (times_are config h x good timed).issue (can, λ s l. never s (omega arith))
 
--- and what can't doesn't by then
-pub yet_more : (i : Loaded) (config : Configuration) (count t u : ℕ) → IsYetToIssue i config count t
-    → ((x : Step) → step_after i count ≡ Some x → can_issue config (first_timed config i count) x u ≡ false) → u ≡ t + 1
-    → IsYetToIssue i config count u
-yet_more i config count t u yet never e x is s l = elim (cases_order s u) [
+-- the next step can't issue in the cycle
+abbrev pub CanNotIssue : Loaded → Configuration → ℕ → ℕ → Type 0
+CanNotIssue i config count u =
+    (x : Step) → step_after i count ≡ Some x → can_issue config (first_timed config i count) x u ≡ false
+
+-- then it hasn't issued by then
+pub yet_more : (i : Loaded) (config : Configuration) (count : ℕ) {t u : ℕ} → IsYetToIssue i config count t
+    → CanNotIssue i config count u → u ≡ t + 1 → IsYetToIssue i config count u
+yet_more i config count {t} {u} yet never e x is s l = elim (cases_order s u) [
   | inl same ↦ rw same (never x is)
   | inr (inl less) ↦ yet x is s (omega arith)
   | inr (inr more) ↦ absurd (omega arith)

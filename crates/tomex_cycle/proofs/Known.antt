@@ -2,12 +2,12 @@
 -- only the cycle.
 use Rattle.std.proofs.Common.{ℕ, ◌+◌, ◌-◌, ◌*◌, ◌<◌, ◌≤◌, ◌≡◌, ◌∙◌, Bool, true, false, arith, refl, ap, sym, inl, inr}
 use Rattle.std.proofs.Common.{List, Option, Some, None, length, slice_index_or, slice_set, option_map, replicate}
-use Rattle.tomex_cycle.proofs.Words.{nat_lt, ◌==◌, ◌&&◌, ◌||◌, not, is_none, is_some, IsSome, and_right, both_ways}
-use Rattle.tomex_cycle.proofs.Words.{nat_tests, cases_Bool, eq-eqb, eqb-true, eqb-false, le-ltb, ltb-true, ltb-false}
-use Rattle.tomex_cycle.proofs.Words.{ne_eqb, get_or-replicate, get_or-set_same, get_or-set_other, get_or_past}
-use Rattle.tomex_cycle.proofs.Words.{length-set, dest_of, place_of_pool, PoolId, is_number, has, is_due, none_in}
-use Rattle.tomex_cycle.proofs.Words.{with_address, is_open, Station, Field, can_send, finishes, is_finished_before}
-use Rattle.tomex_cycle.proofs.Words.{IsTimetableOf, has_stayed, Finishes}
+use Rattle.tomex_cycle.proofs.Words.{nat_lt, ◌==◌, ◌&&◌, not, is_none, is_some, IsSome, and_right, both_ways, nat_tests}
+use Rattle.tomex_cycle.proofs.Words.{cases_Bool, eq-eqb, eqb-true, eqb-false, le-ltb, ltb-true, ltb-false, ne_eqb}
+use Rattle.tomex_cycle.proofs.Words.{get_or-replicate, get_or-set_same, get_or-set_other, get_or_past, length-set}
+use Rattle.tomex_cycle.proofs.Words.{dest_of, place_of_pool, PoolId, is_number, has, is_due, none_in, with_address}
+use Rattle.tomex_cycle.proofs.Words.{is_open, Station, Field, can_send, finishes, is_finished_before, IsTimetableOf}
+use Rattle.tomex_cycle.proofs.Words.{has_stayed, Finishes, ◌||◌}
 use Rattle.tomex_bus.specs.Wheel.{HasPut, IsEmpty, Lacks}
 use Rattle.tomex_cycle.proofs.Places.{pool_low}
 

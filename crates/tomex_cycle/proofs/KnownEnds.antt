@@ -1,19 +1,20 @@
 -- What is known of the finishes ahead once a cycle has ended: what was due is over or waits for a bus.
 use Rattle.std.proofs.Common.{ℕ, ◌+◌, ◌^◌, ◌<◌, ◌≤◌, ◌≡◌, ◌∙◌, Bool, true, false, arith, refl, ap, sym, inl, inr, List}
 use Rattle.std.proofs.Common.{Option, Some, None, length, slice_index_or, option_map}
-use Rattle.tomex_cycle.proofs.Words.{nat_le, nat_lt, ◌==◌, ◌≢◌, ◌&&◌, ◌||◌, not, is_some, and_parts, and_right}
-use Rattle.tomex_cycle.proofs.Words.{nat_tests, both_ways, cases_Bool, eqb-true, eqb-false, le-leb, leb-true, lt-leb}
-use Rattle.tomex_cycle.proofs.Words.{lt-ltb, ltb-true, ltb-false, get_or_past, dest_of, is_number, IsPicked}
-use Rattle.tomex_cycle.proofs.Words.{none_picked, has, is_due, none_in, hears, is_served, AreBusy, Pools, IsSetOf}
-use Rattle.tomex_cycle.proofs.Words.{writes, Station, AreDone, AreEnding, IsDoneBranch, after_ends, can_send}
-use Rattle.tomex_cycle.proofs.Words.{ends_alone, finishes, is_finished_by, is_finished_before, IsTimetableOf}
-use Rattle.tomex_cycle.proofs.Words.{HaveTurned, LeavesTimetable, has_stayed, Finishes}
-use Rattle.tomex_rvdec.specs.declared.pool.UnitId.TheVariants as units
+use Rattle.tomex_cycle.proofs.Words.{nat_le, nat_lt, ◌==◌, ◌≢◌, ◌&&◌, not, is_some, and_parts, and_right, nat_tests}
+use Rattle.tomex_cycle.proofs.Words.{both_ways, cases_Bool, eqb-true, eqb-false, le-leb, leb-true, lt-leb, lt-ltb}
+use Rattle.tomex_cycle.proofs.Words.{ltb-true, ltb-false, get_or_past, dest_of, is_number, IsPicked, none_picked, has}
+use Rattle.tomex_cycle.proofs.Words.{is_due, none_in, hears, is_served, AreBusy, Pools, IsSetOf, writes, Station}
+use Rattle.tomex_cycle.proofs.Words.{AreDone, AreEnding, IsDoneBranch, after_ends, can_send, ends_alone, finishes}
+use Rattle.tomex_cycle.proofs.Words.{is_finished_by, is_finished_before, IsTimetableOf, HaveTurned, LeavesTimetable}
+use Rattle.tomex_cycle.proofs.Words.{has_stayed, Finishes, ◌||◌}
 use Rattle.tomex_sets.proofs.Bits.{agreed, member_some}
 use Rattle.tomex_tags.proofs.Entering.{of_busy}
 use Rattle.tomex_cycle.proofs.Happens.{member_of}
 use Rattle.tomex_cycle.proofs.Known.{all_ahead}
 use Rattle.tomex_cycle.proofs.Truth.{or_cases}
+use Rattle.tomex_cycle.specs.Finishes.{AreTurned}
+use Rattle.tomex_rvdec.specs.declared.pool.UnitId.TheVariants as units
 
 pub all_due : {slots : List (Option Station)} {next due : ℕ} {f g : Finishes} → IsTimetableOf slots next f
     → HaveTurned f g due → AreDone slots next due
@@ -55,28 +56,56 @@ stayed_past {slots} x known = elim (cases_Bool (nat_lt x 96)) [
       let past : slice_index_or slots x None ≡ None = get_or_past slots x None (omega arith) in rw past refl
 ]
 
+-- the choice of what ends: results are sent, and what is due and no result ends too
+pub record IsChoice (st : Pools) (buses due unsent found sending ending : ℕ) : Type 0 where
+  pub silent : ℕ
+  pub results : (x : ℕ) → x < 128 → has found x ≡ (has due x && writes (slice_index_or st.slots x None))
+  pub picked : IsPicked unsent st.issue_numbers buses sending
+  pub others : (x : ℕ) → x < 128 → has silent x ≡ (has due x && not (has found x))
+  pub all : (x : ℕ) → has ending x ≡ (has sending x || has silent x)
+
+-- what is sent isn't unsent any more, and what is found is
+pub record HasSent (g : Finishes) (sending found : ℕ) (h : Finishes) : Type 0 where
+  pub wheel : h.wheel ≡ g.wheel
+  pub unsent : (x : ℕ) → x < 128 → has h.unsent x ≡ (has g.unsent x && not (has sending x) || has found x)
+
 -- the results of what is due
 pub with_results : (slots : List (Option Station)) (due writing found : ℕ) → IsSetOf writes slots writing
     → ((x : ℕ) → has found x ≡ (has due x && has writing x)) → (x : ℕ) → x < 128
     → has found x ≡ (has due x && writes (slice_index_or slots x None))
 with_results slots due writing found of both x l = both x ∙ ap (λ b. has due x && b) (of x l)
 
--- what ends of what is due has nothing to send
-pub are_ending : (st : Pools) (buses : ℕ) {next due : ℕ} (found sending silent ending : ℕ) {f g : Finishes}
-    → AreBusy st.slots st.busy st.issue_numbers → IsTimetableOf st.slots next f → HaveTurned f g due
-    → ((x : ℕ) → x < 128 → has found x ≡ (has due x && writes (slice_index_or st.slots x None)))
-    → IsPicked f.unsent st.issue_numbers buses sending
+pub choice_is : (st : Pools) {buses due unsent found sending ending : ℕ} (writing silent : ℕ)
+    → IsSetOf writes st.slots writing → ((x : ℕ) → has found x ≡ (has due x && has writing x))
+    → IsPicked unsent st.issue_numbers buses sending
     → ((x : ℕ) → x < 128 → has silent x ≡ (has due x && not (has found x)))
-    → ((x : ℕ) → has ending x ≡ (has sending x || has silent x)) → AreEnding st buses next ending
-are_ending st buses {next} found sending silent ending {f} filled known turned with_result picked but either = record {
-  unsent = f.unsent;
-  sending = sending;
-  are_unsent = of_busy (can_send next) st.slots st.busy st.issue_numbers f.unsent refl filled known.unsent;
-  sent = picked;
-  all = λ x l. either x ∙ ap (λ b. has sending x || b)
-      (but x l ∙ rw (with_result x l, all_due known turned x l, filled.each x l)
-      (alone_is next (slice_index_or st.slots x None) (stayed_past x known)));
+    → ((x : ℕ) → has ending x ≡ (has sending x || has silent x))
+    → IsChoice st buses due unsent found sending ending
+choice_is st {due = due} writing silent of both picked others all = record {
+  silent = silent;
+  results = λ x l. both x ∙ ap (λ b. has due x && b) (of x l);
+  picked = picked;
+  others = others;
+  all = all;
 }
+
+-- what ends of what is due has nothing to send
+pub are_ending : (st : Pools) (buses : ℕ) {next due found sending ending : ℕ} {g : Finishes}
+    → AreBusy st.slots st.busy st.issue_numbers → AreTurned st.slots next due g
+    → IsChoice st buses due g.unsent found sending ending → AreEnding st buses next ending
+are_ending st buses {next} {due} {found} {sending} {g = g} filled now choice =
+    let same : g.unsent ≡ now.before.unsent = now.turned.unsent in
+    let unsent = of_busy (can_send next) st.slots st.busy st.issue_numbers now.before.unsent refl filled
+    now.known.unsent in
+    record {
+      unsent = now.before.unsent;
+      sending = sending;
+      are_unsent = unsent;
+      sent = rw same at choice.picked;
+      all = λ x l. choice.all x ∙ ap (λ b. has sending x || b) (choice.others x l
+          ∙ rw (choice.results x l, all_due now.known now.turned x l, filled.each x l)
+          (alone_is next (slice_index_or st.slots x None) (stayed_past x now.known)));
+    }
 
 heard_same : (test : Option Station → Bool) (sent : ℕ → Option ℕ) (o : Option Station)
     → ((s : Station) → test (Some (hears sent s)) ≡ test (Some s)) → test (option_map (hears sent) o) ≡ test o
@@ -109,24 +138,22 @@ gone_is next None sending e = and_right (not (sending || false)) false refl
 gone_is next (Some s) sending e = rw (before_next next s.finish) (gone_test (is_some (dest_of s.instr))
     (is_finished_before s.finish next) (is_number s.finish next) sending e)
 
-pub leaves_known : (st : Pools) (buses : ℕ) {next due : ℕ} (found sending silent ending : ℕ) {f g : Finishes}
-    (h : Finishes) → AreBusy st.slots st.busy st.issue_numbers → IsTimetableOf st.slots next f → HaveTurned f g due
-    → ((x : ℕ) → x < 128 → has found x ≡ (has due x && writes (slice_index_or st.slots x None)))
-    → IsPicked f.unsent st.issue_numbers buses sending
-    → ((x : ℕ) → x < 128 → has silent x ≡ (has due x && not (has found x)))
-    → ((x : ℕ) → has ending x ≡ (has sending x || has silent x)) → h.wheel ≡ g.wheel
-    → ((x : ℕ) → x < 128 → has h.unsent x ≡ (has g.unsent x && not (has sending x) || has found x))
+pub leaves_known : (st : Pools) (buses : ℕ) {next due found sending ending : ℕ} {g : Finishes} (h : Finishes)
+    → AreBusy st.slots st.busy st.issue_numbers → AreTurned st.slots next due g
+    → IsChoice st buses due g.unsent found sending ending → HasSent g sending found h
     → LeavesTimetable st.slots next ending h
-leaves_known st buses {next} {due} found sending silent ending {f} h filled known turned with_result picked but either
-    wheel unsent new sent count after =
-    let on : (a x : ℕ) → is_due h.wheel a x ≡ is_due f.wheel (a + 1) x = λ a x. ap (λ (w : List ℕ). is_due w a x) wheel
-    ∙ turned.wheel a x in
-    let done : AreDone st.slots next due = all_due known turned in
+leaves_known st buses {next} {due} {found} {sending} {ending} {g} h filled now choice done_so new sent count after =
+    let known : IsTimetableOf st.slots next now.before = now.known in
+    let on : (a x : ℕ) → is_due h.wheel a x ≡ is_due now.before.wheel (a + 1) x =
+    λ a x. ap (λ (w : List ℕ). is_due w a x) done_so.wheel ∙ now.turned.wheel a x in
+    let done : AreDone st.slots next due = all_due known now.turned in
+    let was : (x : ℕ) → x < 128 → has g.unsent x ≡ can_send next (slice_index_or st.slots x None) =
+    λ x l. ap (λ z. has z x) now.turned.unsent ∙ known.unsent x l in
     let inside : (x : ℕ) → x < 128 → has sending x ≡ true → can_send next (slice_index_or st.slots x None) ≡ true =
-    λ x l e. sym (known.unsent x l) ∙ picked.inside x l e in
+    λ x l e. sym (was x l) ∙ choice.picked.inside x l e in
     let ends : (x : ℕ) → x < 128 → has ending x ≡ (has sending x || (finishes next (slice_index_or st.slots x None) &&
-    not (finishes next (slice_index_or st.slots x None) && writes (slice_index_or st.slots x None)))) = λ x l. either x
-    ∙ ap (λ b. has sending x || b) (but x l ∙ rw (with_result x l, done x l) refl) in
+    not (finishes next (slice_index_or st.slots x None) && writes (slice_index_or st.slots x None)))) = λ x l.
+    choice.all x ∙ ap (λ b. has sending x || b) (choice.others x l ∙ rw (choice.results x l, done x l) refl) in
     let test : (t : Option Station → Bool) (x : ℕ) → x < 96 → t None ≡ false
     → ((s : Station) → t (Some (hears sent s)) ≡ t (Some s))
     → t (slice_index_or new x None) ≡ (not (has ending x) && t (slice_index_or st.slots x None)) =
@@ -139,10 +166,10 @@ leaves_known st buses {next} {due} found sending silent ending {f} h filled know
           known.near x v l (and_parts (not (has ending x)) _ (sym (test (finishes v) x l refl (λ s. refl)) ∙ e)).1 in
           omega arith;
       low = λ a x e. known.low (a + 1) x (sym (on a x) ∙ e);
-      unsent = λ x l. unsent x l ∙ elim (cases_Bool (nat_lt x 96)) [
+      unsent = λ x l. done_so.unsent x l ∙ elim (cases_Bool (nat_lt x 96)) [
         | inl k ↦
             let low : x < 96 = ltb-true x 96 k in
-            rw (turned.unsent, known.unsent x l, with_result x l, done x l)
+            rw (was x l, choice.results x l, done x l)
             (unsent_is next (slice_index_or st.slots x None) (has sending x) (inside x l))
             ∙ sym (test (can_send (next + 1)) x low refl (λ s. refl)
             ∙ ap (λ b. not b && can_send (next + 1) (slice_index_or st.slots x None)) (ends x l))
@@ -150,7 +177,7 @@ leaves_known st buses {next} {due} found sending silent ending {f} h filled know
             let high : 96 ≤ x = ltb-false x 96 k in
             let gone : slice_index_or new x None ≡ None = get_or_past new x None (omega arith) in
             let past = get_or_past st.slots x None (let c : length st.slots ≡ 96 = filled.places in omega arith) in
-            rw (turned.unsent, known.unsent x l, with_result x l, done x l, past, gone) refl
+            rw (was x l, choice.results x l, done x l, past, gone) refl
       ];
       gone = λ x l. test (has_stayed (next + 1)) x l refl (λ s. refl)
           ∙ (ap (λ b. not b && has_stayed (next + 1) (slice_index_or st.slots x None)) (ends x (omega arith))
@@ -166,24 +193,21 @@ leaves_known st buses {next} {due} found sending silent ending {f} h filled know
     same_later a x e f g = grind (arith, nat_tests)
 
 -- if nothing is over, no result is unsent
-pub none_unsent : {due : ℕ} (found sending silent ending buses : ℕ) {f g : Finishes} (h : Finishes) → sending < 2 ^ 128
-    → h.unsent < 2 ^ 128 → HaveTurned f g due → (0 < buses → f.unsent ≢ 0 → sending ≢ 0) → 0 < buses
-    → ((x : ℕ) → x < 128 → has found x ≡ true → has due x ≡ true)
-    → ((x : ℕ) → has ending x ≡ (has sending x || has silent x))
-    → ((x : ℕ) → x < 128 → has h.unsent x ≡ (has g.unsent x && not (has sending x) || has found x)) → ending ≡ 0
-    → due ≡ 0 → h.unsent ≡ 0
-none_unsent {due} found sending silent ending buses {f} {g} h sending_fits fits turned some bus inside either unsent
-    none over = elim (cases_Bool (h.unsent == 0)) [
+pub none_unsent : {st : Pools} {buses due found sending ending : ℕ} {g : Finishes} (h : Finishes)
+    → IsChoice st buses due g.unsent found sending ending → HasSent g sending found h
+    → (sending < 2 ^ 128) × (h.unsent < 2 ^ 128) → (g.unsent ≢ 0 → sending ≢ 0) → ending ≡ 0 → due ≡ 0 → h.unsent ≡ 0
+none_unsent {st} {due = due} {found} {sending} {ending} {g} h choice sent fits some none over = elim
+    (cases_Bool (h.unsent == 0)) [
       | inl e ↦ eqb-true h.unsent 0 e
       | inr e ↦
-          let x = member_of h.unsent fits (eqb-false h.unsent 0 e) in
-          elim (or_cases (has g.unsent x.0 && not (has sending x.0)) (has found x.0) (sym (unsent x.0 x.1) ∙ x.2)) [
-            | inr found ↦ absurd (both_ways (has due x.0) (rw over (none_in x.0)) (inside x.0 x.1 found))
+          let x = member_of h.unsent fits.1 (eqb-false h.unsent 0 e) in
+          elim (or_cases (has g.unsent x.0 && not (has sending x.0)) (has found x.0) (sym (sent.unsent x.0 x.1) ∙ x.2)) [
+            | inr here ↦ absurd (both_ways (has due x.0) (rw over (none_in x.0))
+                (and_parts (has due x.0) _ (sym (choice.results x.0 x.1) ∙ here)).0)
             | inl was ↦
-                let there : f.unsent ≢ 0 = member_some f.unsent x.0 (sym (ap (λ z. has z x.0) turned.unsent)
-                ∙ (and_parts (has g.unsent x.0) _ was).0) in
-                let y = member_of sending sending_fits (some bus there) in
-                absurd (both_ways (has ending y.0) (rw none (none_in y.0)) (either y.0 ∙ rw y.2 refl))
+                let there : g.unsent ≢ 0 = member_some g.unsent x.0 (and_parts (has g.unsent x.0) _ was).0 in
+                let y = member_of sending fits.0 (some there) in
+                absurd (both_ways (has ending y.0) (rw none (none_in y.0)) (choice.all y.0 ∙ rw y.2 refl))
           ]
     ]
 
@@ -217,32 +241,31 @@ one_branch slots next due branches served x done serves both l e =
     let place = and_parts (nat_le 80 x) (nat_lt x 96) (sym (branch_places x l) ∙ (sym (serves x l) ∙ two.1)) in
     (leb-true 80 x place.0, ltb-true x 96 place.1, sym (done x l) ∙ two.0)
 
--- if nothing finishes, no result is found
-pub nothing_found : (test : ℕ → Bool) (due : ℕ) → due ≡ 0 → (x : ℕ) → x < 128 → has 0 x ≡ (has due x && test x)
-nothing_found test due over x l = rw (over, none_in x) refl
-
--- and if nothing is sent either, nothing ends
-pub nothing_ends : (sending : ℕ) → sending ≡ 0 → (x : ℕ) → has 0 x ≡ (has sending x || has 0 x)
-nothing_ends sending none x = rw (none, none_in x) refl
+-- if nothing finishes and nothing is sent, nothing ends
+none_chosen : (st : Pools) (buses : ℕ) {due unsent : ℕ} → due ≡ 0 → unsent ≡ 0
+    → IsChoice st buses due unsent 0 0 0
+none_chosen st buses over none = record {
+  silent = 0;
+  results = λ x l. rw (over, none_in x) refl;
+  picked = none_picked _ buses st.issue_numbers none;
+  others = λ x l. rw (over, none_in x) refl;
+  all = λ x. rw (none_in x) refl;
+}
 
 -- and what is unsent stays so
-pub nothing_sent : (sending : ℕ) (g : Finishes) → sending ≡ 0 → (x : ℕ) → x < 128
-    → has g.unsent x ≡ (has g.unsent x && not (has sending x) || has 0 x)
-nothing_sent sending g none x l = rw (none, none_in x) (stays (has g.unsent x))
+none_sent : (g : Finishes) → HasSent g 0 0 g
+none_sent g = record { wheel = refl; unsent = λ x l. rw (none_in x) (stays (has g.unsent x)) }
   where
     stays : (b : Bool) → b ≡ (b && true || false)
     stays b = grind (arith, nat_tests)
 
 -- if nothing finishes and no result waits, nothing ends
-pub ending_none : (st : Pools) (buses : ℕ) {next due : ℕ} {f g : Finishes} → AreBusy st.slots st.busy st.issue_numbers
-    → IsTimetableOf st.slots next f → HaveTurned f g due → due ≡ 0 → g.unsent ≡ 0 → AreEnding st buses next 0
-ending_none st buses {due} {f} filled known turned e none = are_ending st buses 0 0 0 0 filled known turned
-    (nothing_found _ due e) (none_picked f.unsent buses st.issue_numbers (sym turned.unsent ∙ none))
-    (nothing_found _ due e) (nothing_ends 0 refl)
+pub ending_none : (st : Pools) (buses : ℕ) {next due : ℕ} {g : Finishes} → AreBusy st.slots st.busy st.issue_numbers
+    → AreTurned st.slots next due g → due ≡ 0 → g.unsent ≡ 0 → AreEnding st buses next 0
+ending_none st buses {next} filled now e none = are_ending st buses filled now (none_chosen st buses e none)
 
 -- and what is known stays right
-pub leaves_none : (st : Pools) (buses : ℕ) {next due : ℕ} {f g : Finishes} → AreBusy st.slots st.busy st.issue_numbers
-    → IsTimetableOf st.slots next f → HaveTurned f g due → due ≡ 0 → g.unsent ≡ 0 → LeavesTimetable st.slots next 0 g
-leaves_none st buses {due} {f} {g} filled known turned e none = leaves_known st buses 0 0 0 0 g filled known turned
-    (nothing_found _ due e) (none_picked f.unsent buses st.issue_numbers (sym turned.unsent ∙ none))
-    (nothing_found _ due e) (nothing_ends 0 refl) refl (nothing_sent 0 g refl)
+pub leaves_none : (st : Pools) (buses : ℕ) {next due : ℕ} {g : Finishes} → AreBusy st.slots st.busy st.issue_numbers
+    → AreTurned st.slots next due g → due ≡ 0 → g.unsent ≡ 0 → LeavesTimetable st.slots next 0 g
+leaves_none st buses {next} {g = g} filled now e none =
+    leaves_known st buses g filled now (none_chosen st buses e none) (none_sent g)

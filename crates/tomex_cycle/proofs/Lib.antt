@@ -1,4 +1,5 @@
 pub mod Words
+pub mod Parts
 pub mod Runs
 pub mod Totals
 pub mod Truth
@@ -6,6 +7,7 @@ pub mod Cycles
 pub mod Ticks
 pub mod Outer
 pub mod Places
+pub mod Held
 pub mod Fields
 pub mod Accesses
 pub mod Shows

@@ -1,5 +1,5 @@
 -- What is noted of a cycle as its phases change something.
-use Rattle.std.proofs.Common.{ℕ, Bool, true, false, ◌≡◌, refl, arith}
+use Rattle.std.proofs.Common.{Bool, true, false, ◌≡◌, refl, arith, inl, inr}
 use Rattle.tomex_cycle.proofs.Words.{◌≢◌, ◌⊎◌, if◌then◌else◌, nat_tests}
 use Rattle.tomex_cycle.specs.declared.activity.Activity.{Activity}
 use Rattle.tomex_cycle.specs.declared.activity.Activity.TheVariants.{Nothing, Starts, More}
@@ -9,10 +9,15 @@ abbrev pub noted : (any addressed made : Bool) → Activity
 noted any addressed made = if made then More else (if addressed then More else (if any then Starts else Nothing))
 
 -- if something is noted, ends or starts, something has changed
-pub what_moved : (any addressed made ended : Bool) (before now : ℕ) → (made ≡ true → now ≢ before)
-    → (noted any addressed made ≡ More) ⊎ ((ended ≡ true) ⊎ (noted any addressed made ≡ Starts)) → (any ≡ true)
-    ⊎ ((addressed ≡ true) ⊎ ((now ≢ before) ⊎ (ended ≡ true)))
-what_moved any addressed made ended before now h6 h7 = grind (arith, nat_tests)
+pub what_moved : (any addressed made ended : Bool) {P Q R S : Type 0} → (any ≡ true → P) → (addressed ≡ true → Q)
+    → (made ≡ true → R) → (ended ≡ true → S)
+    → (noted any addressed made ≡ More) ⊎ ((ended ≡ true) ⊎ (noted any addressed made ≡ Starts)) → P ⊎ (Q ⊎ (R ⊎ S))
+what_moved any addressed true ended p q r s which = inr (inr (inl (r refl)))
+what_moved any true false ended p q r s which = inr (inl (q refl))
+what_moved true false false ended p q r s which = inl (p refl)
+what_moved false false false ended p q r s (inl e) = absurd (cc)
+what_moved false false false ended p q r s (inr (inl e)) = inr (inr (inr (s e)))
+what_moved false false false ended p q r s (inr (inr e)) = absurd (cc)
 
 -- and if only starts are noted, there was no more
 pub none_moved : (any addressed made : Bool) → noted any addressed made ≢ More → (addressed ≡ false) × (made ≡ false)

@@ -1,14 +1,14 @@
 -- The busy places in issue order are those of the steps under way, the oldest first.
 use Rattle.std.proofs.Common.{ℕ, ◌+◌, ◌<◌, ◌≤◌, ◌≡◌, ◌∙◌, ◌^◌, true, false, arith, refl, List, [], ◌∷◌, ◌++◌, Option}
-use Rattle.std.proofs.Common.{Some, None, ap, sym, inl, inr, append_assoc, length, slice_index}
-use Rattle.tomex_cycle.proofs.Words.{nat_lt, not, ◌||◌, ◌==◌, is_some, w128, bit_at-trailing_zeros, cases_Bool}
-use Rattle.tomex_cycle.proofs.Words.{nat_tests, cases_order, both_ways, ltb-true, ltb-false, and_parts, eq-eqb}
-use Rattle.tomex_cycle.proofs.Words.{eqb-true, get_or_past, Loaded, Configuration, IsWithinLimits, is_number, step_pool}
-use Rattle.tomex_cycle.proofs.Words.{Done, AreTimed, has, IsInIssueOrder, Rises, is_listed, has_one, none_in, AreBusy}
-use Rattle.tomex_cycle.proofs.Words.{Pools, AreIssuedBy, Clocks, ShowsStations, issue_number_at, holds_place, order_of}
-use Rattle.tomex_cycle.proofs.Words.{place_of, station_at}
-use Rattle.tomex_cycle.proofs.Places.{is_vacant, low, place_low, vacant, AreLow}
+use Rattle.std.proofs.Common.{Some, None, ap, sym, inl, inr, length, slice_index}
+use Rattle.tomex_cycle.proofs.Words.{nat_lt, ◌==◌, is_some, w128, bit_at-trailing_zeros, cases_Bool, nat_tests}
+use Rattle.tomex_cycle.proofs.Words.{cases_order, both_ways, ltb-true, ltb-false, eq-eqb, eqb-true, get_or_past, Loaded}
+use Rattle.tomex_cycle.proofs.Words.{Configuration, step_pool, Done, has, IsInIssueOrder, Rises, is_listed, has_one}
+use Rattle.tomex_cycle.proofs.Words.{none_in, AreBusy, Pools, Clocks, ShowsStations, order_of, place_of, station_at}
+use Rattle.tomex_cycle.proofs.Words.{◌||◌, IsUpTo}
+use Rattle.tomex_cycle.proofs.Places.{low, place_low, AreLow}
 use Rattle.tomex_cycle.proofs.Truth.{or_false, or_one}
+use Rattle.tomex_cycle.proofs.Held.{ShowsPart, shows_part, held_here, older_shown}
 
 pub in-append : (xs ys : List ℕ) (x : ℕ) → is_listed (xs ++ ys) x ≡ (is_listed xs x || is_listed ys x)
 in-append [] ys x = refl
@@ -84,31 +84,9 @@ rises-append issue_numbers (x ∷ xs) p rises each = (
   rises-append issue_numbers xs p rises.1 (λ y e. each y (rw e (or_one (x == y) true refl))),
 )
 
-taken : (t x : ℕ) (newer : List Done) (w : Done) (older : List Done) → holds_place t x w ≡ true
-    → is_vacant t x (newer ++ (w ∷ older)) ≡ true → ⊥
-taken t x [] w older held free = cc
-taken t x (n ∷ newer) w older held free =
-    taken t x newer w older held (and_parts (not (holds_place t x n)) (is_vacant t x (newer ++ (w ∷ older))) free).1
-
--- the issue number of a busy step's place is the number of its elders
-number_here : {config : Configuration} (end x : ℕ) (newer : List Done) (d : Done) (older : List Done)
-    → IsWithinLimits config → AreTimed config (newer ++ (d ∷ older)) → AreIssuedBy (end + 1) (newer ++ (d ∷ older))
-    → holds_place end x d ≡ true → issue_number_at (newer ++ (d ∷ older)) x ≡ length older
-number_here end x [] d older good timed issued held =
-    rw (and_parts (is_number (place_of d) x) (nat_lt end d.at.end) held).0 refl
-number_here end x (n ∷ newer) d older good timed issued held = elim (cases_Bool (is_number (place_of n) x)) [
-  | inr e ↦ rw e (number_here end x newer d older good timed.1 issued.1 held)
-  | inl e ↦ absurd (taken end x newer d older held (vacant n (newer ++ (d ∷ older)) end x good timed issued.0 e))
-]
-
 pub record AreOlder (issue_numbers : List ℕ) (end : ℕ) (part : List Done) : Type 0 where
   pub rises : Rises issue_numbers (order_of end part)
   pub below : (x : ℕ) → is_listed (order_of end part) x ≡ true → slice_index issue_numbers x < length part
-
-part_low : {config : Configuration} (newer : List Done) (d : Done) (older : List Done) → IsWithinLimits config
-    → AreTimed config (newer ++ (d ∷ older)) → (n : ℕ) → d.at.station ≡ Some n → n < 16
-part_low {config} [] d older good timed = (low config (d ∷ older) good timed).0
-part_low (n ∷ newer) d older good timed = part_low newer d older good timed.1
 
 below_by : {issue_numbers : List ℕ} {end : ℕ} (p x : ℕ) (d : Done) {older : List Done}
     → AreOlder issue_numbers end older → slice_index issue_numbers p ≡ length older
@@ -116,62 +94,48 @@ below_by : {issue_numbers : List ℕ} {end : ℕ} (p x : ℕ) (d : Done) {older 
     → slice_index issue_numbers x < length (d ∷ older)
 below_by {issue_numbers} {end} p x d {older} before issue_number k = grind (arith, nat_tests)
 
-order_rises : (i : Loaded) (config : Configuration) (c : Clocks) (h newer part : List Done) (st : Pools)
-    → IsWithinLimits config → AreTimed config h → AreIssuedBy (c.end + 1) h → ShowsStations i c h st → h ≡ newer ++ part
+order_rises : {i : Loaded} {c : Clocks} {st : Pools} (part : List Done) → ShowsPart i c st part
     → AreOlder st.issue_numbers c.end part
-order_rises i config c h newer [] st good timed issued shown e = record { rises = tt; below = λ x k. absurd (cc) }
-order_rises i config c h newer (d ∷ older) st good timed issued shown e =
-    let before : AreOlder st.issue_numbers c.end older = order_rises i config c h (newer ++ (d ∷ [])) older st good
-    timed issued shown (e ∙ sym (append_assoc newer (d ∷ []) older)) in
-    rise_by i config c h newer d older st (place_of d) refl good timed issued shown e before
+order_rises [] shown = record { rises = tt; below = λ x k. absurd (cc) }
+order_rises {i} {c} {st} (d ∷ older) shown =
+    let before : AreOlder st.issue_numbers c.end older = order_rises older (older_shown shown) in
+    elim (cases_Bool (nat_lt c.end d.at.end)) [
+      | inr l ↦ longer (rw l refl) before
+      | inl l ↦ by_place (place_of d) refl l before
+    ]
   where
-    longer : (issue_numbers : List ℕ) (end : ℕ) (d : Done) (older : List Done)
-        → order_of end (d ∷ older) ≡ order_of end older → AreOlder issue_numbers end older
-        → AreOlder issue_numbers end (d ∷ older)
-    longer issue_numbers end d older e f = grind (arith, nat_tests)
+    longer : order_of c.end (d ∷ older) ≡ order_of c.end older → AreOlder st.issue_numbers c.end older
+        → AreOlder st.issue_numbers c.end (d ∷ older)
+    longer e f = grind (arith, nat_tests)
 
-    rise_by : (i : Loaded) (config : Configuration) (c : Clocks) (h newer : List Done) (d : Done) (older : List Done)
-        (st : Pools) (p : Option ℕ) → place_of d ≡ p → IsWithinLimits config → AreTimed config h
-        → AreIssuedBy (c.end + 1) h → ShowsStations i c h st → h ≡ newer ++ (d ∷ older)
-        → AreOlder st.issue_numbers c.end older → AreOlder st.issue_numbers c.end (d ∷ older)
-    rise_by i config c h newer d older st None f good timed issued shown e before = elim
-        (cases_Bool (nat_lt c.end d.at.end)) [
-          | inl l ↦ longer st.issue_numbers c.end d older (rw (l, f) refl) before
-          | inr l ↦ longer st.issue_numbers c.end d older (rw l refl) before
-        ]
-    rise_by i config c h newer d older st (Some p) f good timed issued shown e before = elim
-        (cases_Bool (nat_lt c.end d.at.end)) [
-          | inr l ↦ longer st.issue_numbers c.end d older (rw l refl) before
-          | inl l ↦
-              let here : AreTimed config (newer ++ (d ∷ older)) = rw e at timed in
-              let by : AreIssuedBy (c.end + 1) (newer ++ (d ∷ older)) = rw e at issued in
-              let held : holds_place c.end p d ≡ true = rw (f, l, eq-eqb p p refl) refl in
-              let small : p < 96 = place_low (step_pool d.step) d.at.station p (part_low newer d older good here) f in
-              let issue_number : slice_index st.issue_numbers p ≡ length older = shown.issue_numbers p small
-              ∙ (ap (λ xs. issue_number_at xs p) e ∙ number_here c.end p newer d older good here by held) in
-              let order : order_of c.end (d ∷ older) ≡ order_of c.end older ++ (p ∷ []) = rw (l, f) refl in
-              record {
-                rises = rw order (rises-append st.issue_numbers (order_of c.end older) p before.rises
-                    (λ y k. let m : slice_index st.issue_numbers y < length older = before.below y k in omega arith));
-                below = λ x k. below_by p x d before issue_number
-                    (sym (in-append (order_of c.end older) (p ∷ []) x) ∙ (rw order at k));
-              }
-        ]
+    by_place : (o : Option ℕ) → place_of d ≡ o → nat_lt c.end d.at.end ≡ true → AreOlder st.issue_numbers c.end older
+        → AreOlder st.issue_numbers c.end (d ∷ older)
+    by_place None f l before = longer (rw (l, f) refl) before
+    by_place (Some p) f l before =
+        let number : slice_index st.issue_numbers p ≡ length older =
+        (held_here shown p (rw (f, l, eq-eqb p p refl) refl)).number in
+        let order : order_of c.end (d ∷ older) ≡ order_of c.end older ++ (p ∷ []) = rw (l, f) refl in
+        record {
+          rises = rw order (rises-append st.issue_numbers (order_of c.end older) p before.rises
+              (λ y k. let m : slice_index st.issue_numbers y < length older = before.below y k in omega arith));
+          below = λ x k. below_by p x d before number
+              (sym (in-append (order_of c.end older) (p ∷ []) x) ∙ (rw order at k));
+        }
 
 -- the order lists the busy places in issue order
-pub order_is : {i : Loaded} {config : Configuration} {c : Clocks} {h : List Done} {st : Pools} → IsWithinLimits config
-    → AreTimed config h → AreIssuedBy (c.end + 1) h → ShowsStations i c h st → AreBusy st.slots st.busy st.issue_numbers
+pub order_is : {i : Loaded} {config : Configuration} {c : Clocks} {s : ℕ} {h : List Done} {st : Pools}
+    → IsUpTo i config s h → s ≤ c.end + 1 → ShowsStations i c h st → AreBusy st.slots st.busy st.issue_numbers
     → IsInIssueOrder st.busy st.issue_numbers (order_of c.end h)
-order_is {i} {config} {c} {h} {st} good timed issued shown filled = record {
+order_is {i} {c = c} {h = h} {st} up s shown filled = record {
   members = λ x l. filled.each x l ∙ elim (cases_Bool (nat_lt x 96)) [
     | inl k ↦ ap is_some (shown.slots x (ltb-true x 96 k)) ∙ in_order i c h x
     | inr k ↦
         let high : 96 ≤ x = ltb-false x 96 k in
         ap is_some (get_or_past st.slots x None (let n : length st.slots ≡ 96 = shown.places in omega arith))
-        ∙ sym (beyond c.end h x (low config h good timed) high)
+        ∙ sym (beyond c.end h x (low h up) high)
   ];
-  low = λ x e. let k : x < 96 = order_low c.end h x (low config h good timed) e in omega arith;
-  rises = (order_rises i config c h [] h st good timed issued shown refl).rises;
+  low = λ x e. let k : x < 96 = order_low c.end h x (low h up) e in omega arith;
+  rises = (order_rises h (shows_part up s shown)).rises;
 }
   where
     beyond : (end : ℕ) (h : List Done) (x : ℕ) → AreLow h → 96 ≤ x → is_listed (order_of end h) x ≡ false
@@ -182,11 +146,11 @@ order_is {i} {config} {c} {h} {st} good timed issued shown filled = record {
 
 -- No station is busy.
 
-pub empty_order : {i : Loaded} {config : Configuration} {c : Clocks} {h : List Done} {st : Pools}
-    → IsWithinLimits config → AreTimed config h → AreIssuedBy (c.end + 1) h → ShowsStations i c h st
-    → AreBusy st.slots st.busy st.issue_numbers → st.busy ≡ 0 → order_of c.end h ≡ []
-empty_order {c} {h} {st} good timed issued shown filled e =
-    empty (order_of c.end h) st.busy st.issue_numbers e (order_is good timed issued shown filled)
+pub empty_order : {i : Loaded} {config : Configuration} {c : Clocks} {s : ℕ} {h : List Done} {st : Pools}
+    → IsUpTo i config s h → s ≤ c.end + 1 → ShowsStations i c h st → AreBusy st.slots st.busy st.issue_numbers
+    → st.busy ≡ 0 → order_of c.end h ≡ []
+empty_order {c = c} {h = h} {st} up s shown filled e =
+    empty (order_of c.end h) st.busy st.issue_numbers e (order_is up s shown filled)
   where
     empty : (xs : List ℕ) (busy : ℕ) (issue_numbers : List ℕ) → busy ≡ 0 → IsInIssueOrder busy issue_numbers xs
         → xs ≡ []

@@ -5,11 +5,11 @@ use Rattle.tomex_cycle.proofs.Words.{slice_index, map, filter_map, range_with_le
 use Rattle.tomex_cycle.proofs.Words.{le-ltb, lt-leb, le-leb, get_or-replicate, Loaded, Configuration, IsWithinLimits}
 use Rattle.tomex_cycle.proofs.Words.{EndKind, Step, step_after, byte_after, register_after, Bytes, EndsWithin}
 use Rattle.tomex_cycle.proofs.Words.{is_number, step_dest, is_store, Busy, Tag, Done, greatest_end, Tables, tables_of}
-use Rattle.tomex_cycle.proofs.Words.{shown, qi_of, all_tags, producer, Inner, IsAt, Fetch, At, Stopped, Progress}
-use Rattle.tomex_cycle.proofs.Words.{Running, RunEndsAfter, first_timed, run_of, AreIssuedBy, IsHistory, steps_in}
-use Rattle.tomex_cycle.proofs.Words.{byte_at, clocks, ShowsRegisters, ShowsStations, IsSnapshot, IsYetToIssue, Seen}
-use Rattle.tomex_cycle.proofs.Words.{overwrites, step_ends_it, step_follows, step_joins, timed_by, IsSound, Pools}
-use Rattle.tomex_cycle.proofs.Words.{RegStatus, Station}
+use Rattle.tomex_cycle.proofs.Words.{shown, qi_of, all_tags, producer, Inner, IsAt, At, Stopped, Progress, Running}
+use Rattle.tomex_cycle.proofs.Words.{RunEndsAfter, first_timed, run_of, steps_in, byte_at, clocks, ShowsRegisters}
+use Rattle.tomex_cycle.proofs.Words.{ShowsStations, IsSnapshot, IsYetToIssue, Seen, overwrites, step_ends_it}
+use Rattle.tomex_cycle.proofs.Words.{step_follows, step_joins, timed_by, IsSound, Pools, Station, Core, Front, IsUpTo}
+use Rattle.tomex_cycle.proofs.Words.{core, core_of}
 use Rattle.tomex_image.specs.Image.{IsLoaded}
 use Rattle.tomex_rvexec.specs.History.{Leaves, history as first_steps}
 use Rattle.tomex_rvexec.specs.Machine.{State}
@@ -22,8 +22,9 @@ use Rattle.tomex_rvexec.proofs.FlowHistories.{same_registers, same_memory}
 use Rattle.tomex_rvexec.proofs.FlowRuns.{run_state}
 use Rattle.tomex_rvexec.proofs.FlowStates.{end_writes_no_register, end_writes_no_byte}
 use Rattle.tomex_timing.proofs.Settled.{AllBy}
-use Rattle.tomex_cycle.proofs.Runs.{run_timed, steps_are, run_none, run_whole, run_history, rest_to, AreLater}
+use Rattle.tomex_cycle.proofs.Runs.{run_timed, steps_are, run_none, run_whole, rest_to, AreLater, issued_up_to}
 use Rattle.tomex_cycle.proofs.Totals.{more_left, stops}
+use Rattle.tomex_cycle.specs.Views.{front}
 
 none_issued : (config : Configuration) (i : Loaded) → IsYetToIssue i config 0 0
 none_issued config i x e s l =
@@ -54,23 +55,25 @@ start_count : (i : Loaded) → length (start_of i).regs ≡ 32
 start_count i = refl
 
 -- before the first cycle
-pub start_shown : {config : Configuration} {n : ℕ} {st : Pools} {rg : RegStatus} {ft : Fetch} {m : Bytes} (i : Loaded)
-    → st.slots ≡ replicate 96 None → st.issue_numbers ≡ replicate 128 0 → rg.tags ≡ replicate 32 None
-    → rg.values ≡ (start_of i).regs → ft ≡ At i.entry → m.base ≡ i.window.base → m.bytes ≡ i.memory
-    → length i.memory ≡ i.window.size → IsSnapshot i config n 0 0 st rg ft m
-start_shown {config} {st = st} {rg} i slots issue_numbers tags values from base bytes size =
+pub start_shown : {config : Configuration} {n : ℕ} {s : Front} {m : Bytes} (i : Loaded)
+    → s.pools.slots ≡ replicate 96 None → s.pools.issue_numbers ≡ replicate 128 0 → s.registers.tags ≡ replicate 32 None
+    → s.registers.values ≡ (start_of i).regs → s.fetch ≡ At i.entry → m.base ≡ i.window.base → m.bytes ≡ i.memory
+    → length i.memory ≡ i.window.size → IsSnapshot i config n 0 (core 0 s m)
+start_shown {config} {s = s} i slots issue_numbers tags values from base bytes size =
     let e : first_timed config i 0 ≡ [] = run_none config i in
     record {
       issue = record {
         few = omega arith;
-        slots = rw e (shows_none i st (ap length slots ∙ slots_count) (none_at 96 st.slots slots) issue_numbers);
-        status = rw e (record {
-          count = ap length values ∙ start_count i;
-          status = ap length tags ∙ tags_count;
-          tags = none_at 32 rg.tags tags;
-          values = λ r l q. ap (λ xs. slice_index xs r) values;
+        shown = rw e (record {
+          slots = shows_none i s.pools (ap length slots ∙ slots_count) (none_at 96 s.pools.slots slots) issue_numbers;
+          status = record {
+            count = ap length values ∙ start_count i;
+            status = ap length tags ∙ tags_count;
+            tags = none_at 32 s.registers.tags tags;
+            values = λ r l q. ap (λ xs. slice_index xs r) values;
+          };
+          from = from;
         });
-        from = rw e from;
         issued = rw e tt;
         next = λ l. none_issued config i;
       };
@@ -137,7 +140,7 @@ tables_whole {config} {i} {n} count t run few next =
 pub tables_seen : {A : Type 0} {config : Configuration} {i : Loaded} {cycle : ℕ} {last : Progress} {seen : Seen}
     {inner : Inner A} {tables : Tables}
     → ◌≡◌ {A = Seen} (record { image = i; config = config; cycle = cycle; status = last }) seen
-    → ((i : Loaded) (h : List Done) (config : Configuration) → IsHistory i config h → AreIssuedBy cycle h
+    → ((i : Loaded) (h : List Done) (config : Configuration) → IsUpTo i config cycle h
     → ShowsStations i (clocks cycle cycle cycle) h inner.pools → ShowsRegisters i cycle h inner.registers
     → tables ≡ tables_of cycle h) → IsSound i config cycle last inner → EndsWithin seen.image 262144
     → tables ≡ tables_of seen.cycle (run_of seen.config seen.image)
@@ -146,8 +149,7 @@ tables_seen {config = config} {i} {cycle} {inner = inner} {tables} e made sound 
     subst P e (λ ends.
     let run : RunEndsAfter i config ends.0 = sound_run sound ends in
     let shot = (sound.after ends.0 run).snapshot.issue in
-    let h : IsHistory i config (first_timed config i inner.issued) = run_history inner.issued run shot.few in
-    made i (first_timed config i inner.issued) config h shot.issued shot.slots shot.status
+    made i (first_timed config i inner.issued) config (issued_up_to run shot) shot.shown.slots shot.shown.status
     ∙ sym (tables_whole inner.issued cycle run shot.few shot.next))
 
 no_writer : (t : ℕ) (h : List Done) (r : ℕ) → greatest_end h ≤ t → producer t h r ≡ None
@@ -174,13 +176,13 @@ bytes_kept : (i : Loaded) (x : Step) (steps : List Step) (a : ℕ) → is_store 
 bytes_kept i x steps a e = rw e refl
 
 -- what a run that is over leaves
-pub record IsOver (i : Loaded) (n : ℕ) (s : State) (kind : EndKind) (count : ℕ) (rg : RegStatus) (ft : Fetch)
-    (m : Bytes) : Type 0 where
-  pub steps : count ≡ n + 1
-  pub stopped : ft ≡ Stopped kind s.pc
-  pub regs : rg.values ≡ s.regs
-  pub base : m.base ≡ s.image.window.base
-  pub bytes : m.bytes ≡ s.memory
+pub record IsOver {i : Loaded} {config : Configuration} {n : ℕ} (run : RunEndsAfter i config n) (s : Core) : Type 0
+  where
+    pub steps : s.issued ≡ n + 1
+    pub stopped : s.front.fetch ≡ Stopped run.kind run.state.pc
+    pub regs : s.front.registers.values ≡ run.state.regs
+    pub base : s.memory.base ≡ run.state.image.window.base
+    pub bytes : s.memory.bytes ≡ run.state.memory
 
 all_issued : {config : Configuration} {i : Loaded} {n : ℕ} (t count : ℕ) → RunEndsAfter i config n → count ≤ n + 1
     → (count ≤ n → IsYetToIssue i config count t) → greatest_end (first_timed config i (n + 1)) ≤ t → count ≡ n + 1
@@ -195,10 +197,10 @@ steps_last : (config : Configuration) (i : Loaded) (n : ℕ) (x : Step) → step
     → steps_in (first_timed config i (n + 1)) ≡ x ∷ first_steps i n
 steps_last config i n x e = steps_are config i (n + 1) ∙ step_joins i n x e
 
-over_at : {config : Configuration} {i : Loaded} {n : ℕ} {st : Pools} {rg : RegStatus} {ft : Fetch} {m : Bytes} (t : ℕ)
-    → (run : RunEndsAfter i config n) → IsSnapshot i config n t (n + 1) st rg ft m
-    → greatest_end (first_timed config i (n + 1)) ≤ t → IsOver i n run.state run.kind (n + 1) rg ft m
-over_at {config} {i} {n} {rg = rg} {ft} {m} t run shot l =
+over_at : {config : Configuration} {i : Loaded} {n : ℕ} (t : ℕ) (s : Front) (m : Bytes) (run : RunEndsAfter i config n)
+    → IsSnapshot i config n t (core (n + 1) s m) → greatest_end (first_timed config i (n + 1)) ≤ t
+    → IsOver run (core (n + 1) s m)
+over_at {config} {i} {n} t rest m run shot l =
     let s : State = run.state in
     let kind : EndKind = run.kind in
     let h : List Done = first_timed config i (n + 1) in
@@ -212,14 +214,15 @@ over_at {config} {i} {n} {rg = rg} {ft} {m} t run shot l =
     let no_dest : step_dest last.0 ≡ None = end_writes_no_register last.0 kind kind_is in
     let no_store : is_store last.0 ≡ false = end_writes_no_byte last.0 kind kind_is in
     let by = timed_by config h run.lawful (run_timed i (n + 1) run.lawful) in
-    let fetch : ft ≡ Stopped kind last.0.pc = shot.issue.from ∙ last.2 in
+    let status : ShowsRegisters i t h rest.registers = shot.issue.shown.status in
+    let fetch : rest.fetch ≡ Stopped kind last.0.pc = shot.issue.shown.from ∙ last.2 in
     let size : length m.bytes ≡ i.window.size = shot.bytes.size in
     let base : m.base ≡ i.window.base = shot.bytes.base in
     record {
       steps = refl;
       stopped = fetch ∙ ap (λ (x : ℕ). Stopped kind x) pc;
-      regs = same_registers i (first_steps i n) s rg.values leaves state shot.issue.status.count
-          (λ r k. shot.issue.status.values r k (no_writer t h r l)
+      regs = same_registers i (first_steps i n) s rest.registers.values leaves state status.count
+          (λ r k. status.values r k (no_writer t h r l)
           ∙ (ap (λ xs. register_after i xs r) steps ∙ end_values i last.0 (first_steps i n) r no_dest));
       base = base ∙ sym (ap (λ x. x.window.base) leaves.image);
       bytes = same_memory i (first_steps i n) s m.bytes leaves state (record {
@@ -230,10 +233,10 @@ over_at {config} {i} {n} {rg = rg} {ft} {m} t run shot l =
     }
 
 pub is_over_at : {A : Type 0} {config : Configuration} {i : Loaded} {n : ℕ} (t : ℕ) (at : Inner A)
-    → (run : RunEndsAfter i config n) → IsAt i config n t at → greatest_end (first_timed config i (n + 1)) ≤ t
-    → IsOver i n run.state run.kind at.issued at.registers at.fetch at.memory
+    (run : RunEndsAfter i config n) → IsAt i config n t at → greatest_end (first_timed config i (n + 1)) ≤ t
+    → IsOver run (core_of at)
 is_over_at {config = config} {i} {n} t at run shot l =
     let e : at.issued ≡ n + 1 = all_issued t at.issued run shot.issue.few shot.issue.next l in
-    let P : ℕ → Type 0 = λ x. IsSnapshot i config n t x at.pools at.registers at.fetch at.memory
-    → IsOver i n run.state run.kind x at.registers at.fetch at.memory in
-    subst P (sym e) (λ seen. over_at t run seen l) shot
+    let s : Core = core_of at in
+    let P : ℕ → Type 0 = λ x. IsSnapshot i config n t (core x s.front s.memory) → IsOver run (core x s.front s.memory) in
+    subst P (sym e) (λ seen. over_at t s.front s.memory run seen l) shot

@@ -1,14 +1,14 @@
 -- A place is held by one step at a time, and the order of the busy places is that of the history.
 use Rattle.std.proofs.Common.{ℕ, ◌+◌, ◌*◌, ◌<◌, ◌≤◌, ◌≡◌, ◌∙◌, Bool, true, false, arith, refl, List, [], ◌∷◌, ◌++◌}
-use Rattle.std.proofs.Common.{Option, Some, None, sym, inl, inr, append_assoc}
-use Rattle.std.proofs.lemmas.List.{append-nil}
+use Rattle.std.proofs.Common.{Option, Some, None, sym, inl, inr}
 use Rattle.tomex_cycle.proofs.Words.{nat_lt, nat_le, ◌&&◌, ◌==◌, not, MatchOption, ⊤, list_all, cases_Bool, nat_tests}
 use Rattle.tomex_cycle.proofs.Words.{ltb-true, le-leb, and_parts, eqb-true, eq-eqb, and_right, Loaded, Configuration}
 use Rattle.tomex_cycle.proofs.Words.{IsWithinLimits, stations_of, PoolId, place_of_pool, is_in, is_number, step_pool}
-use Rattle.tomex_cycle.proofs.Words.{Done, AreTimed, IsLeast, least, has_station, is_free, is_held, tag_at, least_same}
-use Rattle.tomex_cycle.proofs.Words.{stations_high, issue_station, number_is, AreIssuedBy, Clocks, holds_place}
-use Rattle.tomex_cycle.proofs.Words.{onto_end, order_of, place_of, station_at, station_of, place_at}
+use Rattle.tomex_cycle.proofs.Words.{Done, IsLeast, least, has_station, is_free, is_held, tag_at, least_same}
+use Rattle.tomex_cycle.proofs.Words.{stations_high, issue_station, number_is, Clocks, holds_place, place_of, station_at}
+use Rattle.tomex_cycle.proofs.Words.{station_of, place_at, IsTimed, IsUpTo, is_some}
 use Rattle.tomex_cycle.proofs.Truth.{some_not_none}
+use Rattle.tomex_cycle.proofs.Parts.{older_up_to}
 
 -- a step's place, taken apart
 pub record IsPlace (pool : Option PoolId) (station : Option ℕ) (x : ℕ) : Type 0 where
@@ -45,12 +45,12 @@ station_low {config} older (Some p) station issue good has is n e =
     let m : stations_of config p ≤ 16 = stations_high config p good in
     omega arith
 
-pub low : (config : Configuration) (h : List Done) → IsWithinLimits config → AreTimed config h → AreLow h
-low config [] good timed = tt
-low config (d ∷ older) good timed = (
-  station_low older (step_pool d.step) d.at.station d.at.issue good
-      (issue_station config older d.step d.at.issue timed.0.issue.0) timed.0.station,
-  low config older good timed.1,
+pub low : {i : Loaded} {config : Configuration} {t : ℕ} (h : List Done) → IsUpTo i config t h → AreLow h
+low [] up = tt
+low {config = config} (d ∷ older) up = (
+  station_low older (step_pool d.step) d.at.station d.at.issue up.lawful
+      (issue_station config older d.step d.at.issue up.timed.0.issue.0) up.timed.0.station,
+  low older (older_up_to up),
 )
 
 pub pool_low : (p : PoolId) → place_of_pool p < 6
@@ -104,14 +104,14 @@ free_here : (older : List Done) (pool : Option PoolId) (station : Option ℕ) (i
 free_here older pool station issue n p h6 h7 h8 = grind (arith, nat_tests)
 
 -- a step's place is vacant of older ones as long as it is the step's
-pub vacant : {config : Configuration} (d : Done) (older : List Done) (end x : ℕ) → IsWithinLimits config
-    → AreTimed config (d ∷ older) → d.at.issue ≤ end + 1 → is_number (place_of d) x ≡ true
-    → is_vacant end x older ≡ true
-vacant {config} d older end x good timed l e =
+pub vacant : {i : Loaded} {config : Configuration} {s : ℕ} (d : Done) (older : List Done) (end x : ℕ)
+    → IsUpTo i config s (d ∷ older) → s ≤ end + 1 → is_number (place_of d) x ≡ true → is_vacant end x older ≡ true
+vacant {s = s} d older end x up l e =
+    let issued : d.at.issue ≤ s = up.issued.0 in
     let at : IsPlace (step_pool d.step) d.at.station x = place_parts (step_pool d.step) d.at.station x e in
-    let all = low config (d ∷ older) good timed in
-    vacant_all at.p at.n x d.at.issue end older all.1 (all.0 at.n at.station_is) at.sum l
-    (free_here older (step_pool d.step) d.at.station d.at.issue at.n at.p at.pool_is at.station_is timed.0.station)
+    let all = low (d ∷ older) up in
+    vacant_all at.p at.n x d.at.issue end older all.1 (all.0 at.n at.station_is) at.sum (omega arith) (free_here older
+    (step_pool d.step) d.at.station d.at.issue at.n at.p at.pool_is at.station_is up.timed.0.station)
 
 pub vacant_none : (i : Loaded) (c : Clocks) (h : List Done) (x : ℕ) → is_vacant c.end x h ≡ true
     → station_at i c h x ≡ None
@@ -128,33 +128,32 @@ pub holds_here : (i : Loaded) (c : Clocks) (d : Done) (older : List Done) (x : �
 holds_here i c d older x e = rw e refl
 
 -- the station of a step that holds a place is there, whatever is younger
-pub station_here : (i : Loaded) {config : Configuration} (c : Clocks) (newer : List Done) (d : Done) (older : List Done)
-    (x : ℕ) → IsWithinLimits config → AreTimed config (newer ++ (d ∷ older))
-    → AreIssuedBy (c.end + 1) (newer ++ (d ∷ older)) → holds_place c.end x d ≡ true
-    → station_at i c (newer ++ (d ∷ older)) x ≡ Some (station_of i c d older)
-station_here i c [] d older x good timed issued e = holds_here i c d older x e
-station_here i c (n ∷ newer) d older x good timed issued e = elim (cases_Bool (holds_place c.end x n)) [
-  | inr h ↦ rw h (station_here i c newer d older x good timed.1 issued.1 e)
+pub station_here : {i : Loaded} {config : Configuration} {s : ℕ} (c : Clocks) (newer : List Done) (d : Done)
+    (older : List Done) (x : ℕ) → IsUpTo i config s (newer ++ (d ∷ older)) → s ≤ c.end + 1
+    → holds_place c.end x d ≡ true → station_at i c (newer ++ (d ∷ older)) x ≡ Some (station_of i c d older)
+station_here {i} c [] d older x up l e = holds_here i c d older x e
+station_here {i} c (n ∷ newer) d older x up l e = elim (cases_Bool (holds_place c.end x n)) [
+  | inr h ↦ rw h (station_here c newer d older x (older_up_to up) l e)
   | inl h ↦
       let two = and_parts (is_number (place_of n) x) (nat_lt c.end n.at.end) h in
-      let free = vacant n (newer ++ (d ∷ older)) c.end x good timed issued.0 two.0 in
+      let free = vacant n (newer ++ (d ∷ older)) c.end x up l two.0 in
       let z : station_at i c (newer ++ (d ∷ older)) x ≡ None = vacant_none i c (newer ++ (d ∷ older)) x free in
-      let f = station_here i c newer d older x good timed.1 issued.1 e in
+      let f = station_here c newer d older x (older_up_to up) l e in
       absurd (some_not_none (station_of i c d older) (sym f ∙ z))
 ]
 
+pub number_is_some : (o : Option ℕ) (x : ℕ) → is_number o x ≡ true → o ≡ Some x
+number_is_some o x e = grind (arith, nat_tests)
+
+pub held_place : (t x : ℕ) (d : Done) → holds_place t x d ≡ true → place_of d ≡ Some x
+held_place t x d e = number_is_some (place_of d) x (and_parts (is_number (place_of d) x) (nat_lt t d.at.end) e).0
+
+-- a step that ends after its issue has a place
+pub place_there : {config : Configuration} (d : Done) {older : List Done} → IsTimed config older d.step d.at
+    → d.at.issue < d.at.end → is_some (place_of d) ≡ true
+place_there {config} d {older} timed l = grind (arith, nat_tests)
+
 -- The order.
-
-onto-append : (xs ys : List ℕ) (o : Option ℕ) → onto_end (xs ++ ys) o ≡ xs ++ onto_end ys o
-onto-append xs ys None = refl
-onto-append xs ys (Some x) = append_assoc xs ys (x ∷ [])
-
-pub order-append : (end : ℕ) (newer h : List Done) → order_of end (newer ++ h) ≡ order_of end h ++ order_of end newer
-order-append end [] h = sym (append-nil (order_of end h))
-order-append end (d ∷ newer) h = elim (cases_Bool (nat_lt end d.at.end)) [
-  | inl e ↦ rw (e, order-append end newer h) (onto-append (order_of end h) (order_of end newer) (place_of d))
-  | inr e ↦ rw e (order-append end newer h)
-]
 
 -- the least number that passes is this one
 pub least_test : (p : ℕ → Bool) (a u : ℕ) → IsLeast p a → u ≤ a → p u ≡ (a == u)

@@ -1,16 +1,16 @@
 -- Where nothing happens in a cycle and nothing finishes for a while, nothing happens for that while.
 use Rattle.std.proofs.Common.{ℕ, zero, suc, ◌+◌, ◌-◌, ◌<◌, ◌≤◌, ◌≡◌, ◌∙◌, Bool, true, false, arith, refl, List, [], ◌∷◌}
 use Rattle.std.proofs.Common.{Option, Some, None, ap, sym, inl, inr}
-use Rattle.tomex_cycle.proofs.Words.{◌≢◌, nat_lt, nat_le, ◌==◌, not, ◌&&◌, ◌||◌, is_some, count_by, if◌then◌else◌}
-use Rattle.tomex_cycle.proofs.Words.{nat_tests, MatchOption, MatchBool, AllByRecursion, cases_Bool}
-use Rattle.tomex_cycle.proofs.Words.{both_ways, lt-ltb, ltb-true, le-leb, leb-true, leb-false, ne_eqb, and_parts}
-use Rattle.tomex_cycle.proofs.Words.{and_from, and_right, sum_by-cons, Configuration, IsWithinLimits, option_of, PoolId}
-use Rattle.tomex_cycle.proofs.Words.{UnitId, step_pool, step_unit, step_dest, j_of, k_of, is_branch, is_in, is_number}
-use Rattle.tomex_cycle.proofs.Words.{Operand, Step, Done, Times, is_of, is_memory, cycle_of, writer_end, source_end}
-use Rattle.tomex_cycle.proofs.Words.{last_issue, last_address, is_held, has_station, AreTimed, IsLeast, can_issue}
-use Rattle.tomex_cycle.proofs.Words.{can_address, can_start, can_end, can_issue_another, has_unit, has_operands}
-use Rattle.tomex_cycle.proofs.Words.{are_branches_finished, conflicts, are_conflicts_finished, units_low, width_low}
-use Rattle.tomex_cycle.proofs.Words.{none_later, AllSettled, IsSettled}
+use Rattle.tomex_cycle.proofs.Words.{◌≢◌, nat_lt, nat_le, ◌==◌, not, ◌&&◌, is_some, count_by, if◌then◌else◌, nat_tests}
+use Rattle.tomex_cycle.proofs.Words.{MatchOption, MatchBool, AllByRecursion, cases_Bool, both_ways, lt-ltb, ltb-true}
+use Rattle.tomex_cycle.proofs.Words.{le-leb, leb-true, leb-false, ne_eqb, and_parts, and_from, and_right, sum_by-cons}
+use Rattle.tomex_cycle.proofs.Words.{Configuration, IsWithinLimits, option_of, PoolId, UnitId, step_pool, step_unit}
+use Rattle.tomex_cycle.proofs.Words.{step_dest, j_of, k_of, is_branch, is_in, is_number, Operand, Step, Done, Times}
+use Rattle.tomex_cycle.proofs.Words.{is_of, is_memory, cycle_of, writer_end, source_end, last_issue, last_address}
+use Rattle.tomex_cycle.proofs.Words.{is_held, has_station, AreTimed, IsLeast, can_issue, can_address, can_start}
+use Rattle.tomex_cycle.proofs.Words.{can_end, can_issue_another, has_unit, has_operands, are_branches_finished}
+use Rattle.tomex_cycle.proofs.Words.{conflicts, are_conflicts_finished, units_low, width_low, none_later, AllSettled}
+use Rattle.tomex_cycle.proofs.Words.{IsSettled, ◌||◌}
 use Rattle.tomex_timing.specs.Recurrence.{has_bus}
 use Rattle.tomex_timing.proofs.Limits.{buses_low}
 use Rattle.tomex_timing.proofs.Settled.{count_none}

@@ -5,7 +5,8 @@ use Rattle.std.proofs.lemmas.List.{reverse-reverse}
 use Rattle.tomex_cycle.proofs.Words.{⊤, IsSome, cases_order, Loaded, nat_tests, Configuration, IsWithinLimits, EndKind}
 use Rattle.tomex_cycle.proofs.Words.{Step, IsAllowed, end_of, step_after, step_joins, step_follows, step_goes_on}
 use Rattle.tomex_cycle.proofs.Words.{step_ends_it, Done, last_issue, AreTimed, can_issue, times_of, times_are}
-use Rattle.tomex_cycle.proofs.Words.{issue_from, steps_in, ArePast, IsHistory, RunEndsAfter, IsYetToIssue}
+use Rattle.tomex_cycle.proofs.Words.{issue_from, steps_in, ArePast, RunEndsAfter, IsYetToIssue, AreIssuedBy, Clocks}
+use Rattle.tomex_cycle.proofs.Words.{Front, IsIssuedTo, IsUpTo}
 use Rattle.tomex_rvexec.specs.History.{history as first_steps}
 use Rattle.tomex_rvexec.proofs.FlowEnds.{step_comes, steps_to_end}
 use Rattle.tomex_timing.specs.Search.{timed_of, history}
@@ -82,9 +83,16 @@ run_past {config} {i} (suc k) run l =
     let g = run_next config i k x.0 x.1 in
     rw (f, g) (past_on k x.0 run (omega arith) x.1 (run_past k run (omega arith)))
 
-pub run_history : {config : Configuration} {i : Loaded} {n : ℕ} (k : ℕ) → RunEndsAfter i config n → k ≤ n + 1
-    → IsHistory i config (first_timed config i k)
-run_history {i} k run l = record { lawful = run.lawful; timed = run_timed i k run.lawful; past = run_past k run l }
+pub run_up_to : {config : Configuration} {i : Loaded} {n : ℕ} (k t : ℕ) → RunEndsAfter i config n → k ≤ n + 1
+    → AreIssuedBy t (first_timed config i k) → IsUpTo i config t (first_timed config i k)
+run_up_to {i} k t run l issued =
+    record { lawful = run.lawful; timed = run_timed i k run.lawful; past = run_past k run l; issued = issued }
+
+-- the same, of a state that shows them
+pub issued_up_to : {i : Loaded} {config : Configuration} {n last yet : ℕ} {c : Clocks} {count : ℕ} {s : Front}
+    → RunEndsAfter i config n → IsIssuedTo i config n last yet c count s
+    → IsUpTo i config last (first_timed config i count)
+issued_up_to {last = last} {count = count} run at = run_up_to count last run at.few at.issued
 
 -- issued after the cycle
 abbrev pub AreLater : ℕ → List Done → Type 0

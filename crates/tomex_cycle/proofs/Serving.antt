@@ -4,10 +4,10 @@ use Rattle.std.proofs.Common.{◌++◌, Option, Some, None, ap, sym, inl, inr, a
 use Rattle.std.specs.Prelude.{min}
 use Rattle.std.proofs.lemmas.List.{take-append-le, take_all}
 use Rattle.std.proofs.lemmas.List.Elements.{filter-append}
-use Rattle.tomex_cycle.proofs.Words.{nat_lt, if◌then◌else◌, ⊤, ◌&&◌, ◌||◌, ◌==◌, count_by, cases_Bool, ltb-true}
-use Rattle.tomex_cycle.proofs.Words.{nat_tests, ltb-false, lt-ltb, le-ltb, eq-eqb, eqb-true, and_parts, length-append}
-use Rattle.tomex_cycle.proofs.Words.{sum_by-cons, Done, has, IsInIssueOrder, IsPicked, Rises, is_listed, holds_place}
-use Rattle.tomex_cycle.proofs.Words.{order_of, place_of}
+use Rattle.tomex_cycle.proofs.Words.{nat_lt, if◌then◌else◌, ⊤, ◌&&◌, ◌==◌, count_by, cases_Bool, ltb-true, nat_tests}
+use Rattle.tomex_cycle.proofs.Words.{ltb-false, lt-ltb, le-ltb, eq-eqb, eqb-true, and_parts, length-append, sum_by-cons}
+use Rattle.tomex_cycle.proofs.Words.{Done, has, IsInIssueOrder, IsPicked, Rises, is_listed, holds_place, order_of}
+use Rattle.tomex_cycle.proofs.Words.{place_of, ◌||◌}
 use Rattle.tomex_bus.proofs.Picking.{first_picked}
 use Rattle.tomex_cycle.proofs.Orders.{in-append}
 use Rattle.tomex_cycle.proofs.Truth.{or_false, or_one}
@@ -178,11 +178,14 @@ some_in_order set {issue_numbers} {xs} by inside = record {
   rises = rises-filter (has set) issue_numbers xs by.rises;
 }
 
+-- the set is that of what goes from the places that are held
+abbrev pub IsGoing : ℕ → (Done → Bool) → List Done → ℕ → Type 0
+IsGoing t goes h picked = (x : ℕ) → x < 128 → has picked x ≡ goes_at t goes h x
+
 -- what is picked of the ready ones goes
 pub picked_goes : (t : ℕ) {n busy set picked : ℕ} {issue_numbers : List ℕ} (goes : Done → Bool) (h : List Done)
     → IsInIssueOrder busy issue_numbers (order_of t h) → ((x : ℕ) → x < 128 → has set x ≡ true → has busy x ≡ true)
-    → IsPicked set issue_numbers n picked → AreServed t n set goes h → AreAlone t goes h → (x : ℕ) → x < 128
-    → has picked x ≡ goes_at t goes h x
-picked_goes t {n} {set} {picked} {issue_numbers} goes h by inside pick each alone x l =
+    → IsPicked set issue_numbers n picked → AreServed t n set goes h → AreAlone t goes h → IsGoing t goes h picked
+picked_goes t {n} {set = set} {picked} {issue_numbers} goes h by inside pick each alone x l =
     first_picked set n picked issue_numbers (filter (has set) (order_of t h)) pick
     (some_in_order set by inside) x l ∙ (served t n set goes h each alone).taken x

@@ -1,37 +1,37 @@
 -- A cycle that issues nothing, computes no address and ends nothing, and leaves nothing that waits for a unit, is
 -- settled.
-use Rattle.std.proofs.Common.{ℕ, ◌+◌, ◌<◌, ◌≡◌, ◌∙◌, Bool, false, arith, refl, [], Option, None, inl, inr}
-use Rattle.std.proofs.Common.{slice_index_or, subst}
-use Rattle.tomex_cycle.proofs.Words.{◌⊎◌, Loaded, Configuration, Fault, Bytes, AreTimed, AllSettled, finishes}
-use Rattle.tomex_cycle.proofs.Words.{IsTimetableOf, IsSnapshot, MakesStarts, first_timed, RunEndsAfter, NoneWaits}
-use Rattle.tomex_cycle.proofs.Words.{Fetch, Finishes, Pools, RegStatus}
+use Rattle.std.proofs.Common.{ℕ, ◌+◌, ◌<◌, ◌≡◌, ◌∙◌, false, arith, Option, None, inl, inr, slice_index_or, List}
+use Rattle.tomex_cycle.proofs.Words.{◌⊎◌, Loaded, Configuration, AllSettled, finishes, IsTimetableOf, IsSnapshot}
+use Rattle.tomex_cycle.proofs.Words.{first_timed, NoneWaits, Finishes, Pools, Core, Done, IsNextCycle, IsUpTo}
+use Rattle.tomex_cycle.proofs.Words.{ShowsStations, Station, clocks}
 use Rattle.tomex_cycle.proofs.KnownFree.{free_to}
 use Rattle.tomex_cycle.proofs.Quiet.{quiet_settles}
-use Rattle.tomex_cycle.proofs.Runs.{run_history, run_timed}
-use Rattle.tomex_cycle.proofs.SettledStations.{issued_settles, issued_quiet}
+use Rattle.tomex_cycle.proofs.SettledStations.{issued_settles, issued_quiet, are_kept}
+use Rattle.tomex_cycle.specs.Views.{front}
+use Rattle.tomex_cycle.proofs.Runs.{issued_up_to}
 
-pub cycle_settles : {i : Loaded} {config : Configuration} {n t next count c : ℕ} (fault : Option Fault) (any : Bool)
-    {st0 st1 st4 : Pools} {rg0 rg1 : RegStatus} {ft0 ft1 : Fetch} {m0 m1 : Bytes} {f : Finishes}
-    → MakesStarts config next st0 m0 fault st1 m1 → (any ≡ false → st1.slots ≡ st0.slots) → RunEndsAfter i config n
-    → next ≡ t + 1 → IsSnapshot i config n t count st0 rg0 ft0 m0 → IsSnapshot i config n next c st4 rg1 ft1 m1
-    → c ≡ count → st4.slots ≡ st1.slots → (any ≡ false) ⊎ NoneWaits st4.slots → IsTimetableOf st4.slots (next + 1) f
-    → f.unsent ≡ 0 → AllSettled next (first_timed config i c)
-cycle_settles {i} {config} {n} {t} {next} {count} {c} fault any {st0} {st1} {st4} {rg0} {ft0} {m0} starts none run e old
-    now same slots how known unsent =
-    let timed : AreTimed config (first_timed config i c) = run_timed i c run.lawful in
-    let before : IsSnapshot i config n t c st0 rg0 ft0 m0 =
-    subst (λ (k : ℕ). IsSnapshot i config n t k st0 rg0 ft0 m0) (let z : count ≡ c = omega arith in z) old in
-    let low : 0 < next = omega arith in
-    let all = free_to next 0 known unsent (λ a x l. absurd (omega arith)) in
-    let free : (x : ℕ) → x < 96 → finishes next (slice_index_or st4.slots x None) ≡ false =
-    λ x l. all x next l (omega arith) (omega arith) in
-    elim how [
-      | inl quiet ↦ quiet_settles next (first_timed config i c) run.lawful timed low
-          (issued_quiet i config t next st0 st4 (first_timed config i c) [] (first_timed config i c) run.lawful timed
-          before.issue.issued e before.issue.slots now.issue.slots (slots ∙ none quiet) free refl)
-      | inr idle ↦
-          let begun = starts i (first_timed config i c) t e (run_history c run before.issue.few) before.issue.issued
-          before.issue.slots before.bytes in
-          issued_settles i config t next st1 st4 (first_timed config i c) [] (first_timed config i c) run.lawful timed
-          before.issue.issued e begun.1 now.issue.slots slots free idle refl
-    ]
+-- a cycle leaves the stations as its starts left them, which is as they were or with none that waits for a unit
+pub record IsIdle (next : ℕ) (old started new : Pools) : Type 0 where
+  pub same : new.slots ≡ started.slots
+  pub none : (started.slots ≡ old.slots) ⊎ NoneWaits new.slots
+  pub free : (x : ℕ) → x < 96 → finishes next (slice_index_or new.slots x None) ≡ false
+
+-- no operation finishes in the cycle, as is known after it
+pub none_finishes : {slots : List (Option Station)} (next : ℕ) {f : Finishes} → IsTimetableOf slots (next + 1) f
+    → f.unsent ≡ 0 → (x : ℕ) → x < 96 → finishes next (slice_index_or slots x None) ≡ false
+none_finishes next known unsent x l =
+    free_to next 0 known unsent (λ a y k. absurd (omega arith)) x next l (omega arith) (omega arith)
+
+pub cycle_settles : {i : Loaded} {config : Configuration} {n t next : ℕ} {old new : Core} {started : Pools}
+    → IsNextCycle i config n t next → IsSnapshot i config n t old → IsSnapshot i config n next new
+    → new.issued ≡ old.issued → ShowsStations i (clocks next t t) (first_timed config i old.issued) started
+    → IsIdle next old.front.pools started new.front.pools → AllSettled next (first_timed config i new.issued)
+cycle_settles {i} {config} {t = t} {next} {old} {new} at before after count shown idle =
+    let h : List Done = first_timed config i old.issued in
+    let up : IsUpTo i config t h = issued_up_to at.run before.issue in
+    let now : ShowsStations i (clocks next next next) h new.front.pools = rw count at after.issue.shown.slots in
+    rw count (elim idle.none [
+      | inl quiet ↦ quiet_settles next h up.lawful up.timed (let e : next ≡ t + 1 = at.next in omega arith)
+          (issued_quiet h up at.next (are_kept up at.next before.issue.shown.slots now (idle.same ∙ quiet)) idle.free)
+      | inr rests ↦ issued_settles h up at.next (are_kept up at.next shown now idle.same) idle.free rests
+    ])

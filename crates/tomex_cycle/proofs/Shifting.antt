@@ -1,14 +1,15 @@
 -- What a state shows after a cycle it shows after a later one, if only results finish in between.
 use Rattle.std.proofs.Common.{ℕ, zero, suc, ◌+◌, ◌-◌, ◌<◌, ◌≤◌, ◌≡◌, ◌∙◌, true, arith, refl, List, [], ◌∷◌, ◌++◌}
 use Rattle.std.proofs.Common.{Option, Some, None, ap, inl, inr, subst}
-use Rattle.tomex_cycle.proofs.Words.{◌≢◌, nat_lt, nat_le, ◌&&◌, AllByRecursion, both_ways, cases_Bool}
-use Rattle.tomex_cycle.proofs.Words.{nat_tests, Loaded, Configuration, Operand, Bytes, is_branch, is_number}
-use Rattle.tomex_cycle.proofs.Words.{step_dest, j_of, k_of, Done, cycle_of, times_of, field_of, field_from, producer}
-use Rattle.tomex_cycle.proofs.Words.{times_are, Fetch, IsSnapshot, IsYetToIssue, byte_at, first_timed, RunEndsAfter}
-use Rattle.tomex_cycle.proofs.Words.{clocks, fetch_of, holds_place, place_of, station_at, station_of, Pools, RegStatus}
+use Rattle.tomex_cycle.proofs.Words.{◌≢◌, nat_lt, nat_le, ◌&&◌, AllByRecursion, both_ways, cases_Bool, nat_tests}
+use Rattle.tomex_cycle.proofs.Words.{Loaded, Configuration, Operand, is_branch, is_number, step_dest, j_of, k_of, Done}
+use Rattle.tomex_cycle.proofs.Words.{cycle_of, times_of, field_of, field_from, producer, times_are, IsSnapshot}
+use Rattle.tomex_cycle.proofs.Words.{IsYetToIssue, byte_at, first_timed, RunEndsAfter, clocks, fetch_of, holds_place}
+use Rattle.tomex_cycle.proofs.Words.{place_of, station_at, station_of, Core, ShowsRegisters, ShowsStations}
 use Rattle.tomex_cycle.proofs.Quiet.{AllSteady, AllQuiet}
 use Rattle.tomex_cycle.proofs.Runs.{next_done, not_by, run_next, run_timed, step_is}
-use Rattle.tomex_cycle.proofs.Totals.{issued_more}
+use Rattle.tomex_cycle.specs.Views.{front}
+use Rattle.tomex_cycle.proofs.Parts.{issued_more}
 
 -- both cycles compare alike with the times of the step
 pub record IsAlike (u w : ℕ) (d : Done) : Type 0 where
@@ -123,31 +124,34 @@ yet_later {config} {i} count u w run l m yet steady x e v low =
     (times_are config h x run.lawful (run_timed i count run.lawful)).issue.1 v (omega arith)
 
 -- the snapshot after the cycle u is that after w
-pub shifted : {config : Configuration} {i : Loaded} {n u : ℕ} (w : ℕ) {count : ℕ} {st : Pools} {rg : RegStatus}
-    {ft : Fetch} {m : Bytes} → RunEndsAfter i config n → u ≤ w → AllSteadyAfter u w (first_timed config i (n + 1))
-    → IsSnapshot i config n u count st rg ft m → IsSnapshot i config n w count st rg ft m
-shifted {config} {i} {n} {u} w {count} run l steady old =
-    let h : List Done = first_timed config i count in
-    let few : count ≤ n + 1 = old.issue.few in
-    let same : AllAlike u w h = all_alike u w h l (λ k a b. steady_part count k run few (steady k a b)) in
+pub shifted : {config : Configuration} {i : Loaded} {n u : ℕ} (w : ℕ) {s : Core} → RunEndsAfter i config n → u ≤ w
+    → AllSteadyAfter u w (first_timed config i (n + 1)) → IsSnapshot i config n u s → IsSnapshot i config n w s
+shifted {config} {i} {n} {u} w {s} run l steady old =
+    let h : List Done = first_timed config i s.issued in
+    let slots : ShowsStations i (clocks u u u) h s.front.pools = old.issue.shown.slots in
+    let status : ShowsRegisters i u h s.front.registers = old.issue.shown.status in
+    let same : AllAlike u w h =
+    all_alike u w h l (λ k a b. steady_part s.issued k run old.issue.few (steady k a b)) in
     record {
       issue = record {
-        few = few;
-        slots = record {
-          places = old.issue.slots.places;
-          slots = λ x small. old.issue.slots.slots x small ∙ stations_alike i u w x h same;
-          order_count = old.issue.slots.order_count;
-          issue_numbers = old.issue.slots.issue_numbers;
+        few = old.issue.few;
+        shown = record {
+          slots = record {
+            places = slots.places;
+            slots = λ x small. slots.slots x small ∙ stations_alike i u w x h same;
+            order_count = slots.order_count;
+            issue_numbers = slots.issue_numbers;
+          };
+          status = record {
+            count = status.count;
+            status = status.status;
+            tags = λ r small. status.tags r small ∙ producer_alike u w r h same;
+            values = λ r small none. status.values r small (producer_alike u w r h same ∙ none);
+          };
+          from = old.issue.shown.from ∙ fetch_alike i u w h same;
         };
-        status = record {
-          count = old.issue.status.count;
-          status = old.issue.status.status;
-          tags = λ r small. old.issue.status.tags r small ∙ producer_alike u w r h same;
-          values = λ r small none. old.issue.status.values r small (producer_alike u w r h same ∙ none);
-        };
-        from = old.issue.from ∙ fetch_alike i u w h same;
         issued = issued_more u w h l old.issue.issued;
-        next = λ less. yet_later count u w run less l (old.issue.next less) steady;
+        next = λ less. yet_later s.issued u w run less l (old.issue.next less) steady;
       };
       bytes = record {
         base = old.bytes.base;

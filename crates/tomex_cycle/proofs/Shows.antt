@@ -6,9 +6,8 @@ use Rattle.std.proofs.lemmas.List.FromFn.{get_or-map-range_with_len, length-map-
 use Rattle.tomex_cycle.proofs.Words.{nat_lt, nat_le, if◌then◌else◌, ◌&&◌, map, filter_map, range_with_len, cases_Bool}
 use Rattle.tomex_cycle.proofs.Words.{nat_tests, le-leb, Loaded, Configuration, is_in, is_number, step_pool, step_dest}
 use Rattle.tomex_cycle.proofs.Words.{address_of, Busy, Tag, Done, cycle_of, is_memory, Tables, tables_of, shown, qi_of}
-use Rattle.tomex_cycle.proofs.Words.{producer, all_tags, place_of_pool, AreIssuedBy, IsHistory, clocks, holds_place}
-use Rattle.tomex_cycle.proofs.Words.{station_at, station_of, ShowsStations, ShowsRegisters, place_of_tag, Pools}
-use Rattle.tomex_cycle.proofs.Words.{RegStatus}
+use Rattle.tomex_cycle.proofs.Words.{producer, all_tags, place_of_pool, AreIssuedBy, clocks, holds_place, station_at}
+use Rattle.tomex_cycle.proofs.Words.{station_of, ShowsStations, ShowsRegisters, place_of_tag, Pools, RegStatus, IsUpTo}
 use Rattle.tomex_timing.specs.Tables.{busy_of, is_under_way}
 use Rattle.tomex_cycle.proofs.Places.{low, AreLow, IsLow, same_place, turn_and}
 use Rattle.tomex_tags.specs.Contents.{a_from, busy_from}
@@ -55,7 +54,7 @@ qi_is t (d ∷ older) r issued = elim (cases_Bool (is_number (step_dest d.step) 
 place_by : (x q : ℕ) → q ≡ x / 16 → x < 96 → 16 * place_of_pool (pool_at q) + x % 16 ≡ x
 place_by x q e l = grind (arith, nat_tests)
 
-same_tables : (a : Tables) (t : ℕ) (busy : List Busy) (registers : List (Option Tag)) → a.cycle ≡ t → a.busy ≡ busy
+pub same_tables : (a : Tables) (t : ℕ) (busy : List Busy) (registers : List (Option Tag)) → a.cycle ≡ t → a.busy ≡ busy
     → a.registers ≡ registers → a ≡ record { cycle = t; busy = busy; registers = registers }
 same_tables a t busy registers e f g =
     let x : ℕ → Tables = λ k. record { cycle = k; busy = a.busy; registers = a.registers } in
@@ -78,19 +77,19 @@ list_by n xs f count each = ext_get_or None xs (map f (range_with_len 0 n))
     each x k ∙ sym (get_or-map-range_with_len f 0 n x x None k (omega arith)))
 
 pub tables_is : {i : Loaded} {config : Configuration} {t : ℕ} {h : List Done} {st : Pools} {rg : RegStatus}
-    (busy : List (Option Busy)) (tables : Tables) → IsHistory i config h → AreIssuedBy t h
-    → ShowsStations i (clocks t t t) h st → ShowsRegisters i t h rg → length busy ≡ 96
+    (busy : List (Option Busy)) → IsUpTo i config t h → ShowsStations i (clocks t t t) h st → ShowsRegisters i t h rg
+    → length busy ≡ 96
     → ((x : ℕ) → x < 96 → slice_index_or busy x None ≡ option_map (busy_from (tag_at_place x)) (slice_index_or st.slots
-    x None)) → tables.cycle ≡ t → tables.busy ≡ filter_map (λ b. b) busy → tables.registers ≡ rg.tags
-    → tables ≡ tables_of t h
-tables_is {i} {config} {t} {h} {rg} busy tables past issued slots status count each cycle shows registers =
+    x None)) → ◌≡◌ {A = Tables} (record { cycle = t; busy = filter_map (λ b. b) busy; registers = rg.tags })
+    (tables_of t h)
+tables_is {i} {t = t} {h} {rg = rg} busy up slots status count each =
     let f : ℕ → Option Busy = λ x. shown t h (tag_at_place x) in
     let a : busy ≡ map f (range_with_len 0 96) = list_by 96 busy f count (λ x l.
     let p : place_of_tag (tag_at_place x) ≡ x = place_back x l in
-    let s = shown_is i t (tag_at_place x) h (omega arith) (low config h past.lawful past.timed) issued in
+    let s = shown_is i t (tag_at_place x) h (omega arith) (low h up) up.issued in
     each x l ∙ (ap (option_map (busy_from (tag_at_place x))) (slots.slots x l) ∙ sym (rw p at s))) in
-    let b = shows ∙ (ap (filter_map (λ (x : Option Busy). x)) a ∙ (filter_map-map f (λ x. x) (range_with_len 0 96) ∙ sym
-    (filter_map-map tag_at_place (shown t h) (range_with_len 0 96)))) in
-    let c : tables.registers ≡ map (qi_of t h) (range_with_len 0 32) =
-    registers ∙ list_by 32 rg.tags (qi_of t h) status.status (λ r l. status.tags r l ∙ sym (qi_is t h r issued)) in
-    same_tables tables t (filter_map (shown t h) all_tags) (map (qi_of t h) (range_with_len 0 32)) cycle b c
+    let b = ap (filter_map (λ (x : Option Busy). x)) a ∙ (filter_map-map f (λ x. x) (range_with_len 0 96) ∙ sym
+    (filter_map-map tag_at_place (shown t h) (range_with_len 0 96))) in
+    let c : rg.tags ≡ map (qi_of t h) (range_with_len 0 32) =
+    list_by 32 rg.tags (qi_of t h) status.status (λ r l. status.tags r l ∙ sym (qi_is t h r up.issued)) in
+    same_tables _ t (filter_map (shown t h) all_tags) (map (qi_of t h) (range_with_len 0 32)) refl b c

@@ -1,17 +1,17 @@
 -- A cycle in which nothing happens, and those after it up to the next finish, keep what holds of the machine.
-use Rattle.std.proofs.Common.{ℕ, ◌+◌, ◌-◌, ◌<◌, ◌≤◌, ◌≡◌, ◌∙◌, ◌^◌, arith, refl, List, [], ◌∷◌, ◌++◌, ap, sym, inl, inr}
+use Rattle.std.proofs.Common.{ℕ, ◌+◌, ◌-◌, ◌<◌, ◌≤◌, ◌≡◌, ◌^◌, arith, refl, List, [], ◌∷◌, ◌++◌, ap, sym, inl, inr}
 use Rattle.std.proofs.Common.{subst}
 use Rattle.tomex_cycle.proofs.Words.{◌≢◌, nat_lt, ◌==◌, if◌then◌else◌, cases_Bool, cases_order, ltb-true, ltb-false}
 use Rattle.tomex_cycle.proofs.Words.{lt-ltb, eqb-true, eqb-false, Loaded, Configuration, EndsWithin, Done, greatest_end}
 use Rattle.tomex_cycle.proofs.Words.{AreTimed, Inner, Progress, Running, Ended, CycleOutcome, AreResults, IsFree}
 use Rattle.tomex_cycle.proofs.Words.{IsSkipped, progress_of, IsAt, MakesCycle, RunEndsAfter, first_timed, Seen}
-use Rattle.tomex_cycle.proofs.Words.{seen_after, IsSound, AllSettled}
-use Rattle.tomex_cycle.specs.declared.progress.CycleOutcome.TheVariants as made_as
+use Rattle.tomex_cycle.proofs.Words.{seen_after, IsSound, AllSettled, events_in}
 use Rattle.tomex_cycle.proofs.Quiet.{AllSteady, HasResult, settled_next, settled_quiet, quiet_settles, quiet_steady}
-use Rattle.tomex_cycle.proofs.Runs.{rest_to, run_timed}
+use Rattle.tomex_cycle.proofs.Runs.{rest_to, run_timed, issued_up_to}
 use Rattle.tomex_cycle.proofs.Shifting.{AllSteadyAfter, AllQuietAfter, shifted}
 use Rattle.tomex_cycle.proofs.SettledStations.{issued_free, issued_results, later_settled, later_due}
 use Rattle.tomex_cycle.proofs.Ticks.{running_low, seen_is, sound_next}
+use Rattle.tomex_cycle.specs.declared.progress.CycleOutcome.TheVariants as made_as
 
 -- no run is over in a cycle in which nothing happens but finishes of results
 over_elsewhere : (u : ℕ) (h : List Done) → 0 < u → AllSteady u h → greatest_end h ≢ u
@@ -31,8 +31,8 @@ settled_past {i} {config} {n} u w at run low l now settled free k a b =
     let whole : AreTimed config (rest.0 ++ h) = rw rest.1.same at (run_timed i (n + 1) run.lawful) in
     let all : AllSettled u (rest.0 ++ h) = later_settled u rest.0 h run.lawful whole rest.1.later low settled in
     rw rest.1.same (settled_quiet u (w - u) (rest.0 ++ h) run.lawful whole low all (λ v from to. later_due (λ d. ⊥)
-    config u v rest.0 h whole rest.1.later (issued_free u v run.lawful (run_timed i at.issued run.lawful)
-    now.issue.issued from now.issue.slots (λ x small. free x v small (omega arith) (omega arith)))) k a (omega arith))
+    config u v rest.0 h whole rest.1.later (issued_free (issued_up_to run now.issue) from now.issue.shown.slots
+    (λ x small. free x v small (omega arith) (omega arith)))) k a (omega arith))
 
 -- so the last of them is settled too
 settled_last : {A : Type 0} {i : Loaded} {config : Configuration} {n : ℕ} (u w : ℕ) (at : Inner A)
@@ -57,17 +57,17 @@ next_steady {i} {config} {n} u at run low now settled results =
     let h : List Done = first_timed config i at.issued in
     let rest = rest_to at.issued (n + 1) u run now.issue.next now.issue.few (omega arith) in
     let timed : AreTimed config (first_timed config i (n + 1)) = run_timed i (n + 1) run.lawful in
-    let due = later_due HasResult config u (u + 1) rest.0 h (rw rest.1.same at timed) rest.1.later (issued_results u
-    (u + 1) run.lawful (run_timed i at.issued run.lawful) now.issue.issued (omega arith) now.issue.slots results) in
+    let due = later_due HasResult config u (u + 1) rest.0 h (rw rest.1.same at timed) rest.1.later
+    (issued_results (issued_up_to run now.issue) (omega arith) now.issue.shown.slots results) in
     settled_next HasResult u (first_timed config i (n + 1)) (λ d result. result.0) run.lawful timed low settled
     (rw rest.1.same due)
 
 -- the machine is as it is after cycles in which nothing happens but finishes of results
-steady_sound : {A : Type 0} {i : Loaded} {config : Configuration} {u : ℕ} {now : Progress} {at : Inner A} (w : ℕ)
-    → IsSound i config u now at → u ≤ w → w ≤ 2 ^ 40 → now ≡ Running
+steady_sound : {A : Type 0} {i : Loaded} {config : Configuration} {u : ℕ} {at : Inner A} (w : ℕ)
+    → IsSound i config u Running at → u ≤ w → w ≤ 2 ^ 40
     → ((n : ℕ) → RunEndsAfter i config n → AllSteadyAfter u w (first_timed config i (n + 1)))
-    → IsSound i config w now at
-steady_sound {i} {config} {u} {now} {at} w next l high runs all = record {
+    → IsSound i config w Running at
+steady_sound {i} {config} {u} {at} w next l high all = record {
   lawful = next.lawful;
   loaded = next.loaded;
   low = high;
@@ -75,7 +75,7 @@ steady_sound {i} {config} {u} {now} {at} w next l high runs all = record {
       let after = next.after n run in
       let steady : AllSteadyAfter u w (first_timed config i (n + 1)) = all n run in
       let end : ℕ = greatest_end (first_timed config i (n + 1)) in
-      let on : u < end = running_low u end now after.answer runs in
+      let on : u < end = running_low u end Running after.answer refl in
       let below : w < end = elim (cases_Bool (nat_lt w end)) [
         | inl k ↦ ltb-true _ _ k
         | inr k ↦ absurd (over_elsewhere end (first_timed config i (n + 1)) (omega arith)
@@ -83,58 +83,70 @@ steady_sound {i} {config} {u} {now} {at} w next l high runs all = record {
       ] in
       record {
         high = omega arith;
-        answer = runs ∙ sym (ap (λ b. if b then Running else Ended) (lt-ltb w end below));
+        answer = sym (ap (λ b. if b then Running else Ended) (lt-ltb w end below));
         snapshot = shifted w run l steady after.snapshot;
       };
 }
 
--- a cycle keeps what holds, and so do those that are passed after it
-pub sound_later : {A : Type 0} {i : Loaded} {config : Configuration} {cycle : ℕ} {last : Progress} {old : Inner A}
-    (w : ℕ) (now : Progress) (made : CycleOutcome) (new : Inner A) → IsSound i config cycle last old → last ≡ Running
-    → MakesCycle i config (cycle + 1) old made new → progress_of made ≡ now → cycle + 1 ≤ w → w ≤ 2 ^ 40
-    → (cycle + 1 < w → (made ≡ made_as.Settled) × IsFree new.pools.slots (cycle + 1) w) → IsSound i config w now new
-sound_later {i} {config} {cycle} w now made new sound runs makes same l high skips =
-    let next : IsSound i config (cycle + 1) now new = sound_next now new sound runs (omega arith)
-    (λ n t run e old. let r = makes n t run e old in (r.0, sym same ∙ r.1)) in
-    elim (cases_order (cycle + 1) w) [
-      | inl e ↦ rw (← e) next
-      | inr (inl less) ↦
-          let k = skips less in
-          steady_sound w next l high (sym same ∙ ap progress_of k.0) (λ n run v from to.
-          let shot = makes n cycle run refl (sound.after n run).snapshot in
-          quiet_steady v (first_timed config i (n + 1))
-          (settled_past (cycle + 1) w new run (omega arith) l shot.0 (shot.3 k.0) k.1 v from to))
-      | inr (inr beyond) ↦ absurd (omega arith)
-    ]
+-- a running machine has made a cycle
+pub record HasMade {A : Type 0} (i : Loaded) (config : Configuration) (cycle : ℕ) (old : Inner A) (made : CycleOutcome)
+    (new : Inner A) : Type 0 where
+  pub sound : IsSound i config cycle Running old
+  pub makes : MakesCycle i config (cycle + 1) old made new
+
+pub has_made : {A : Type 0} {i : Loaded} {config : Configuration} {cycle : ℕ} {last : Progress} {old : Inner A}
+    {made : CycleOutcome} (new : Inner A) → last ≡ Running → IsSound i config cycle last old
+    → MakesCycle i config (cycle + 1) old made new → HasMade i config cycle old made new
+has_made new runs sound makes = record { sound = rw runs at sound; makes = makes }
+
+-- what the cycle leaves of a run that ends
+pub made_in : {A : Type 0} {i : Loaded} {config : Configuration} {cycle : ℕ} {old new : Inner A} {made : CycleOutcome}
+    → HasMade i config cycle old made new → (n : ℕ) → RunEndsAfter i config n → IsAt i config n (cycle + 1) new
+    × (progress_of made ≡ (if nat_lt (cycle + 1) (greatest_end (first_timed config i (n + 1))) then Running else Ended))
+    × (made ≡ made_as.Active → 0 < events_in (cycle + 1) (first_timed config i (n + 1)))
+    × (made ≡ made_as.Settled → AllSettled (cycle + 1) (first_timed config i new.issued))
+made_in {cycle = cycle} has n run =
+    has.makes n cycle (record { run = run; next = refl }) (has.sound.after n run).snapshot
+
+-- a cycle keeps what holds
+pub sound_made : {A : Type 0} {i : Loaded} {config : Configuration} {cycle : ℕ} {old new : Inner A}
+    {made : CycleOutcome} → HasMade i config cycle old made new → cycle + 1 ≤ 2 ^ 40
+    → IsSound i config (cycle + 1) (progress_of made) new
+sound_made {new = new} {made} has high = sound_next (progress_of made) new has.sound (omega arith)
+    (λ n t at old. let r = has.makes n t at old in (r.0, r.1))
+
+-- so do those that are passed after it
+sound_free : {A : Type 0} {i : Loaded} {config : Configuration} {cycle : ℕ} {old new : Inner A} {made : CycleOutcome}
+    (w : ℕ) → HasMade i config cycle old made new → made ≡ made_as.Settled → cycle + 1 ≤ w → w ≤ 2 ^ 40
+    → IsFree new.pools.slots (cycle + 1) w → IsSound i config w Running new
+sound_free {i} {config} {cycle} {new = new} w has settled l high free =
+    steady_sound w (rw settled at (sound_made has (omega arith))) l high (λ n run v from to.
+    let shot = made_in has n run in
+    quiet_steady v (first_timed config i (n + 1))
+    (settled_past (cycle + 1) w new run (omega arith) l shot.0 (shot.3 settled) free v from to))
 
 -- and so does one more, in which nothing happens but finishes of results
-sound_taken : {A : Type 0} {i : Loaded} {config : Configuration} {cycle : ℕ} {last : Progress} {old : Inner A} (w : ℕ)
-    (now : Progress) (made : CycleOutcome) {new : Inner A} → IsSound i config cycle last old
-    → MakesCycle i config (cycle + 1) old made new → made ≡ made_as.Settled → now ≡ Running → cycle + 1 ≤ w
-    → w + 1 ≤ 2 ^ 40 → IsFree new.pools.slots (cycle + 1) w → AreResults new.pools.slots (w + 1)
-    → IsSound i config w now new → IsSound i config (w + 1) now new
-sound_taken {i} {config} {cycle} w now made {new} sound makes quiet runs l high free results next =
-    steady_sound (w + 1) next (omega arith) high runs (λ n run v from to.
-    let shot = makes n cycle run refl (sound.after n run).snapshot in
-    let settled = settled_last (cycle + 1) w new run (omega arith) l shot.0 (shot.3 quiet) free in
+sound_taken : {A : Type 0} {i : Loaded} {config : Configuration} {cycle : ℕ} {old new : Inner A} {made : CycleOutcome}
+    (w : ℕ) → HasMade i config cycle old made new → made ≡ made_as.Settled → cycle + 1 ≤ w → w + 1 ≤ 2 ^ 40
+    → IsFree new.pools.slots (cycle + 1) w → AreResults new.pools.slots (w + 1) → IsSound i config (w + 1) Running new
+sound_taken {cycle = cycle} {new = new} w has settled l high free results =
+    let next = sound_free w has settled l (omega arith) free in
+    steady_sound (w + 1) next (omega arith) high (λ n run v from to.
+    let shot = made_in has n run in
+    let last = settled_last (cycle + 1) w new run (omega arith) l shot.0 (shot.3 settled) free in
     let at : v ≡ w + 1 = omega arith in
-    rw at (next_steady w new run (omega arith) (next.after n run).snapshot settled results))
+    rw at (next_steady w new run (omega arith) (next.after n run).snapshot last results))
 
 -- so it does as far as no station changes
-pub sound_passed : {A : Type 0} {i : Loaded} {config : Configuration} {cycle to w before after : ℕ} {last : Progress}
-    {old : Inner A} (now : Progress) (made : CycleOutcome) (new : Inner A) → IsSound i config cycle last old
-    → last ≡ Running → MakesCycle i config (cycle + 1) old made new → made ≡ made_as.Settled → progress_of made ≡ now
-    → w ≤ 2 ^ 40 → IsSkipped new.pools.slots (cycle + 1) to w before after → IsSound i config w now new
-sound_passed {i} {config} {w = w} now made new sound runs makes quiet same high passed =
-    let at : passed.last_free ≤ 2 ^ 40 → IsSound i config passed.last_free now new = λ low. sound_later passed.last_free
-    now made new sound runs makes same passed.least low (λ less. (quiet, passed.free)) in
-    elim passed.last [
-      | inl here ↦ let e : w ≡ passed.last_free = here.0 in rw e (at (omega arith))
-      | inr one ↦
-          let e : w ≡ passed.last_free + 1 = one.0 in
-          rw e (sound_taken passed.last_free now made sound makes quiet (sym same ∙ ap progress_of quiet)
-          passed.least (omega arith) passed.free one.3 (at (omega arith)))
-    ]
+pub sound_passed : {A : Type 0} {i : Loaded} {config : Configuration} {cycle to w before after : ℕ}
+    {old new : Inner A} {made : CycleOutcome} → HasMade i config cycle old made new → made ≡ made_as.Settled
+    → w ≤ 2 ^ 40 → IsSkipped new.pools.slots (cycle + 1) to w before after → IsSound i config w Running new
+sound_passed {w = w} has settled high passed = elim passed.last [
+  | inl here ↦ let e : w ≡ passed.last_free = here.0 in
+      rw e (sound_free passed.last_free has settled passed.least (omega arith) passed.free)
+  | inr one ↦ let e : w ≡ passed.last_free + 1 = one.0 in
+      rw e (sound_taken passed.last_free has settled passed.least (omega arith) passed.free one.3)
+]
 
 -- the count of cycles made is no part of what holds
 pub sound_counted : {A : Type 0} {i : Loaded} {config : Configuration} {cycle : ℕ} {now : Progress} {inner : Inner A}

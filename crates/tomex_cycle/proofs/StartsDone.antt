@@ -1,39 +1,39 @@
 -- The phase of starts.
-use Rattle.std.proofs.Common.{length, slice_index_or, ℕ, ◌+◌, ◌<◌, ◌≡◌, ◌∙◌, true, arith, refl, List, []}
-use Rattle.std.proofs.Common.{◌∷◌, Option, Some, None, ap, sym, inl, inr, subst, slice_index, ◌≤◌}
+use Rattle.std.proofs.Common.{length, slice_index_or, ℕ, ◌+◌, ◌<◌, ◌≡◌, ◌∙◌, true, arith, refl, List, [], ◌∷◌, Option}
+use Rattle.std.proofs.Common.{Some, None, ap, sym, inl, inr, subst, slice_index, ◌≤◌}
 use Rattle.tomex_cycle.proofs.Words.{◌==◌, is_some, nat_lt, if◌then◌else◌, nat_le, cases_Bool, lt-ltb, and_parts}
 use Rattle.tomex_cycle.proofs.Words.{ltb-true, ltb-false, both_ways, eqb-true, lt-leb, Loaded, Configuration, byte_in}
-use Rattle.tomex_cycle.proofs.Words.{Bytes, step_unit, Fault, Step, Done, AreTimed, MakesStarts, AreIssuedBy, ArePast}
-use Rattle.tomex_cycle.proofs.Words.{IsInside, AllCanBegin, AllInside, CanBegin, HaveBegun, HaveStored, begun}
-use Rattle.tomex_cycle.proofs.Words.{IsStarting, AreLow, ShowsMemory, clocks, holds_place, station_at, station_of}
-use Rattle.tomex_cycle.proofs.Words.{step_in, Pools, AreBusy, Station, has, get_or_past, place_of_unit, UnitId}
+use Rattle.tomex_cycle.proofs.Words.{Bytes, step_unit, Fault, Step, Done, MakesStarts, IsInside, AllCanBegin, AllInside}
+use Rattle.tomex_cycle.proofs.Words.{CanBegin, HaveBegun, HaveStored, begun, IsStarting, AreLow, ShowsMemory, clocks}
+use Rattle.tomex_cycle.proofs.Words.{holds_place, station_at, station_of, step_in, Pools, AreBusy, Station, has}
+use Rattle.tomex_cycle.proofs.Words.{get_or_past, place_of_unit, UnitId, IsUpTo}
 use Rattle.tomex_cycle.proofs.StartsMade.{begins_at, inside_is, some_is, step_is}
 use Rattle.tomex_cycle.proofs.StartsPicked.{starting_is, starts_at, starts_in, five}
 use Rattle.tomex_cycle.proofs.StartsWritten.{written_is}
-use Rattle.tomex_rvdec.specs.declared.pool.UnitId.TheVariants as units
 use Rattle.tomex_cycle.proofs.Truth.{or_cases}
+use Rattle.tomex_cycle.proofs.Parts.{older_up_to}
+use Rattle.tomex_rvdec.specs.declared.pool.UnitId.TheVariants as units
 
 unstarted : (t u start finish : ℕ) → u ≡ t + 1 → (start == u) ≡ true → (if nat_le start t then Some finish else None)
     ≡ None
 unstarted t u start finish e f = let at : start ≡ u = eqb-true start u f in rw (lt-leb start t (omega arith)) refl
 
 -- what starts has a unit and an access inside memory
-can_begin : {i : Loaded} (config : Configuration) {t : ℕ} (u x : ℕ) {h : List Done} (part : List Done) (m : Bytes)
-    → AreTimed config part → AreIssuedBy t part → ArePast i part → u ≡ t + 1 → ShowsMemory i t h m
-    → starts_at t u part x ≡ true → (s : Station) × (station_at i (clocks t t t) part x ≡ Some s) × CanBegin m s
-can_begin config u x [] m timed issued past e shown starts = absurd (cc)
-can_begin {i} config {t} u x (d ∷ older) m timed issued past e shown starts = elim (cases_Bool (holds_place t x d)) [
+can_begin : {i : Loaded} {config : Configuration} {t : ℕ} (u x : ℕ) {h : List Done} (part : List Done) (m : Bytes)
+    → IsUpTo i config t part → u ≡ t + 1 → ShowsMemory i t h m → starts_at t u part x ≡ true
+    → (s : Station) × (station_at i (clocks t t t) part x ≡ Some s) × CanBegin m s
+can_begin u x [] m up e shown starts = absurd (cc)
+can_begin {i} {t = t} u x (d ∷ older) m up e shown starts = elim (cases_Bool (holds_place t x d)) [
   | inr free ↦
-      let r = can_begin config u x older m timed.1 issued.1 past.2 e shown (rw free at starts) in
+      let r = can_begin u x older m (older_up_to up) e shown (rw free at starts) in
       (r.0, rw free r.1, r.2)
   | inl held ↦
       let s : starts_in u d ≡ true = rw held at starts in
-      let same : step_in (station_of i (clocks t t t) d older) ≡ d.step = step_is i config t u d older timed issued past
-      e s in (
+      let same : step_in (station_of i (clocks t t t) d older) ≡ d.step = step_is t u d older up e s in (
         station_of i (clocks t t t) d older,
         rw held refl,
         record {
-          inside = subst (λ (y : Step). IsInside m y) (sym same) (inside_is u d older past s shown);
+          inside = subst (λ (y : Step). IsInside m y) (sym same) (inside_is u d older up.past s shown);
           not_started = unstarted t u d.at.start d.at.finish e
               (and_parts (is_some (step_unit d.step)) (d.at.start == u) s).1;
           unit = some_is (step_unit d.step) (and_parts (is_some (step_unit d.step)) (d.at.start == u) s).0;
@@ -91,18 +91,17 @@ pub start_made : (config : Configuration) (next : ℕ) (old new : Pools) (m writ
     → (length old.slots ≡ 96 → AreLow picked → AllCanBegin m picked old.slots → fault ≡ None)
     → (AreLow picked → AllInside m picked new.slots → HaveStored new.slots picked 96 m written)
     → MakesStarts config next old m fault new written
-start_made config next old new m written fault picked starting filled begins good writes i h t e past issued shown
-    memory =
+start_made config next old new m written fault picked starting filled begins good writes i h t e up shown memory =
     let picks : (x : ℕ) → x < 96 → has picked x ≡ starts_at t next h x =
-    λ x l. starting_is t x past.lawful past.timed issued shown filled starting e (omega arith) in
+    λ x l. starting_is x up shown filled starting e (omega arith) in
     let low : AreLow picked = λ x l k. starting_low starting filled x l k in
     let can : AllCanBegin m picked old.slots = λ x l pick.
-    let r = can_begin config next x h m past.timed issued past.past e memory (sym (picks x l) ∙ pick) in
+    let r = can_begin next x h m up e memory (sym (picks x l) ∙ pick) in
     (r.0, shown.slots x l ∙ r.1, r.2) in
     let made : HaveBegun config next m picked 96 old new = begins shown.places low can in
     let slots : (x : ℕ) → x < 96 → slice_index_or new.slots x None ≡ station_at i (clocks next t t) h x = λ x l.
     made.slots x l ∙ (rw (lt-ltb x 96 l, picks x l, shown.slots x l) refl
-    ∙ sym (begins_at i config t next x h [] h m past.lawful past.timed issued past.past e memory refl)) in
+    ∙ sym (begins_at t next x [] h m up e memory)) in
     let stored : HaveStored new.slots picked 96 m written = writes low (all_inside can made) in
     let base : m.base ≡ i.window.base = memory.base in (
       good shown.places low can,
@@ -115,7 +114,7 @@ start_made config next old new m written fault picked starting filled begins goo
       record {
         base = stored.base ∙ memory.base;
         size = stored.size ∙ memory.size;
-        bytes = λ a from to. stored.bytes a (omega arith) ∙ written_is i t next a h new.slots picked (byte_in m)
-            past.lawful past.timed issued past.past e picks slots (memory.bytes a from to);
+        bytes = λ a from to. stored.bytes a (omega arith)
+            ∙ written_is a h new.slots picked (byte_in m) up e picks slots (memory.bytes a from to);
       },
     )

@@ -1,26 +1,28 @@
 -- The pass over the order picks the stations that the recurrence starts.
-use Rattle.std.proofs.Common.{length, slice_index, slice_index_or, append_assoc, ℕ, ◌+◌, ◌<◌, ◌≤◌, ◌≡◌, ◌∙◌, Bool, true}
-use Rattle.std.proofs.Common.{false, arith, refl, List, [], ◌∷◌, ◌++◌, Option, Some, None, ap, sym, inl, inr}
-use Rattle.tomex_cycle.proofs.Words.{nat_lt, if◌then◌else◌, ◌&&◌, ◌||◌, ◌==◌, not, is_some, count_by, MatchOption}
-use Rattle.tomex_cycle.proofs.Words.{nat_tests, cases_Bool, ltb-true, ltb-false, lt-ltb, and_parts, and_right}
-use Rattle.tomex_cycle.proofs.Words.{ne_eqb, Loaded, Configuration, IsWithinLimits, option_of, UnitId, place_of_unit}
-use Rattle.tomex_cycle.proofs.Words.{bytes_of, is_number, j_of, k_of, step_pool, step_unit, unit_with_pool, Tag, Done}
-use Rattle.tomex_cycle.proofs.Words.{cycle_of, is_memory, is_of, last_address, source_end, AreTimed, IsTimed, IsLeast}
-use Rattle.tomex_cycle.proofs.Words.{are_conflicts_finished, can_start, has_unit, tag_at, tag_of, AreIssuedBy, wanted}
-use Rattle.tomex_cycle.proofs.Words.{kind_if, kind_of, IsStarting, AreStartable, is_clear, ShowsStations, clocks}
-use Rattle.tomex_cycle.proofs.Words.{holds_place, order_of, place_of, station_of, no_option, is_waiting, place_at}
-use Rattle.tomex_cycle.proofs.Words.{Pools, AreBusy, IsInIssueOrder, has, PoolId, is_free}
-use Rattle.tomex_rvdec.specs.declared.pool.UnitId.TheVariants as units
-use Rattle.tomex_cycle.specs.Starts.{is_among}
+use Rattle.std.proofs.Common.{append-nil, length, slice_index, slice_index_or, append_assoc, ℕ, ◌+◌, ◌<◌, ◌≤◌, ◌≡◌, ◌∙◌}
+use Rattle.std.proofs.Common.{Bool, true, false, arith, refl, List, [], ◌∷◌, ◌++◌, Option, Some, None, ap, sym, inl}
+use Rattle.std.proofs.Common.{inr}
+use Rattle.tomex_cycle.proofs.Addresses.{order_here}
+use Rattle.tomex_cycle.proofs.Words.{nat_lt, if◌then◌else◌, ◌&&◌, ◌==◌, not, is_some, count_by, MatchOption, nat_tests}
+use Rattle.tomex_cycle.proofs.Words.{cases_Bool, ltb-true, ltb-false, lt-ltb, and_parts, and_right, ne_eqb, Loaded}
+use Rattle.tomex_cycle.proofs.Words.{Configuration, option_of, UnitId, place_of_unit, bytes_of, is_number, j_of, k_of}
+use Rattle.tomex_cycle.proofs.Words.{step_pool, step_unit, unit_with_pool, Tag, Done, cycle_of, is_memory, is_of}
+use Rattle.tomex_cycle.proofs.Words.{last_address, source_end, IsTimed, IsLeast, are_conflicts_finished, can_start}
+use Rattle.tomex_cycle.proofs.Words.{has_unit, tag_at, tag_of, wanted, kind_if, kind_of, IsStarting, is_clear}
+use Rattle.tomex_cycle.proofs.Words.{ShowsStations, clocks, holds_place, order_of, place_of, station_of, no_option}
+use Rattle.tomex_cycle.proofs.Words.{is_waiting, place_at, Pools, AreBusy, IsInIssueOrder, has, PoolId, is_free, ◌||◌}
+use Rattle.tomex_cycle.proofs.Words.{IsUpTo, onto_end}
+use Rattle.tomex_cycle.specs.Starts.{is_among, AreStartableFor}
 use Rattle.tomex_cycle.proofs.AddressChosen.{address_rises}
-use Rattle.tomex_cycle.proofs.Addresses.{order_here, number_is_some}
-use Rattle.tomex_cycle.proofs.Totals.{issued_more, reach}
-use Rattle.tomex_cycle.proofs.Places.{order-append, is_vacant, vacant, least_test}
-use Rattle.tomex_cycle.proofs.Fields.{timed_part, issued_part}
+use Rattle.tomex_cycle.proofs.Totals.{reach}
+use Rattle.tomex_cycle.proofs.Places.{is_vacant, vacant, least_test, held_place}
 use Rattle.tomex_cycle.proofs.IssueOrder.{no_access}
 use Rattle.tomex_cycle.proofs.Serving.{AreAlone, goes_at, AreServed, Serves, picked_goes}
 use Rattle.tomex_cycle.proofs.Orders.{order_is}
-use Rattle.tomex_cycle.proofs.StartsTests.{ready_is, no_bytes, bytes_are, conflicts_none, seen, clear_is}
+use Rattle.tomex_cycle.proofs.StartsTests.{ready_is, no_bytes, bytes_are, conflicts_none, clear_is}
+use Rattle.tomex_cycle.proofs.Held.{ShowsPart, shows_part, held_here, older_shown}
+use Rattle.tomex_cycle.proofs.Parts.{older_up_to}
+use Rattle.tomex_rvdec.specs.declared.pool.UnitId.TheVariants as units
 
 -- Which start.
 
@@ -53,36 +55,30 @@ pub start_least : {config : Configuration} (d : Done) {older : List Done} (unit 
 start_least {config} d {older} unit timed e = least_from (step_unit d.step) unit (d.at.start ≡ d.at.issue)
     (λ v. IsLeast (can_start config older d.step v d.at.issue (cycle_of d.at.address)) d.at.start) e timed.start
 
-clear_here : {i : Loaded} {config : Configuration} (t u : ℕ) {st : Pools} {h : List Done} (newer : List Done) (d : Done)
-    (older : List Done) → IsWithinLimits config → AreTimed config h → AreIssuedBy t h
-    → ShowsStations i (clocks t t t) h st → h ≡ newer ++ (d ∷ older) → u ≡ t + 1 → cycle_of d.at.address < u
+clear_here : {i : Loaded} {config : Configuration} {t u : ℕ} {st : Pools} (d : Done) (older : List Done)
+    → IsUpTo i config t (d ∷ older) → u ≡ t + 1 → ShowsPart i (clocks t t t) st older → cycle_of d.at.address < u
     → is_clear st.slots (order_of t older) (station_of i (clocks t t t) d older) u ≡ are_conflicts_finished older d.step
     u
-clear_here {i} {config} t u {st} newer d older good timed issued shown e f l =
-    let part : AreTimed config (d ∷ older) = timed_part config newer (d ∷ older) (rw e at timed) in
-    let by : AreIssuedBy t (d ∷ older) = issued_part t newer (d ∷ older) (rw e at issued) in
-    let bytes = bytes_are i config t d older part by (λ m. omega arith) in
+clear_here {i} {t = t} {u} {st} d older up f shown l =
+    let bytes = bytes_are i t d older (λ m. omega arith) in
     elim (cases_Bool (is_memory d.step)) [
       | inr m ↦
           let none : bytes_of d.step ≡ None = no_bytes d.step m in
           no_access st.slots (order_of t older) (station_of i (clocks t t t) d older) u (bytes ∙ none)
           ∙ sym (conflicts_none older d.step u none)
       | inl m ↦
-          let k : last_address older < cycle_of d.at.address = address_rises d part.0 m in
-          clear_is t u (newer ++ (d ∷ [])) older (station_of i (clocks t t t) d older) d.step good timed
-          issued shown (e ∙ sym (append_assoc newer (d ∷ []) older)) f (omega arith) bytes refl
+          let k : last_address older < cycle_of d.at.address = address_rises d up.timed.0 m in
+          clear_is older (station_of i (clocks t t t) d older) d.step (older_up_to up) f shown (omega arith) bytes refl
     ]
 
 -- an operation that is ready starts if a unit of its kind is left: the recurrence's test
-pub begins_is : {i : Loaded} {config : Configuration} (t u : ℕ) {st : Pools} {h : List Done} (newer : List Done)
-    (d : Done) (older : List Done) (unit : UnitId) → IsWithinLimits config → AreTimed config h → AreIssuedBy t h
-    → ShowsStations i (clocks t t t) h st → h ≡ newer ++ (d ∷ older) → u ≡ t + 1 → step_unit d.step ≡ Some unit
+pub begins_is : {i : Loaded} {config : Configuration} {t u : ℕ} {st : Pools} (d : Done) (older : List Done)
+    (unit : UnitId) → IsUpTo i config t (d ∷ older) → u ≡ t + 1 → ShowsPart i (clocks t t t) st older
+    → step_unit d.step ≡ Some unit
     → (is_waiting (station_of i (clocks t t t) d older) && is_clear st.slots (order_of t older) (station_of i (clocks t
     t t) d older) u && nat_lt (count_of unit u older) (option_of config unit).units) ≡ (d.at.start == u)
-begins_is {i} {config} t u {st} newer d older unit good timed issued shown e f some =
-    let part : AreTimed config (d ∷ older) = timed_part config newer (d ∷ older) (rw e at timed) in
-    let by : AreIssuedBy t (d ∷ older) = issued_part t newer (d ∷ older) (rw e at issued) in
-    let ready = ready_is i config t u d older part by f in
+begins_is {i} {config} {t} {u} {st} d older unit up f shown some =
+    let ready = ready_is t u d older up f in
     elim (cases_Bool (nat_lt t d.at.start)) [
       | inr l ↦
           let k : d.at.start ≤ t = ltb-false _ _ l in
@@ -90,11 +86,12 @@ begins_is {i} {config} t u {st} newer d older unit good timed issued shown e f s
       | inl l ↦
           let k : t < d.at.start = ltb-true _ _ l in
           let test = least_test (can_start config older d.step unit d.at.issue (cycle_of d.at.address)) d.at.start u
-          (start_least d unit part.0 some) (omega arith) in
-          let issue : nat_lt d.at.issue u ≡ true = lt-ltb d.at.issue u (let z : d.at.issue ≤ t = by.0 in omega arith) in
+          (start_least d unit up.timed.0 some) (omega arith) in
+          let issue : nat_lt d.at.issue u ≡ true = lt-ltb d.at.issue u (let z : d.at.issue ≤ t = up.issued.0 in
+          omega arith) in
           let clear : nat_lt (cycle_of d.at.address) u ≡ true → is_clear st.slots (order_of t older)
-          (station_of i (clocks t t t) d older) u ≡ are_conflicts_finished older d.step u = λ a. clear_here t u newer d
-          older good timed issued shown e f (ltb-true _ _ a) in
+          (station_of i (clocks t t t) d older) u ≡ are_conflicts_finished older d.step u =
+          λ a. clear_here d older up f shown (ltb-true _ _ a) in
           rw (ready, l) (tests_same (nat_lt d.at.issue u) (nat_lt (cycle_of d.at.address) u)
           (nat_lt (source_end older (j_of d.step)) u) (nat_lt (source_end older (k_of d.step)) u) _ _
           (has_unit config older unit u) issue (λ a b c. clear a) ∙ test)
@@ -114,14 +111,20 @@ wants_is : (ready b : Bool) (unit : UnitId) (o : Option UnitId) (left : UnitId �
     → (is_number (kind_if ready (kind_of o)) (place_of_unit unit) && left unit) ≡ (is_of unit o && b)
 wants_is ready b unit o left h5 = grind (arith, nat_tests)
 
--- a busy place splits the order into its elders and the others
-order_split : (t p : ℕ) (newer : List Done) (d : Done) (older : List Done) → holds_place t p d ≡ true
-    → order_of t (newer ++ (d ∷ older)) ≡ order_of t older ++ (p ∷ order_of t newer)
-order_split t p newer d older held =
-    let two = and_parts (is_number (place_of d) p) (nat_lt t d.at.end) held in
-    let place : place_of d ≡ Some p = number_is_some (place_of d) p two.0 in
-    order-append t newer (d ∷ older) ∙ (ap (λ xs. xs ++ order_of t newer) (order_here t p d older place two.1)
-    ∙ append_assoc (order_of t older) (p ∷ []) (order_of t newer))
+-- the places that come after those of the older steps
+abbrev younger_of : ℕ → Done → List ℕ → List ℕ
+younger_of t d younger = if nat_lt t d.at.end then onto_end [] (place_of d) ++ younger else younger
+
+order_on : (t : ℕ) (d : Done) (older : List Done) (younger : List ℕ)
+    → order_of t (d ∷ older) ++ younger ≡ order_of t older ++ younger_of t d younger
+order_on t d older younger = elim (cases_Bool (nat_lt t d.at.end)) [
+  | inl l ↦ rw l (onto (place_of d))
+  | inr l ↦ rw l refl
+]
+  where
+    onto : (o : Option ℕ) → onto_end (order_of t older) o ++ younger ≡ order_of t older ++ (onto_end [] o ++ younger)
+    onto None = refl
+    onto (Some x) = append_assoc (order_of t older) (x ∷ []) younger
 
 none_with : (pool : Option PoolId) (station : Option ℕ) (p : PoolId) (R : PoolId → ℕ → Type 0) → pool ≡ Some p
     → tag_at pool station ≡ None → MatchOption pool (station ≡ None) (λ p. (n : ℕ) × (station ≡ Some n) × R p n) → ⊥
@@ -147,52 +150,49 @@ no_pool_unit d {older} timed e =
     no_option (step_unit d.step) (unit_with_pool d.step ∙ ap is_some pool)
 
 -- one step of a kind is served by the recurrence
-one_serves : {i : Loaded} {config : Configuration} (t u : ℕ) {st : Pools} (sets : List ℕ) (unit : UnitId)
-    {h : List Done} (newer : List Done) (d : Done) (older : List Done) → IsWithinLimits config → AreTimed config h
-    → AreIssuedBy t h → ShowsStations i (clocks t t t) h st → IsInIssueOrder st.busy st.issue_numbers (order_of t h)
-    → AreStartable st u sets → u ≡ t + 1 → h ≡ newer ++ (d ∷ older)
-    → Serves t (option_of config unit).units (slice_index sets (place_of_unit unit)) (starts_of unit u) d older
-one_serves {i} {config} t u {st} sets unit {h} newer d older good timed issued shown by ready f e =
-    let part : AreTimed config (d ∷ older) = timed_part config newer (d ∷ older) (rw e at timed) in
-    let reached = reach d older good part in
-    record {
-      idle = λ l. let k : d.at.end ≤ t = ltb-false _ _ l in let r : d.at.start ≤ d.at.end = reached.start in
-          none_of_start u d.at.start unit (step_unit d.step)
-          (ne_eqb d.at.start u (λ (z : d.at.start ≡ u). absurd (omega arith)));
-      nowhere = λ none. no_unit (step_unit d.step) (no_pool_unit d part.0 none);
-      ready = λ x held.
-          let late : nat_lt t d.at.end ≡ true = (and_parts (is_number (place_of d) x) (nat_lt t d.at.end) held).1 in
-          let at = seen t newer d older good timed issued shown e late in
-          let same : at.x ≡ x = one_place (place_of d) at.x x at.place
-          (and_parts (is_number (place_of d) x) (nat_lt t d.at.end) held).0 in
-          let slot : slice_index_or st.slots x None ≡ Some (station_of i (clocks t t t) d older) = rw same at at.slot in
-          let order = ap (order_of t) e ∙ order_split t x newer d older held in
-          let wants = (ready unit).wants x (omega arith) (order_of t older) (order_of t newer) (rw order at by) in
-          sym (ap (λ b. b && nat_lt (count_by (starts_of unit u) older) (option_of config unit).units)
-          (wants ∙ ap (λ o. is_number (wanted st.slots (order_of t older) u o) (place_of_unit unit)) slot)
-          ∙ wants_is (is_waiting (station_of i (clocks t t t) d older) && is_clear st.slots (order_of t older)
-          (station_of i (clocks t t t) d older) u) (d.at.start == u) unit (step_unit d.step)
-          (λ v. nat_lt (count_of v u older) (option_of config v).units)
-          (λ v some. begins_is t u newer d older v good timed issued shown e f some));
-    }
+one_serves : {i : Loaded} {config : Configuration} {t u set : ℕ} {st : Pools} (unit : UnitId) (d : Done)
+    (older : List Done) → IsUpTo i config t (d ∷ older) → u ≡ t + 1 → ShowsPart i (clocks t t t) st (d ∷ older)
+    → ((x : ℕ) → x < 128 → holds_place t x d ≡ true
+    → has set x ≡ is_number (wanted st.slots (order_of t older) u (slice_index_or st.slots x None)) (place_of_unit unit))
+    → Serves t (option_of config unit).units set (starts_of unit u) d older
+one_serves {i} {config} {t} {u} {st = st} unit d older up f shown wants = record {
+  idle = λ l.
+      let k : d.at.end ≤ t = ltb-false _ _ l in
+      let r : d.at.start ≤ d.at.end = (reach d older up.lawful up.timed).start in
+      none_of_start u d.at.start unit (step_unit d.step)
+      (ne_eqb d.at.start u (λ (z : d.at.start ≡ u). absurd (omega arith)));
+  nowhere = λ none. no_unit (step_unit d.step) (no_pool_unit d up.timed.0 none);
+  ready = λ x held.
+      let at = held_here shown x held in
+      let small : x < 96 = at.small in
+      sym (ap (λ b. b && nat_lt (count_by (starts_of unit u) older) (option_of config unit).units)
+      (wants x (omega arith) held
+      ∙ ap (λ o. is_number (wanted st.slots (order_of t older) u o) (place_of_unit unit)) at.slot)
+      ∙ wants_is (is_waiting (station_of i (clocks t t t) d older) && is_clear st.slots (order_of t older)
+      (station_of i (clocks t t t) d older) u) (d.at.start == u) unit (step_unit d.step)
+      (λ v. nat_lt (count_of v u older) (option_of config v).units)
+      (λ v some. begins_is d older v up f (older_shown shown) some));
+}
   where
-    one_place : (o : Option ℕ) (a b : ℕ) → o ≡ Some a → is_number o b ≡ true → a ≡ b
-    one_place o a b e f = grind (arith, nat_tests)
-
     no_unit : (o : Option UnitId) → o ≡ None → (is_of unit o && (d.at.start == u)) ≡ false
     no_unit o e = rw e refl
 
-all_serve : (i : Loaded) (config : Configuration) (t u : ℕ) (st : Pools) (sets : List ℕ) (unit : UnitId)
-    (h newer part : List Done) → IsWithinLimits config → AreTimed config h → AreIssuedBy t h
-    → ShowsStations i (clocks t t t) h st → IsInIssueOrder st.busy st.issue_numbers (order_of t h)
-    → AreStartable st u sets → u ≡ t + 1 → h ≡ newer ++ part
-    → AreServed t (option_of config unit).units (slice_index sets (place_of_unit unit)) (starts_of unit u) part
-all_serve i config t u st sets unit h newer [] good timed issued shown by ready f e = tt
-all_serve i config t u st sets unit h newer (d ∷ older) good timed issued shown by ready f e = (
-  one_serves t u sets unit newer d older good timed issued shown by ready f e,
-  all_serve i config t u st sets unit h (newer ++ (d ∷ [])) older good timed issued shown by ready f
-      (e ∙ sym (append_assoc newer (d ∷ []) older)),
+all_serve : {i : Loaded} {config : Configuration} {t u set : ℕ} {st : Pools} (unit : UnitId) (part : List Done)
+    (younger : List ℕ) → IsUpTo i config t part → u ≡ t + 1 → ShowsPart i (clocks t t t) st part
+    → IsInIssueOrder st.busy st.issue_numbers (order_of t part ++ younger) → AreStartableFor st u unit set
+    → AreServed t (option_of config unit).units set (starts_of unit u) part
+all_serve unit [] younger up f shown by ready = tt
+all_serve {t = t} {st = st} unit (d ∷ older) younger up f shown by ready = (
+  one_serves unit d older up f shown (λ x l held. ready.wants x l (order_of t older) younger (rw (after x held) at by)),
+  all_serve unit older (younger_of t d younger) (older_up_to up) f (older_shown shown) (rw (order_on t d older younger) at by) ready,
 )
+  where
+    after : (x : ℕ) → holds_place t x d ≡ true
+        → order_of t (d ∷ older) ++ younger ≡ order_of t older ++ (x ∷ younger)
+    after x held =
+        let late = (and_parts (is_number (place_of d) x) (nat_lt t d.at.end) held).1 in
+        ap (λ xs. xs ++ younger) (order_here t x d older (held_place t x d held) late)
+        ∙ append_assoc (order_of t older) (x ∷ []) younger
 
 -- nobody older goes from a place that is held
 goes_free : (t x : ℕ) (goes : Done → Bool) (h : List Done) → is_vacant t x h ≡ true → goes_at t goes h x ≡ false
@@ -203,13 +203,13 @@ goes_free t x goes (d ∷ older) e = elim (cases_Bool (holds_place t x d)) [
       absurd (cc)
 ]
 
-pub all_alone : {config : Configuration} (t : ℕ) (goes : Done → Bool) (h : List Done) → IsWithinLimits config
-    → AreTimed config h → AreIssuedBy (t + 1) h → AreAlone t goes h
-all_alone t goes [] good timed issued = tt
-all_alone t goes (d ∷ older) good timed issued = (
-  (λ x held. goes_free t x goes older (vacant d older t x good timed issued.0
-      (and_parts (is_number (place_of d) x) (nat_lt t d.at.end) held).0)),
-  all_alone t goes older good timed.1 issued.1,
+pub all_alone : {i : Loaded} {config : Configuration} {s : ℕ} (t : ℕ) (goes : Done → Bool) (h : List Done)
+    → IsUpTo i config s h → s ≤ t + 1 → AreAlone t goes h
+all_alone t goes [] up l = tt
+all_alone t goes (d ∷ older) up l = (
+  (λ x held. goes_free t x goes older
+      (vacant d older t x up l (and_parts (is_number (place_of d) x) (nat_lt t d.at.end) held).0)),
+  all_alone t goes older (older_up_to up) l,
 )
 
 -- of all kinds together
@@ -236,16 +236,14 @@ five (a ∷ b ∷ c ∷ d ∷ e ∷ []) x count = refl
 five _ x count = absurd (omega arith)
 
 -- the places that start are those whose steps start
-pub starting_is : {i : Loaded} {config : Configuration} (t : ℕ) {u : ℕ} (x : ℕ) {st : Pools} {h : List Done}
-    {starting : ℕ} → IsWithinLimits config → AreTimed config h → AreIssuedBy t h → ShowsStations i (clocks t t t) h st
-    → AreBusy st.slots st.busy st.issue_numbers → IsStarting config st u starting → u ≡ t + 1 → x < 128
-    → has starting x ≡ starts_at t u h x
-starting_is {i} {config} t {u} x {st} {h} good timed issued shown filled begins e l =
-    let more : AreIssuedBy (t + 1) h = issued_more t (t + 1) h (omega arith) issued in
-    let by : IsInIssueOrder st.busy st.issue_numbers (order_of t h) = order_is good timed more shown filled in
+pub starting_is : {i : Loaded} {config : Configuration} {t u : ℕ} (x : ℕ) {st : Pools} {h : List Done} {starting : ℕ}
+    → IsUpTo i config t h → ShowsStations i (clocks t t t) h st → AreBusy st.slots st.busy st.issue_numbers
+    → IsStarting config st u starting → u ≡ t + 1 → x < 128 → has starting x ≡ starts_at t u h x
+starting_is {t = t} {u} x {st} {h} up shown filled begins e l =
+    let by : IsInIssueOrder st.busy st.issue_numbers (order_of t h) = order_is up (omega arith) shown filled in
     let kind : (unit : UnitId) → has (slice_index begins.kinds (place_of_unit unit)) x ≡ goes_at t (starts_of unit u) h
-    x = λ unit. picked_goes t (starts_of unit u) h by (begins.are_startable unit).inside (begins.units unit) (all_serve
-    i config t u st begins.startable unit h [] h good timed issued shown by begins.are_startable e refl)
-    (all_alone t (starts_of unit u) h good timed more) x l in
+    x = λ unit. picked_goes t (starts_of unit u) h by (begins.are_startable unit).inside (begins.units unit)
+    (all_serve unit h [] up e (shows_part up (omega arith) shown) (rw (append-nil (order_of t h)) by)
+    (begins.are_startable unit)) (all_alone t (starts_of unit u) h up (omega arith)) x l in
     begins.all x l ∙ (five begins.kinds x begins.count
     ∙ (rw (kind units.Alu, kind units.Mul, kind units.Div, kind units.Mem, kind units.Bru) (kinds_at t u h x)))

@@ -1,22 +1,21 @@
 -- The tests that an operation passes as it starts are those of the recurrence: operands, address, older accesses.
-use Rattle.std.proofs.Common.{slice_index_or, append_assoc, ℕ, ◌+◌, ◌<◌, ◌≤◌, ◌≡◌, ◌∙◌, Bool, true, false, arith, refl}
-use Rattle.std.proofs.Common.{List, [], ◌∷◌, ◌++◌, Option, Some, None, ap, sym, inl, inr}
+use Rattle.tomex_cycle.proofs.Addresses.{order_here}
+use Rattle.std.proofs.Common.{slice_index_or, ℕ, ◌+◌, ◌<◌, ◌≤◌, ◌≡◌, ◌∙◌, Bool, true, false, arith, refl, List, [], ◌∷◌}
+use Rattle.std.proofs.Common.{◌++◌, Option, Some, None, ap, sym, inl, inr}
 use Rattle.std.proofs.lemmas.Bool.{MatchBool-at_false}
-use Rattle.tomex_cycle.proofs.Words.{nat_lt, nat_le, if◌then◌else◌, ◌&&◌, ◌||◌, not, is_some, cases_Bool, nat_tests}
-use Rattle.tomex_cycle.proofs.Words.{ltb-true, ltb-false, lt-ltb, or_right, eq-eqb, Loaded, Configuration}
-use Rattle.tomex_cycle.proofs.Words.{IsWithinLimits, Step, address_of, bytes_of, is_store, j_of, k_of, step_pool, Tag}
-use Rattle.tomex_cycle.proofs.Words.{Done, cycle_of, is_memory, last_address, source_end, AreTimed, IsTimed, IsLeast}
-use Rattle.tomex_cycle.proofs.Words.{are_conflicts_finished, can_address, conflicts, field_from, AreIssuedBy, is_clear}
-use Rattle.tomex_cycle.proofs.Words.{Clocks, ShowsStations, clocks, holds_place, order_of, place_of, station_at}
-use Rattle.tomex_cycle.proofs.Words.{station_of, no_option, is_finished_before, lets_pass, bytes_in, is_waiting}
-use Rattle.tomex_cycle.proofs.Words.{step_in, is_there, value_in, place_at, place_of_tag, Pools, Station}
+use Rattle.tomex_cycle.proofs.Words.{nat_lt, nat_le, if◌then◌else◌, ◌&&◌, not, is_some, cases_Bool, nat_tests}
+use Rattle.tomex_cycle.proofs.Words.{ltb-false, lt-ltb, or_right, Loaded, Configuration, Step, address_of, bytes_of}
+use Rattle.tomex_cycle.proofs.Words.{is_store, j_of, k_of, Tag, Done, cycle_of, is_memory, last_address, source_end}
+use Rattle.tomex_cycle.proofs.Words.{IsTimed, IsLeast, are_conflicts_finished, can_address, conflicts, field_from}
+use Rattle.tomex_cycle.proofs.Words.{is_clear, clocks, order_of, station_of, no_option, is_finished_before, lets_pass}
+use Rattle.tomex_cycle.proofs.Words.{bytes_in, is_waiting, step_in, is_there, value_in, Pools, Station, ◌||◌, IsUpTo}
 use Rattle.tomex_steps.proofs.Fields.{bytes_of_memory}
 use Rattle.tomex_cycle.proofs.AddressChosen.{address_rises}
-use Rattle.tomex_cycle.proofs.Addresses.{order_here}
-use Rattle.tomex_cycle.proofs.Totals.{issued_more, reach}
-use Rattle.tomex_cycle.proofs.Places.{place_low, low, station_here}
-use Rattle.tomex_cycle.proofs.Fields.{there_test, tag_there, timed_part, issued_part}
+use Rattle.tomex_cycle.proofs.Totals.{reach}
+use Rattle.tomex_cycle.proofs.Fields.{there_test}
 use Rattle.tomex_membuf.proofs.Older.{share_none}
+use Rattle.tomex_cycle.proofs.Held.{ShowsPart, busy_at, held_here, older_shown}
+use Rattle.tomex_cycle.proofs.Parts.{older_up_to}
 
 and_swap : (a b c : Bool) → (a && (b && c)) ≡ ((a && b) && c)
 and_swap a b c = grind (arith, nat_tests)
@@ -51,14 +50,15 @@ no_address d {older} timed e =
     rw z refl
 
 -- the operands are there, the address is, and it hasn't started
-pub ready_is : (i : Loaded) (config : Configuration) (t u : ℕ) (d : Done) (older : List Done)
-    → AreTimed config (d ∷ older) → AreIssuedBy t (d ∷ older) → u ≡ t + 1
+pub ready_is : {i : Loaded} {config : Configuration} (t u : ℕ) (d : Done) (older : List Done)
+    → IsUpTo i config t (d ∷ older) → u ≡ t + 1
     → is_waiting (station_of i (clocks t t t) d older) ≡ (nat_lt t d.at.start && nat_lt (source_end older (j_of d.step))
     u && nat_lt (source_end older (k_of d.step)) u && nat_lt (cycle_of d.at.address) u)
-ready_is i config t u d older timed issued e =
-    let j = there_test config t older (j_of d.step) timed.1 issued.1 in
-    let k = there_test config t older (k_of d.step) timed.1 issued.1 in
-    let a = addressed_is (is_memory d.step) (cycle_of d.at.address) t u (address_of d.step) e (no_address d timed.0) in
+ready_is t u d older up e =
+    let j = there_test t older (j_of d.step) (older_up_to up) in
+    let k = there_test t older (k_of d.step) (older_up_to up) in
+    let a = addressed_is (is_memory d.step) (cycle_of d.at.address) t u (address_of d.step) e
+    (no_address d up.timed.0) in
     grind (arith, nat_tests)
 
 -- Older accesses.
@@ -71,10 +71,10 @@ pub no_bytes : (x : Step) → is_memory x ≡ false → bytes_of x ≡ None
 no_bytes x e = no_option (bytes_of x) (bytes_of_memory x ∙ e)
 
 -- an older access shows its bytes once its address is computed
-pub bytes_are : (i : Loaded) (config : Configuration) (t : ℕ) (d : Done) (older : List Done)
-    → AreTimed config (d ∷ older) → AreIssuedBy t (d ∷ older) → (is_memory d.step ≡ true → cycle_of d.at.address ≤ t)
+pub bytes_are : (i : Loaded) (t : ℕ) (d : Done) (older : List Done)
+    → (is_memory d.step ≡ true → cycle_of d.at.address ≤ t)
     → bytes_in (station_of i (clocks t t t) d older) ≡ bytes_of d.step
-bytes_are i config t d older timed issued l = grind (arith, nat_tests)
+bytes_are i t d older l = grind (arith, nat_tests)
 
 before_is : (start finish t u : ℕ) → u ≡ t + 1 → start ≤ finish
     → is_finished_before (if nat_le start t then Some finish else None) u ≡ nat_lt finish u
@@ -87,97 +87,36 @@ conflicts_none (d ∷ older) x u e =
     let one : (not (conflicts d.step x) || nat_lt d.at.finish u) ≡ true = rw (e, share_none (bytes_of d.step)) refl in
     rw one (conflicts_none older x u e)
 
-lets_is : (i : Loaded) {config : Configuration} (t u : ℕ) (d : Done) (older : List Done) (s : Station) (x : Step)
-    → IsWithinLimits config → AreTimed config (d ∷ older) → AreIssuedBy t (d ∷ older) → u ≡ t + 1
-    → (is_memory d.step ≡ true → cycle_of d.at.address ≤ t) → bytes_in s ≡ bytes_of x
-    → is_store (step_in s) ≡ is_store x
+lets_is : {i : Loaded} {config : Configuration} (t u : ℕ) (d : Done) (older : List Done) (s : Station) (x : Step)
+    → IsUpTo i config t (d ∷ older) → u ≡ t + 1 → (is_memory d.step ≡ true → cycle_of d.at.address ≤ t)
+    → bytes_in s ≡ bytes_of x → is_store (step_in s) ≡ is_store x
     → lets_pass (Some (station_of i (clocks t t t) d older)) s u ≡ (not (conflicts d.step x) || nat_lt d.at.finish u)
-lets_is i {config} t u d older s x good timed issued e l bytes store =
-    let order : d.at.start ≤ d.at.finish = (reach d older good timed).order in
-    rw (bytes_are i config t d older timed issued l, bytes, store, before_is d.at.start d.at.finish t u e order) refl
-
--- a busy step of a history, in its place, whatever starts and addresses are made
-pub record IsHeld (i : Loaded) (c : Clocks) (st : Pools) (d : Done) (older : List Done) : Type 0 where
-  pub x : ℕ
-  pub place : place_of d ≡ Some x
-  pub small : x < 96
-  pub held : holds_place c.end x d ≡ true
-  pub slot : slice_index_or st.slots x None ≡ Some (station_of i c d older)
-
-pub held_at : {i : Loaded} {config : Configuration} {c : Clocks} {st : Pools} {h : List Done} (newer : List Done)
-    (d : Done) (older : List Done) → IsWithinLimits config → AreTimed config h → AreIssuedBy c.end h
-    → ShowsStations i c h st → h ≡ newer ++ (d ∷ older) → nat_lt c.end d.at.end ≡ true → IsHeld i c st d older
-held_at {i} {config} {c} newer d older good timed issued shown e l =
-    let here : AreTimed config (newer ++ (d ∷ older)) = rw e at timed in
-    let by : AreIssuedBy c.end (newer ++ (d ∷ older)) = rw e at issued in
-    let k : c.end < d.at.end = ltb-true _ _ l in
-    let part : AreTimed config (d ∷ older) = timed_part config newer (d ∷ older) here in
-    let at : d.at.issue ≤ c.end = (issued_part c.end newer (d ∷ older) by).0 in
-    let tag = tag_there d c.end part.0 at k in
-    let place : place_of d ≡ Some (place_of_tag tag.0) = ap place_at tag.1 in
-    let held : holds_place c.end (place_of_tag tag.0) d ≡ true =
-    rw (place, l, eq-eqb (place_of_tag tag.0) (place_of_tag tag.0) refl) refl in
-    let small : place_of_tag tag.0 < 96 =
-    place_low (step_pool d.step) d.at.station (place_of_tag tag.0) (low config (d ∷ older) good part).0 place in
-    let there = station_here i c newer d older (place_of_tag tag.0) good here
-    (issued_more c.end (c.end + 1) (newer ++ (d ∷ older)) (omega arith) by) held in
-    record {
-      x = place_of_tag tag.0;
-      place = place;
-      small = small;
-      held = held;
-      slot = shown.slots (place_of_tag tag.0) small ∙ (ap (λ xs. station_at i c xs (place_of_tag tag.0)) e ∙ there);
-    }
-
--- and in issue order
-pub record IsSeen (i : Loaded) (t : ℕ) (st : Pools) (d : Done) (older : List Done) : Type 0 where
-  pub x : ℕ
-  pub place : place_of d ≡ Some x
-  pub small : x < 96
-  pub held : holds_place t x d ≡ true
-  pub slot : slice_index_or st.slots x None ≡ Some (station_of i (clocks t t t) d older)
-  pub order : order_of t (d ∷ older) ≡ order_of t older ++ (x ∷ [])
-
-pub seen : {i : Loaded} {config : Configuration} (t : ℕ) {st : Pools} {h : List Done} (newer : List Done) (d : Done)
-    (older : List Done) → IsWithinLimits config → AreTimed config h → AreIssuedBy t h
-    → ShowsStations i (clocks t t t) h st → h ≡ newer ++ (d ∷ older) → nat_lt t d.at.end ≡ true → IsSeen i t st d older
-seen {i} t {st} newer d older good timed issued shown e l =
-    let at : IsHeld i (clocks t t t) st d older = held_at newer d older good timed issued shown e l in
-    record {
-      x = at.x;
-      place = at.place;
-      small = at.small;
-      held = at.held;
-      slot = at.slot;
-      order = order_here t at.x d older at.place l;
-    }
+lets_is {i} t u d older s x up e l bytes store =
+    let order : d.at.start ≤ d.at.finish = (reach d older up.lawful up.timed).order in
+    rw (bytes_are i t d older l, bytes, store, before_is d.at.start d.at.finish t u e order) refl
 
 -- the older accesses that a station with an address waits for are those of the recurrence
-pub clear_is : {i : Loaded} {config : Configuration} (t u : ℕ) {st : Pools} {h : List Done} (newer part : List Done)
-    (s : Station) (x : Step) → IsWithinLimits config → AreTimed config h → AreIssuedBy t h
-    → ShowsStations i (clocks t t t) h st → h ≡ newer ++ part → u ≡ t + 1 → last_address part ≤ t
+pub clear_is : {i : Loaded} {config : Configuration} {t u : ℕ} {st : Pools} (part : List Done) (s : Station) (x : Step)
+    → IsUpTo i config t part → u ≡ t + 1 → ShowsPart i (clocks t t t) st part → last_address part ≤ t
     → bytes_in s ≡ bytes_of x → is_store (step_in s) ≡ is_store x
     → is_clear st.slots (order_of t part) s u ≡ are_conflicts_finished part x u
-clear_is t u newer [] s x good timed issued shown e f last bytes store = refl
-clear_is {i} {config} t u {st} newer (d ∷ older) s x good timed issued shown e f last bytes store =
-    let part : AreTimed config (d ∷ older) = timed_part config newer (d ∷ older) (rw e at timed) in
-    let by : AreIssuedBy t (d ∷ older) = issued_part t newer (d ∷ older) (rw e at issued) in
+clear_is [] s x up f shown last bytes store = refl
+clear_is {t = t} {u} {st} (d ∷ older) s x up f shown last bytes store =
     let made : is_memory d.step ≡ true → cycle_of d.at.address ≤ t = λ m. rw m at last in
     let before : last_address older ≤ t = elim (cases_Bool (is_memory d.step)) [
-      | inl m ↦ let k : last_address older < cycle_of d.at.address = address_rises d part.0 m in
+      | inl m ↦ let k : last_address older < cycle_of d.at.address = address_rises d up.timed.0 m in
           let l : cycle_of d.at.address ≤ t = made m in omega arith
       | inr m ↦ rw m at last
     ] in
-    let rest = clear_is t u (newer ++ (d ∷ [])) older s x good timed issued shown
-    (e ∙ sym (append_assoc newer (d ∷ []) older)) f before bytes store in
+    let rest = clear_is older s x (older_up_to up) f (older_shown shown) before bytes store in
     elim (cases_Bool (nat_lt t d.at.end)) [
       | inr l ↦
           let k : d.at.end ≤ t = ltb-false _ _ l in
-          let r : d.at.finish ≤ d.at.end = (reach d older good part).finish in
+          let r : d.at.finish ≤ d.at.end = (reach d older up.lawful up.timed).finish in
           rw (l, lt-ltb d.at.finish u (omega arith), or_right (not (conflicts d.step x)) true refl) rest
       | inl l ↦
-          let at = seen t newer d older good timed issued shown e l in
-          let one = ap (λ o. lets_pass o s u) (at.slot) ∙ lets_is i t u d older s x good part by f made bytes store in
-          ap (λ xs. is_clear st.slots xs s u) at.order
-          ∙ (clear-append st.slots (order_of t older) at.x s u ∙ rw (one, rest) refl)
+          let (y, place, held) = busy_at d up l in
+          let one = ap (λ o. lets_pass o s u) (held_here shown y held).slot ∙ lets_is t u d older s x up f made bytes store in
+          ap (λ xs. is_clear st.slots xs s u) (order_here t y d older place l)
+          ∙ (clear-append st.slots (order_of t older) y s u ∙ rw (one, rest) refl)
     ]

@@ -1,19 +1,19 @@
 -- Memory after the stores that start in a cycle.
+use Rattle.tomex_cycle.proofs.Places.{low, place_low, is_vacant, vacant}
 use Rattle.std.proofs.Common.{slice_index_or, suc, zero, ℕ, ◌+◌, ◌<◌, ◌≤◌, ◌≡◌, ◌∙◌, Bool, true, false, arith, refl}
 use Rattle.std.proofs.Common.{List, [], ◌∷◌, Option, Some, None, ap, sym, inl, inr}
-use Rattle.tomex_cycle.proofs.Words.{nat_lt, nat_le, if◌then◌else◌, ◌&&◌, ◌||◌, ◌==◌, not, is_some, cases_Bool}
-use Rattle.tomex_cycle.proofs.Words.{nat_tests, ltb-true, lt-ltb, le-leb, lt-leb, and_parts, or_left, eq-eqb, eqb-true}
-use Rattle.tomex_cycle.proofs.Words.{eqb-false, ne_eqb, Loaded, Configuration, IsWithinLimits, Step, covers, overwrites}
-use Rattle.tomex_cycle.proofs.Words.{stored_byte, is_number, is_store, step_pool, step_unit, Done, AreTimed}
-use Rattle.tomex_cycle.proofs.Words.{are_conflicts_finished, conflicts, AreIssuedBy, ArePast, byte_at, stored_at}
-use Rattle.tomex_cycle.proofs.Words.{written_by, clocks, holds_place, place_of, station_at, step_in, place_at}
-use Rattle.tomex_cycle.proofs.Words.{place_of_tag, Station, has}
+use Rattle.tomex_cycle.proofs.Words.{nat_lt, nat_le, if◌then◌else◌, ◌&&◌, ◌==◌, not, is_some, cases_Bool, nat_tests}
+use Rattle.tomex_cycle.proofs.Words.{ltb-true, lt-ltb, le-leb, lt-leb, and_parts, or_left, eqb-true, eqb-false, ne_eqb}
+use Rattle.tomex_cycle.proofs.Words.{Loaded, Configuration, Step, covers, overwrites, stored_byte, is_number, is_store}
+use Rattle.tomex_cycle.proofs.Words.{step_pool, step_unit, Done, are_conflicts_finished, conflicts, byte_at, stored_at}
+use Rattle.tomex_cycle.proofs.Words.{written_by, clocks, holds_place, place_of, station_at, step_in, Station, has, ◌||◌}
+use Rattle.tomex_cycle.proofs.Words.{IsTimed, IsUpTo}
 use Rattle.tomex_cycle.proofs.Accesses.{conflict_at, starts_clear, store_unit}
-use Rattle.tomex_cycle.proofs.Places.{place_low, is_vacant, low, vacant}
-use Rattle.tomex_cycle.proofs.Fields.{tag_there}
 use Rattle.tomex_cycle.proofs.StartsMade.{step_is}
 use Rattle.tomex_cycle.proofs.StartsPicked.{starts_at, starts_in}
 use Rattle.tomex_cycle.proofs.Totals.{reach}
+use Rattle.tomex_cycle.proofs.Held.{busy_at}
+use Rattle.tomex_cycle.proofs.Parts.{older_up_to}
 
 -- the byte that a step leaves at an address as it starts in the cycle, if any
 abbrev pub leaves : ℕ → ℕ → Done → Option ℕ
@@ -57,70 +57,66 @@ none_not : {A : Type 0} (x : A) → None ≡ Some x → ⊥
 none_not x e = cc
 
 -- a step that leaves no byte changes none in later cycles
-made_same : (i : Loaded) (config : Configuration) (t u a : ℕ) (d : Done) (older : List Done)
-    → AreTimed config (d ∷ older) → AreIssuedBy t (d ∷ older) → u ≡ t + 1 → (starts_in u d && overwrites d.step a)
+made_same : (t u a : ℕ) (d : Done) {older : List Done} {config : Configuration} → IsTimed config older d.step d.at
+    → d.at.issue ≤ t → u ≡ t + 1 → (starts_in u d && overwrites d.step a)
     ≡ false → (overwrites d.step a && nat_le d.at.start u) ≡ (overwrites d.step a && nat_le d.at.start t)
-made_same i config t u a d older timed issued e quiet = grind (arith, nat_tests)
+made_same t u a d timed issued e quiet = grind (arith, nat_tests)
 
 -- a step on top that leaves a byte
-left_here : (i : Loaded) {config : Configuration} (t u a : ℕ) (d : Done) (older : List Done) → IsWithinLimits config
-    → AreTimed config (d ∷ older) → AreIssuedBy t (d ∷ older) → u ≡ t + 1
-    → (starts_in u d && overwrites d.step a) ≡ true → Left i t u a older → Left i t u a (d ∷ older)
-left_here i t u a d older good timed issued e leaves_it (one y v small here others byte later) =
+left_here : {i : Loaded} {config : Configuration} (t u a : ℕ) (d : Done) (older : List Done)
+    → IsUpTo i config t (d ∷ older) → u ≡ t + 1 → (starts_in u d && overwrites d.step a) ≡ true → Left i t u a older
+    → Left i t u a (d ∷ older)
+left_here t u a d older up e leaves_it (one y v small here others byte later) =
     let two = and_parts (starts_in u d) (overwrites d.step a) leaves_it in
     let unit = and_parts (is_some (step_unit d.step)) (d.at.start == u) two.0 in
     let at : d.at.start ≡ u = eqb-true _ _ unit.1 in
-    let l : u < d.at.start = later d.step d.at.start two.1 (starts_clear d timed.0 unit.0) in
+    let l : u < d.at.start = later d.step d.at.start two.1 (starts_clear d up.timed.0 unit.0) in
     absurd (omega arith)
-left_here i {config} t u a d older good timed issued e leaves_it (none others byte) =
+left_here t u a d older up e leaves_it (none others byte) =
     let two = and_parts (starts_in u d) (overwrites d.step a) leaves_it in
     let unit = and_parts (is_some (step_unit d.step)) (d.at.start == u) two.0 in
     let at : d.at.start ≡ u = eqb-true _ _ unit.1 in
-    let r = reach d older good timed in
-    let tag = tag_there d t timed.0 issued.0 (omega arith) in
-    let place : place_of d ≡ Some (place_of_tag tag.0) = ap place_at tag.1 in
+    let r = reach d older up.lawful up.timed in
     let busy : nat_lt t d.at.end ≡ true = lt-ltb t d.at.end (omega arith) in
-    let small : place_of_tag tag.0 < 96 =
-    place_low (step_pool d.step) d.at.station (place_of_tag tag.0) (low config (d ∷ older) good timed).0 place in
-    one (place_of_tag tag.0) (stored_byte d.step a) small
-    (rw (place, busy, eq-eqb (place_of_tag tag.0) (place_of_tag tag.0) refl, leaves_it) refl)
-    (λ x other. rw (place, ne_eqb (place_of_tag tag.0) x (λ z. other (sym z))) (others x))
+    let (y, place, held) = busy_at d up busy in
+    one y (stored_byte d.step a) (place_low (step_pool d.step) d.at.station y (low (d ∷ older) up).0 place)
+    (rw (held, leaves_it) refl) (λ x other. rw (place, ne_eqb y x (λ z. other (sym z))) (others x))
     (rw (two.1, le-leb d.at.start u (omega arith)) refl) (λ x s o clear. let k : d.at.finish < s =
     later_one d x s a two.1 o (and_parts (not (conflicts d.step x) || nat_lt d.at.finish s)
     (are_conflicts_finished older x s) clear).0 in omega arith)
 
 -- and one that leaves none
-left_on : (i : Loaded) {config : Configuration} (t u a : ℕ) (d : Done) (older : List Done) → IsWithinLimits config
-    → AreTimed config (d ∷ older) → AreIssuedBy t (d ∷ older) → u ≡ t + 1
-    → (starts_in u d && overwrites d.step a) ≡ false → Left i t u a older → Left i t u a (d ∷ older)
-left_on i {config} t u a d older good timed issued e quiet (none others byte) = none (λ x. elim
+left_on : {i : Loaded} {config : Configuration} (t u a : ℕ) (d : Done) (older : List Done)
+    → IsUpTo i config t (d ∷ older) → u ≡ t + 1 → (starts_in u d && overwrites d.step a) ≡ false → Left i t u a older
+    → Left i t u a (d ∷ older)
+left_on t u a d older up e quiet (none others byte) = none (λ x. elim
     (cases_Bool (holds_place t x d)) [ inl h ↦ rw h (none_leaves u a d quiet) | inr h ↦ rw h (others x) ])
-    (rw (made_same i config t u a d older timed issued e quiet, byte) refl)
-left_on i t u a d older good timed issued e quiet (one y v small here others byte later) =
+    (rw (made_same t u a d up.timed.0 up.issued.0 e quiet, byte) refl)
+left_on t u a d older up e quiet (one y v small here others byte later) =
     let free : holds_place t y d ≡ false = elim (cases_Bool (holds_place t y d)) [
       | inr h ↦ h
       | inl h ↦
-          let vacant_there = vacant d older t y good timed (let k : d.at.issue ≤ t = issued.0 in
-          omega arith) (and_parts (is_number (place_of d) y) (nat_lt t d.at.end) h).0 in
+          let vacant_there = vacant d older t y up (omega arith)
+          (and_parts (is_number (place_of d) y) (nat_lt t d.at.end) h).0 in
           absurd (none_not v (sym (left_free t u a y older vacant_there) ∙ here))
     ] in
     let unmade : (overwrites d.step a && nat_le d.at.start u) ≡ false = elim (cases_Bool (overwrites d.step a)) [
       | inr o ↦ rw o refl
       | inl o ↦
           let store : is_store d.step ≡ true = (and_parts (is_store d.step) (covers d.step a) o).0 in
-          let l : u < d.at.start = later d.step d.at.start o (starts_clear d timed.0 (store_unit d.step store)) in
+          let l : u < d.at.start = later d.step d.at.start o (starts_clear d up.timed.0 (store_unit d.step store)) in
           rw o (lt-leb d.at.start u l)
     ] in
     one y v small (rw free here) (λ x other. elim (cases_Bool (holds_place t x d))
     [ inl h ↦ rw h (none_leaves u a d quiet) | inr h ↦ rw h (others x other) ]) (rw unmade byte) (λ x s o clear. later x
     s o (and_parts (not (conflicts d.step x) || nat_lt d.at.finish s) (are_conflicts_finished older x s) clear).1)
 
-pub left_is : (i : Loaded) {config : Configuration} (t u a : ℕ) (h : List Done) → IsWithinLimits config
-    → AreTimed config h → AreIssuedBy t h → u ≡ t + 1 → Left i t u a h
-left_is i t u a [] good timed issued e = none (λ x. refl) refl
-left_is i t u a (d ∷ older) good timed issued e = elim (cases_Bool (starts_in u d && overwrites d.step a)) [
-  | inl l ↦ left_here i t u a d older good timed issued e l (left_is i t u a older good timed.1 issued.1 e)
-  | inr l ↦ left_on i t u a d older good timed issued e l (left_is i t u a older good timed.1 issued.1 e)
+pub left_is : {i : Loaded} {config : Configuration} (t u a : ℕ) (h : List Done) → IsUpTo i config t h → u ≡ t + 1
+    → Left i t u a h
+left_is t u a [] up e = none (λ x. refl) refl
+left_is t u a (d ∷ older) up e = elim (cases_Bool (starts_in u d && overwrites d.step a)) [
+  | inl l ↦ left_here t u a d older up e l (left_is t u a older (older_up_to up) e)
+  | inr l ↦ left_on t u a d older up e l (left_is t u a older (older_up_to up) e)
 ]
 
 -- By place.
@@ -129,17 +125,15 @@ abbrev pub left_in : Bool → Option Station → ℕ → Option ℕ
 left_in picked None a = None
 left_in picked (Some s) a = if picked && overwrites (step_in s) a then Some (stored_byte (step_in s) a) else None
 
-left_slot : (i : Loaded) (config : Configuration) (t u a x : ℕ) (part : List Done) → AreTimed config part
-    → AreIssuedBy t part → ArePast i part → u ≡ t + 1
+left_slot : {i : Loaded} {config : Configuration} (t u a x : ℕ) (part : List Done) → IsUpTo i config t part → u ≡ t + 1
     → left_in (starts_at t u part x) (station_at i (clocks u t t) part x) a ≡ left_at t u a part x
-left_slot i config t u a x [] timed issued past e = refl
-left_slot i config t u a x (d ∷ older) timed issued past e = elim (cases_Bool (holds_place t x d)) [
-  | inr h ↦ rw h (left_slot i config t u a x older timed.1 issued.1 past.2 e)
+left_slot t u a x [] up e = refl
+left_slot t u a x (d ∷ older) up e = elim (cases_Bool (holds_place t x d)) [
+  | inr h ↦ rw h (left_slot t u a x older (older_up_to up) e)
   | inl h ↦ elim (cases_Bool (starts_in u d)) [
     | inr s ↦ rw (h, s) refl
-    | inl s ↦
-        let same = step_is i config t u d older timed issued past e s in
-        rw (h, s) (ap (λ (z : Step). if overwrites z a then Some (stored_byte z a) else None) same)
+    | inl s ↦ rw (h, s)
+        (ap (λ (z : Step). if overwrites z a then Some (stored_byte z a) else None) (step_is t u d older up e s))
   ]
 ]
 
@@ -188,11 +182,10 @@ written_left i t u a h slots picked byte same before (one y v small here others 
     byte 96 a y v (omega arith) small (same y small ∙ here) (λ x l other. same x l ∙ others x other) ∙ sym made
 
 -- the stores of the places that start make memory what it is after the cycle's starts
-pub written_is : (i : Loaded) {config : Configuration} (t u a : ℕ) (h : List Done) (slots : List (Option Station))
-    (picked : ℕ) (byte : ℕ → ℕ) → IsWithinLimits config → AreTimed config h → AreIssuedBy t h → ArePast i h → u ≡ t + 1
+pub written_is : {i : Loaded} {config : Configuration} {t u : ℕ} (a : ℕ) (h : List Done) (slots : List (Option Station))
+    (picked : ℕ) (byte : ℕ → ℕ) → IsUpTo i config t h → u ≡ t + 1
     → ((x : ℕ) → x < 96 → has picked x ≡ starts_at t u h x)
     → ((x : ℕ) → x < 96 → slice_index_or slots x None ≡ station_at i (clocks u t t) h x) → byte a ≡ byte_at i t h a
     → written_by slots picked byte 96 a ≡ byte_at i u h a
-written_is i {config} t u a h slots picked byte good timed issued past e picks shows before = written_left i t u a h
-    slots picked byte (λ x l. rw (picks x l, shows x l) (left_slot i config t u a x h timed issued past e)) before
-    (left_is i t u a h good timed issued e)
+written_is {i} {t = t} {u} a h slots picked byte up e picks shows before = written_left i t u a h slots picked byte
+    (λ x l. rw (picks x l, shows x l) (left_slot t u a x h up e)) before (left_is t u a h up e)

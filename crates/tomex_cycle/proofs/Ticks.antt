@@ -2,7 +2,7 @@
 use Rattle.std.proofs.Common.{ℕ, ◌+◌, ◌<◌, ◌≤◌, ◌≡◌, ◌∙◌, ◌^◌, true, arith, refl, ap, inl, inr, min, subst}
 use Rattle.tomex_cycle.proofs.Words.{nat_lt, if◌then◌else◌, cases_Bool, ltb-true, ltb-false, le-ltb, Loaded}
 use Rattle.tomex_cycle.proofs.Words.{Configuration, EndsWithin, greatest_end, Inner, Progress, Running, Ended, IsAt}
-use Rattle.tomex_cycle.proofs.Words.{RunEndsAfter, first_timed, Seen, seen_after, IsSound}
+use Rattle.tomex_cycle.proofs.Words.{RunEndsAfter, first_timed, Seen, seen_after, IsSound, IsNextCycle}
 use Rattle.tomex_cycle.specs.Run.{total}
 use Rattle.tomex_cycle.specs.Seen.{is_end}
 use Rattle.tomex_cycle.proofs.Runs.{run_whole}
@@ -54,19 +54,19 @@ seen_is {i} {config} {cycle} {last} sound ends =
     (if nat_lt cycle (total config i) then Running else Ended) (omega arith) (rw e after.answer)
 
 -- a cycle keeps what holds
-pub sound_next : {A : Type 0} {i : Loaded} {config : Configuration} {cycle : ℕ} {last : Progress} {old : Inner A}
-    (now : Progress) (new : Inner A) → IsSound i config cycle last old → last ≡ Running → cycle < 2 ^ 40
-    → ((n t : ℕ) → RunEndsAfter i config n → cycle + 1 ≡ t + 1 → IsAt i config n t old → IsAt i config n (cycle + 1) new
+pub sound_next : {A : Type 0} {i : Loaded} {config : Configuration} {cycle : ℕ} {old : Inner A} (now : Progress)
+    (new : Inner A) → IsSound i config cycle Running old → cycle < 2 ^ 40
+    → ((n t : ℕ) → IsNextCycle i config n t (cycle + 1) → IsAt i config n t old → IsAt i config n (cycle + 1) new
     × (now ≡ (if nat_lt (cycle + 1) (greatest_end (first_timed config i (n + 1))) then Running else Ended)))
     → IsSound i config (cycle + 1) now new
-sound_next {i} {config} {cycle} {last} now new sound runs low made = record {
+sound_next {i} {config} {cycle} now new sound low made = record {
   lawful = sound.lawful;
   loaded = sound.loaded;
   low = omega arith;
   after = λ n run.
       let before = sound.after n run in
-      let k : cycle < greatest_end (first_timed config i (n + 1)) = running_low cycle _ last before.answer runs in
-      let next = made n cycle run refl before.snapshot in
+      let k : cycle < greatest_end (first_timed config i (n + 1)) = running_low cycle _ Running before.answer refl in
+      let next = made n cycle (record { run = run; next = refl }) before.snapshot in
       record { high = omega arith; answer = next.1; snapshot = next.0 };
 }
 

@@ -1,17 +1,19 @@
 -- When a run is over: no station is busy, and no instruction is left.
+use Rattle.tomex_cycle.proofs.Held.{busy_at}
 use Rattle.std.proofs.Common.{ℕ, zero, suc, ◌+◌, ◌<◌, ◌≤◌, ◌≡◌, ◌∙◌, Bool, true, false, arith, refl, List, [], ◌∷◌}
 use Rattle.std.proofs.Common.{◌++◌, Option, Some, None, ap, sym, inl, inr, length}
-use Rattle.tomex_cycle.proofs.Words.{nat_lt, is_some, ◌&&◌, ◌==◌, not, cases_Bool, ltb-true, ltb-false, nat_tests}
-use Rattle.tomex_cycle.proofs.Words.{lt-ltb, le-ltb, cases_order, eqb-true, eqb-false, length-append, Loaded}
-use Rattle.tomex_cycle.proofs.Words.{Configuration, IsWithinLimits, EndKind, Step, end_of, next_pc_of, is_branch, Done}
-use Rattle.tomex_cycle.proofs.Words.{greatest_end, AreTimed, IsTimed, timed_by, Fetch, At, Stopped, first_timed}
-use Rattle.tomex_cycle.proofs.Words.{AreIssuedBy, RunEndsAfter, clocks, order_of, onto_end, place_of, fetch_of}
-use Rattle.tomex_cycle.proofs.Words.{fetch_after, step_after, step_goes_on, step_ends_it, is_done, IsIssuedTo}
-use Rattle.tomex_cycle.proofs.Words.{IsYetToIssue, IsInIssueOrder, AreBusy, Pools, RegStatus}
+use Rattle.tomex_cycle.proofs.Words.{nat_lt, is_some, ◌&&◌, ◌==◌, not, cases_Bool, ltb-true, ltb-false, lt-ltb, le-ltb}
+use Rattle.tomex_cycle.proofs.Words.{cases_order, eqb-true, eqb-false, length-append, Loaded, Configuration}
+use Rattle.tomex_cycle.proofs.Words.{IsWithinLimits, EndKind, Step, end_of, next_pc_of, is_branch, Done, greatest_end}
+use Rattle.tomex_cycle.proofs.Words.{AreTimed, timed_by, Fetch, At, Stopped, first_timed, RunEndsAfter, clocks}
+use Rattle.tomex_cycle.proofs.Words.{order_of, onto_end, fetch_of, fetch_after, step_after, step_goes_on, step_ends_it}
+use Rattle.tomex_cycle.proofs.Words.{is_done, IsIssuedTo, IsYetToIssue, IsInIssueOrder, AreBusy, Pools, RegStatus}
+use Rattle.tomex_cycle.proofs.Words.{Front, front, IsUpTo}
 use Rattle.tomex_timing.proofs.Bound.{InReach, in_reach}
 use Rattle.tomex_cycle.specs.declared.fetch.Fetch.TheVariants.{Waits}
 use Rattle.tomex_cycle.proofs.Orders.{empty_order, empty_set, order_is}
-use Rattle.tomex_cycle.proofs.Runs.{rest_to, run_next, run_none, run_timed, step_is, AreLater, next_done}
+use Rattle.tomex_cycle.proofs.Runs.{rest_to, run_next, run_none, run_timed, step_is, AreLater, next_done, issued_up_to}
+use Rattle.tomex_cycle.proofs.Parts.{older_up_to}
 
 -- what holds of the times of each step of a history
 pub reach : {config : Configuration} (d : Done) (older : List Done) → IsWithinLimits config
@@ -19,30 +21,24 @@ pub reach : {config : Configuration} (d : Done) (older : List Done) → IsWithin
 reach {config} d older good timed =
     in_reach config older d.step d.at (greatest_end older) good (timed_by config older good timed.1) timed.0
 
-pub place_there : {config : Configuration} (d : Done) {older : List Done} → IsTimed config older d.step d.at
-    → d.at.issue < d.at.end → is_some (place_of d) ≡ true
-place_there {config} d {older} timed l = grind (arith, nat_tests)
-
 onto_end-some : (xs : List ℕ) (o : Option ℕ) → is_some o ≡ true → 0 < length (onto_end xs o)
 onto_end-some xs None h = absurd (cc)
 onto_end-some xs (Some x) h = simp length-append (omega arith)
 
 -- if a step hasn't ended, a place is busy; if all have, none is
-pub none_busy : {config : Configuration} (h : List Done) (t : ℕ) → IsWithinLimits config → AreTimed config h
-    → AreIssuedBy t h → order_of t h ≡ [] → greatest_end h ≤ t
-none_busy [] t good timed issued e = omega arith
-none_busy (d ∷ older) t good timed issued e = elim (cases_Bool (nat_lt t d.at.end)) [
+pub none_busy : {i : Loaded} {config : Configuration} (h : List Done) (t : ℕ) → IsUpTo i config t h
+    → order_of t h ≡ [] → greatest_end h ≤ t
+none_busy [] t up e = omega arith
+none_busy (d ∷ older) t up e = elim (cases_Bool (nat_lt t d.at.end)) [
   | inl l ↦
-      let less : t < d.at.end = ltb-true _ _ l in
-      let f : onto_end (order_of t older) (place_of d) ≡ [] = rw l at e in
-      let some : is_some (place_of d) ≡ true = place_there d timed.0 (let h : d.at.issue ≤ t = issued.0 in
-      omega arith) in
-      let k = onto_end-some (order_of t older) (place_of d) some in
-      let z : length (onto_end (order_of t older) (place_of d)) ≡ 0 = ap length f in
+      let place = busy_at d up l in
+      let f : onto_end (order_of t older) (Some place.0) ≡ [] = rw (l, place.1) at e in
+      let k = onto_end-some (order_of t older) (Some place.0) refl in
+      let z : length (onto_end (order_of t older) (Some place.0)) ≡ 0 = ap length f in
       absurd (omega arith)
   | inr l ↦
       let less : d.at.end ≤ t = ltb-false _ _ l in
-      let f : greatest_end older ≤ t = none_busy older t good timed.1 issued.1 (rw l at e) in
+      let f : greatest_end older ≤ t = none_busy older t (older_up_to up) (rw l at e) in
       omega arith
 ]
 
@@ -98,31 +94,30 @@ more_left {config} {i} {n} k t run l next =
     rw rest.1.same (later_end rest.0 (first_timed config i k) t run.lawful timed rest.1.later (omega arith))
 
 -- the run is over exactly if fetch has stopped and no station is busy
-pub is_over : {config : Configuration} {i : Loaded} {n t count : ℕ} (end : EndKind) (pc : ℕ) {stations : Pools}
-    {registers : RegStatus} {fetch : Fetch} → RunEndsAfter i config n
-    → IsIssuedTo i config n t (clocks t t t) count stations registers fetch → fetch ≡ Stopped end pc
+pub is_over : {config : Configuration} {i : Loaded} {n t count : ℕ} (end : EndKind) (pc : ℕ) {s : Front}
+    → RunEndsAfter i config n → IsIssuedTo i config n t t (clocks t t t) count s → s.fetch ≡ Stopped end pc
     → order_of t (first_timed config i count) ≡ [] → greatest_end (first_timed config i (n + 1)) ≤ t
 is_over {config} {i} {n} {t} {count} end pc run shown stopped empty =
-    let k : count ≡ n + 1 = stopped_is count t end pc run shown.few (sym shown.from ∙ stopped) in
+    let k : count ≡ n + 1 = stopped_is count t end pc run shown.few (sym shown.shown.from ∙ stopped) in
     let e : order_of t (first_timed config i (n + 1)) ≡ [] = rw (← k) empty in
-    let issued : AreIssuedBy t (first_timed config i (n + 1)) = rw (← k) shown.issued in
-    none_busy (first_timed config i (n + 1)) t run.lawful (run_timed i (n + 1) run.lawful) issued e
+    let up : IsUpTo i config t (first_timed config i (n + 1)) = rw (← k) (issued_up_to run shown) in
+    none_busy (first_timed config i (n + 1)) t up e
 
-pub not_stopped : {config : Configuration} {i : Loaded} {n t count : ℕ} {stations : Pools} {registers : RegStatus}
-    {fetch : Fetch} → RunEndsAfter i config n → IsIssuedTo i config n t (clocks t t t) count stations registers fetch
-    → ((end : EndKind) (pc : ℕ) → fetch ≡ Stopped end pc → ⊥) → t < greatest_end (first_timed config i (n + 1))
+pub not_stopped : {config : Configuration} {i : Loaded} {n t count : ℕ} {s : Front} → RunEndsAfter i config n
+    → IsIssuedTo i config n t t (clocks t t t) count s
+    → ((end : EndKind) (pc : ℕ) → s.fetch ≡ Stopped end pc → ⊥) → t < greatest_end (first_timed config i (n + 1))
 not_stopped {config} {i} {n} {t} {count} run shown on = elim (cases_order count (n + 1)) [
   | inl k ↦
       let z = stops t run in
       let f : fetch_of i t (first_timed config i count) ≡ Stopped run.kind z.0.pc = rw k z.2 in
-      absurd (on run.kind z.0.pc (shown.from ∙ f))
+      absurd (on run.kind z.0.pc (shown.shown.from ∙ f))
   | inr (inl less) ↦ more_left count t run (omega arith) shown.next
   | inr (inr more) ↦ let l : count ≤ n + 1 = shown.few in absurd (omega arith)
 ]
 
-pub still_busy : {config : Configuration} {i : Loaded} {n t count : ℕ} {stations : Pools} {registers : RegStatus}
-    {fetch : Fetch} → RunEndsAfter i config n → IsIssuedTo i config n t (clocks t t t) count stations registers fetch
-    → (order_of t (first_timed config i count) ≡ [] → ⊥) → t < greatest_end (first_timed config i (n + 1))
+pub still_busy : {config : Configuration} {i : Loaded} {n t count : ℕ} {s : Front} → RunEndsAfter i config n
+    → IsIssuedTo i config n t t (clocks t t t) count s → (order_of t (first_timed config i count) ≡ [] → ⊥)
+    → t < greatest_end (first_timed config i (n + 1))
 still_busy {config} {i} {n} {t} {count} run shown busy = elim (cases_order count (n + 1)) [
   | inl k ↦ elim (cases_Bool (nat_lt t (greatest_end (first_timed config i (n + 1))))) [
     | inl l ↦ ltb-true _ _ l
@@ -135,14 +130,10 @@ still_busy {config} {i} {n} {t} {count} run shown busy = elim (cases_order count
   | inr (inr more) ↦ let l : count ≤ n + 1 = shown.few in absurd (omega arith)
 ]
 
-pub issued_more : (t u : ℕ) (h : List Done) → t ≤ u → AreIssuedBy t h → AreIssuedBy u h
-issued_more t u [] l issued = tt
-issued_more t u (d ∷ older) l issued =
-    ((let k : d.at.issue ≤ t = issued.0 in omega arith), issued_more t u older l issued.1)
-
 -- the test that the machine makes
 pub done_is : {config : Configuration} {i : Loaded} {n t count : ℕ} {stations : Pools} {registers : RegStatus}
-    (fetch : Fetch) → RunEndsAfter i config n → IsIssuedTo i config n t (clocks t t t) count stations registers fetch
+    (fetch : Fetch) → RunEndsAfter i config n
+    → IsIssuedTo i config n t t (clocks t t t) count (front stations registers fetch)
     → AreBusy stations.slots stations.busy stations.issue_numbers
     → is_done fetch stations.busy ≡ not (nat_lt t (greatest_end (first_timed config i (n + 1))))
 done_is {config} {i} {n} {t} (At pc) run shown filled =
@@ -150,18 +141,16 @@ done_is {config} {i} {n} {t} (At pc) run shown filled =
 done_is {config} {i} {n} {t} Waits run shown filled =
     rw (lt-ltb t (greatest_end (first_timed config i (n + 1))) (not_stopped run shown (λ end pc e. cc))) refl
 done_is {config} {i} {n} {t} {count} {stations} (Stopped end pc) run shown filled =
-    let h : List Done = first_timed config i count in
-    let timed : AreTimed config h = run_timed i count run.lawful in
-    let issued : AreIssuedBy (t + 1) h = issued_more t (t + 1) h (omega arith) shown.issued in
+    let up = issued_up_to run shown in
     elim (cases_Bool (stations.busy == 0)) [
       | inl e ↦
-          let none : order_of t h ≡ [] = empty_order run.lawful timed issued shown.slots filled (eqb-true _ _ e) in
+          let none = empty_order up (omega arith) shown.shown.slots filled (eqb-true _ _ e) in
           let l : greatest_end (first_timed config i (n + 1)) ≤ t = is_over end pc run shown refl none in
           rw (e, le-ltb t (greatest_end (first_timed config i (n + 1))) l) refl
       | inr e ↦
           let l : t < greatest_end (first_timed config i (n + 1)) = still_busy run shown (λ z.
           let by : IsInIssueOrder stations.busy stations.issue_numbers [] =
-          rw z at (order_is run.lawful timed issued shown.slots filled) in
+          rw z at (order_is up (omega arith) shown.shown.slots filled) in
           eqb-false _ _ e (empty_set stations.busy stations.issue_numbers filled.small by)) in
           rw (e, lt-ltb t (greatest_end (first_timed config i (n + 1))) l) refl
     ]

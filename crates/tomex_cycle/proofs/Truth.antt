@@ -1,6 +1,6 @@
 -- Tests and constructors: the laws of them that several files cite.
-use Rattle.std.proofs.Common.{◌≡◌, Bool, true, false, ◌||◌, ◌&&◌, Option, Some, None, ◌⊎◌, arith}
-use Rattle.tomex_cycle.proofs.Words.{Result, Ok, Err, nat_tests}
+use Rattle.std.proofs.Common.{◌≡◌, Bool, true, false, ◌&&◌, Option, Some, None, ◌⊎◌, arith}
+use Rattle.tomex_cycle.proofs.Words.{Result, Ok, Err, nat_tests, ◌||◌}
 
 pub or_cases : (a b : Bool) → (a || b) ≡ true → (a ≡ true) ⊎ (b ≡ true)
 or_cases a b e = grind (arith, nat_tests)

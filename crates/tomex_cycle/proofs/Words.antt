@@ -75,7 +75,7 @@ pub use Rattle.tomex_tags.specs.Contents.{with_address}
 pub use Rattle.tomex_tags.specs.Operands.{field_after, is_there, only, value_in, value_or_tag}
 pub use Rattle.tomex_tags.specs.Places.{is_served, place_at, place_of_tag}
 pub use Rattle.tomex_tags.specs.Pools.{AreBusy, Pools, is_open}
-pub use Rattle.tomex_tags.specs.Registers.{operand_in, tags_with}
+pub use Rattle.tomex_tags.specs.Registers.{operand_in, station_from, tags_with}
 pub use Rattle.tomex_tags.specs.WaitSets.{IsSetOf, has_address, waits, writes}
 pub use Rattle.tomex_tags.specs.declared.register_status.RegStatus.{RegStatus}
 pub use Rattle.tomex_tags.specs.declared.station.Station.{Station}
@@ -88,11 +88,12 @@ pub use Rattle.tomex_cycle.specs.Ends.{after_ends, can_send, ends_alone, finishe
 pub use Rattle.tomex_cycle.specs.Events.{GoesOn, SkipsTo, events_in}
 pub use Rattle.tomex_cycle.specs.Finishes.{AreResults, HaveTurned, IsFree, IsSkipped, IsTimetableOf, LeavesTimetable}
 pub use Rattle.tomex_cycle.specs.Finishes.{has_stayed}
-pub use Rattle.tomex_cycle.specs.Inner.{IsAt, MakesCycle}
+pub use Rattle.tomex_cycle.specs.Inner.{IsAt, MakesCycle, core_of}
 pub use Rattle.tomex_cycle.specs.Issue.{IsIssuing, IssuesNext, IssuesOn}
 pub use Rattle.tomex_cycle.specs.Phases.{IsIssuedTo, IsSnapshot, IsYetToIssue, MakesAddress, MakesEnds, MakesIssue}
 pub use Rattle.tomex_cycle.specs.Phases.{MakesStarts, is_done}
-pub use Rattle.tomex_cycle.specs.Run.{AreIssuedBy, ArePast, EndsWithinLimit, IsHistory, RunEndsAfter, byte_at, steps_in}
+pub use Rattle.tomex_cycle.specs.Run.{AreIssuedBy, ArePast, EndsWithinLimit, IsNextCycle, IsUpTo, RunEndsAfter, byte_at}
+pub use Rattle.tomex_cycle.specs.Run.{steps_in}
 unfoldable pub use Rattle.tomex_cycle.specs.Run.{first_timed, run_of}
 pub use Rattle.tomex_cycle.specs.Seen.{Seen, seen, seen_after}
 pub use Rattle.tomex_cycle.specs.Settled.{AllSettled, IsSettled}
@@ -100,9 +101,10 @@ pub use Rattle.tomex_cycle.specs.Sound.{IsSound}
 pub use Rattle.tomex_cycle.specs.Starts.{AllCanBegin, AllInside, AreLow, AreStartable, CanBegin, HaveBegun, HaveStored}
 pub use Rattle.tomex_cycle.specs.Starts.{IsStarting, NoneWaits, begun, begun_if, is_clear, kind_if, kind_of, stored_at}
 pub use Rattle.tomex_cycle.specs.Starts.{wanted, written_by}
-pub use Rattle.tomex_cycle.specs.Views.{Clocks, ShowsMemory, ShowsRegisters, ShowsStations, clocks, fetch_after}
+pub use Rattle.tomex_cycle.specs.Views.{Clocks, Core, Front, ShowsFront, ShowsMemory, ShowsRegisters, ShowsStations}
+pub use Rattle.tomex_cycle.specs.Views.{clocks, fetch_after}
 pub use Rattle.tomex_cycle.specs.Views.{fetch_of, holds_place, issue_number_at, onto_end, order_of, place_of, sent_at}
-pub use Rattle.tomex_cycle.specs.Views.{station_at, station_of}
+pub use Rattle.tomex_cycle.specs.Views.{core, front, station_at, station_of}
 pub use Rattle.tomex_cycle.specs.declared.fetch.Fetch.{Fetch}
 pub use Rattle.tomex_cycle.specs.declared.fetch.Fetch.TheVariants.{At, Stopped}
 pub use Rattle.tomex_cycle.specs.declared.finishes.Finishes.{Finishes}

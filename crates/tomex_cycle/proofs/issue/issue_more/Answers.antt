@@ -1,12 +1,13 @@
 -- The first issue is made; each turn makes one more, or finds that it can't be made.
-use Rattle.std.proofs.Common.{◌∙◌, ◌<◌, ◌≤◌, arith, refl, sym}
+use Rattle.std.proofs.Common.{◌∙◌, ◌<◌, ◌≤◌, arith, refl, sym, true, false}
 use Rattle.tomex_cycle.proofs.IssuesPhase.{on_first, on_full, on_more, on_wait, one_is}
+use Rattle.tomex_cycle.proofs.Words.{front}
 use Rattle.tomex_cycle.proofs.issue.issue_more.Goals as goal
 
 pub issues-init : goal.issues-init
 issues-init g c = record {
-  on = on_first c.args.fetcher.now c.args.config.now c.args.count.now c.args.pools.now c.args.registers.now
-      c.args.fetch.now;
+  on = on_first c.args.fetcher.now c.args.config.now c.args.count.now
+      (front c.args.pools.now c.args.registers.now c.args.fetch.now);
   known = λ f next known. known;
   same = refl;
 }
@@ -15,10 +16,10 @@ pub issues-preserved : goal.issues-preserved
 issues-preserved g c =
     let less : c.issues.made < c.args.config.now.width =
     omega (arith, c.width-width.ensures.count, c.issues-test.true) in
+    let made = one_is c.issue_next.result (sym c.unwrap_or-more.ensures ∙ c.if-not-more.false) in
     record {
       on = on_more c.args.fetcher.now c.args.config.now c.args.count.now c.issues.made c.issues.count
-          c.issue_next.result c.issues.invariant.on less (rw c.issues.invariant.same at c.issue_next.ensures.issues)
-          (one_is c.issue_next.result (sym c.unwrap_or-more.ensures ∙ c.if-not-more.false)) refl;
+          c.issues.invariant.on less (rw (c.issues.invariant.same, made) at c.issue_next.ensures.issues) refl;
       known = λ next f known. c.issue_next.ensures.timetable next f (c.issues.invariant.known next f known);
       same = c.issue_next.ensures.same ∙ c.issues.invariant.same;
     }

@@ -1,8 +1,8 @@
 use Rattle.std.proofs.Common.{slice_index_or, None}
-use Rattle.tomex_rvdec.specs.declared.pool.UnitId.TheVariants as units
 use Rattle.tomex_membuf.proofs.Older.{clear_there}
 use Rattle.tomex_cycle.proofs.IssueOrder.{clear_is}
 use Rattle.tomex_cycle.proofs.Startable.{wants_clear}
+use Rattle.tomex_rvdec.specs.declared.pool.UnitId.TheVariants as units
 use Rattle.tomex_cycle.proofs.starts.is_clear.Goals as goal
 
 pub returns : goal.returns

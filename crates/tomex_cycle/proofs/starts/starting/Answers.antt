@@ -1,6 +1,7 @@
-use Rattle.tomex_rvdec.specs.declared.pool.UnitId.TheVariants as units
 use Rattle.tomex_timing.proofs.Limits.{units_low}
 use Rattle.tomex_cycle.proofs.Startable.{all_of, are_starting, none_starts, single_of}
+use Rattle.std.proofs.Common.{true}
+use Rattle.tomex_rvdec.specs.declared.pool.UnitId.TheVariants as units
 use Rattle.tomex_cycle.proofs.starts.starting.Goals as goal
 
 pub returns-then-waiting-eq0-clause-starting : goal.returns-then-waiting-eq0-clause-starting

@@ -1,4 +1,5 @@
 use Rattle.tomex_cycle.proofs.StartsStored.{all_stored, first_stored, member_stored, store_picked, stores_stored}
+use Rattle.std.proofs.Common.{false}
 use Rattle.tomex_cycle.proofs.starts.write.Goals as goal
 
 pub members-init : goal.members-init

@@ -1,4 +1,4 @@
-use Rattle.std.proofs.Common.{◌≡◌, ◌<◌, arith, refl, ap, sym, max, ◌∙◌}
+use Rattle.std.proofs.Common.{◌≡◌, ◌<◌, arith, refl, ap, sym, max, ◌∙◌, true, false}
 use Rattle.tomex_cycle.specs.Seen.{seen}
 use Rattle.tomex_cycle.proofs.Counts.{paid_counts, paid_first, paid_on}
 use Rattle.tomex_cycle.proofs.Ticks.{over_seen}
