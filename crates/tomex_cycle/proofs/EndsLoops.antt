@@ -5,14 +5,14 @@ use Rattle.tomex_cycle.proofs.Words.{nat_lt, if◌then◌else◌, ◌&&◌, ◌=
 use Rattle.tomex_cycle.proofs.Words.{nat_tests, ltb-true, ltb-false, get_or-set_same, get_or-set_other, length-set}
 use Rattle.tomex_cycle.proofs.Words.{get_or_past, field_from, Field, Value, Unread, Tag, is_number, EndsIn, Hears}
 use Rattle.tomex_cycle.proofs.Words.{after_ends, sends_of, sent_below, AreNamed, HaveReceived, hears, field_after, only}
-use Rattle.tomex_cycle.proofs.Words.{value_or_tag, place_at, place_of_tag, Pools, RegStatus, Station, has, IsWithout}
-use Rattle.tomex_cycle.proofs.Words.{AreFrom, all_left, least_from, least_in, left_from, none_after, none_between}
-use Rattle.tomex_cycle.proofs.Words.{skip_to, dest_of, AreLow}
+use Rattle.tomex_cycle.proofs.Words.{value_or_tag, place_at, place_of_tag, Pools, RegStatus, Station, has, AreFrom}
+use Rattle.tomex_cycle.proofs.Words.{all_left, none_after, skip_to, dest_of, AreLow}
 use Rattle.tomex_timing.specs.declared.tables.Field.TheVariants.{Waits}
 use Rattle.tomex_cycle.specs.Ends.{AreEnded}
 use Rattle.tomex_tags.specs.Registers.{names, registers_after}
 use Rattle.tomex_cycle.proofs.EndsInTurn.{reg_field, AreEndedBelow, heard_yes, heard_no, apply_yes, apply_no, hear_yes}
 use Rattle.tomex_cycle.proofs.EndsInTurn.{hear_no}
+use Rattle.tomex_cycle.proofs.Turns.{IsTaken, turn_at}
 
 -- A place ends.
 
@@ -150,28 +150,25 @@ first_applied picked st rg count = record {
 
 -- one place more
 pub one_applied : {picked rest left x : ℕ} {old s : Pools} (new : Pools) {first r : RegStatus} (status : RegStatus)
-    → AreLow picked → AreApplied picked rest old s first r → x < 128 → has rest x ≡ true
-    → ((i : ℕ) → i < x → has rest i ≡ false) → IsWithout rest x left
+    → AreLow picked → AreApplied picked rest old s first r → IsTaken rest x left
     → EndsIn (λ y. x == y) (only x (sends_of (slice_index_or s.slots x None))) s new
-    → (AreNamed s.slots r → Hears (only x (sends_of (slice_index_or s.slots x None))) r status)
+    × (AreNamed s.slots r → Hears (only x (sends_of (slice_index_or s.slots x None))) r status)
     → AreApplied picked left old new first status
-one_applied {picked} {rest} {left} {x} {old} {s} new {first} {r} status low so small member least without ends hears_ =
-    let from : so.k ≤ x = least_from picked rest so.k x so.from small member in
-    let pick : has picked x ≡ true = least_in picked rest so.k x so.from small member in
-    let below : x < 96 = low x small pick in
-    let none = none_between picked rest so.k x so.from small least in
-    let here : AreEndedBelow picked x old s =
-    skip_to (λ j. AreEndedBelow picked j old s) picked so.k x from none (λ j e b. apply_no e b) so.stations in
+one_applied {picked} {x = x} {old} {s} new {first} {r} status low so out ends =
+    let turn = turn_at so.from out in
+    let below : x < 96 = low x out.low turn.member in
+    let here : AreEndedBelow picked x old s = skip_to (λ j. AreEndedBelow picked j old s) picked so.k x turn.from
+    turn.none (λ j e b. apply_no e b) so.stations in
     record {
       k = x + 1;
-      from = left_from picked rest left so.k x so.from small member least without;
+      from = turn.next;
       high = omega arith;
-      stations = apply_yes new below pick here ends;
+      stations = apply_yes new below turn.member here ends.0;
       registers = λ named count tags.
-          let heard_ = skip_to (λ j. Hears (sent_below old.slots picked j) first r) picked so.k x from none
+          let heard_ = skip_to (λ j. Hears (sent_below old.slots picked j) first r) picked so.k x turn.from turn.none
           (λ j e b. hear_no picked j old first r e b) (so.registers named) in
-          hear_yes first r status below pick here heard_
-          (hears_ (named_still named here here.places (heard_ count tags))) count tags;
+          hear_yes first r status below turn.member here heard_
+          (ends.1 (named_still named here here.places (heard_ count tags))) count tags;
     }
 
 pub all_applied : {picked rest : ℕ} {old s : Pools} {first r : RegStatus} → AreLow picked

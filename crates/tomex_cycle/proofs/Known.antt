@@ -5,11 +5,12 @@ use Rattle.std.proofs.Common.{List, Option, Some, None, length, slice_index_or, 
 use Rattle.tomex_cycle.proofs.Words.{nat_lt, ◌==◌, ◌&&◌, not, is_none, is_some, IsSome, and_right, both_ways, nat_tests}
 use Rattle.tomex_cycle.proofs.Words.{cases_Bool, eq-eqb, eqb-true, eqb-false, le-ltb, ltb-true, ltb-false, ne_eqb}
 use Rattle.tomex_cycle.proofs.Words.{get_or-replicate, get_or-set_same, get_or-set_other, get_or_past, length-set}
-use Rattle.tomex_cycle.proofs.Words.{dest_of, place_of_pool, PoolId, is_number, has, is_due, none_in, with_address}
-use Rattle.tomex_cycle.proofs.Words.{is_open, Station, Field, can_send, finishes, is_finished_before, IsTimetableOf}
-use Rattle.tomex_cycle.proofs.Words.{has_stayed, Finishes, ◌||◌}
+use Rattle.tomex_cycle.proofs.Words.{dest_of, place_of_pool, PoolId, is_number, is_due, none_in, with_address, is_open}
+use Rattle.tomex_cycle.proofs.Words.{Station, Field, can_send, finishes, is_finished_before, IsTimetableOf, has_stayed}
+use Rattle.tomex_cycle.proofs.Words.{Finishes, ◌||◌, with_start}
 use Rattle.tomex_bus.specs.Wheel.{HasPut, IsEmpty, Lacks}
 use Rattle.tomex_cycle.proofs.Places.{pool_low}
+use Rattle.tomex_cycle.proofs.Truth.{or_false}
 
 -- A test of each place's content, after this is put into one.
 
@@ -114,41 +115,37 @@ lacks_idle x {next} s l known at idle a = elim (cases_Bool (nat_lt a 64)) [
 shift_test : (next a latency : ℕ) → 1 ≤ latency → (a == latency - 1) ≡ ((next + latency - 1) == (next + a))
 shift_test next a latency some = grind (arith, nat_tests)
 
-pub known_started : {slots : List (Option Station)} (x : ℕ) {next : ℕ} (latency : ℕ) (s t : Station) {f : Finishes}
-    (g : Finishes) → x < length slots → x < 96 → IsTimetableOf slots next f → slice_index_or slots x None ≡ Some s
-    → s.finish ≡ None → t.finish ≡ Some (next + latency - 1) → 1 ≤ latency → latency ≤ 64
-    → HasPut (latency - 1) x f.wheel g.wheel → g.unsent ≡ f.unsent → IsTimetableOf (slice_set slots x (Some t)) next g
-known_started {slots} x {next} latency s t {f} g l m known at idle fin some few put unsent = record {
-  places = length-set slots x (Some t) ∙ known.places;
+pub known_started : {slots : List (Option Station)} (x : ℕ) {next : ℕ} (latency value : ℕ) (s : Station) {f : Finishes}
+    (wheel : List ℕ) → x < 96 → IsTimetableOf slots next f → slice_index_or slots x None ≡ Some s → s.finish ≡ None
+    → (1 ≤ latency) × (latency ≤ 64) → HasPut (latency - 1) x f.wheel wheel
+    → IsTimetableOf (slice_set slots x (Some (with_start (next + latency - 1) value s))) next
+    (record { wheel = wheel; unsent = f.unsent })
+known_started {slots} x {next} latency value s {f} wheel m known at idle few put = record {
+  places = length-set slots x new ∙ known.places;
   ahead = λ a y k n. put a y ∙ elim (cases_Bool (x == y)) [
     | inl e ↦
         let same : x ≡ y = eqb-true x y e in
         let none : is_due f.wheel a x ≡ false = lacks_idle x s m known at idle a in
-        rw (
-          ← same,
-          none,
-          eq-eqb x x refl,
-          get_or-set_same slots x (Some t) None l,
-          fin,
-          ← shift_test next a latency some,
-        ) (and_true (a == latency - 1))
+        rw (← same, none, eq-eqb x x refl, get_or-set_same slots x new None l, ← shift_test next a latency few.0)
+        (and_true (a == latency - 1))
     | inr e ↦
         let apart : (y == x) ≡ false = ne_eqb y x (λ z. eqb-false x y e (sym z)) in
         rw (
           apart,
           and_right (a == latency - 1) false refl,
-          get_or-set_other slots x y (Some t) None (λ z. eqb-false x y e (sym z)),
+          get_or-set_other slots x y new None (λ z. eqb-false x y e (sym z)),
         ) (or_false (is_due f.wheel a y) ∙ known.ahead a y k n)
   ];
   near = λ y v n e. elim (cases_Bool (x == y)) [
     | inl k ↦
         let same : x ≡ y = eqb-true x y k in
         let done : ((next + latency - 1) == v) ≡ true =
-        rw (← same, get_or-set_same slots x (Some t) None l, fin) at e in
+        rw (← same, get_or-set_same slots x new None l) at e in
         let at : next + latency - 1 ≡ v = eqb-true (next + latency - 1) v done in
+        let most : latency ≤ 64 = few.1 in
         omega arith
     | inr k ↦ known.near y v n (sym
-        (ap (finishes v) (get_or-set_other slots x y (Some t) None (λ z. eqb-false x y k (sym z)))) ∙ e)
+        (ap (finishes v) (get_or-set_other slots x y new None (λ z. eqb-false x y k (sym z)))) ∙ e)
   ];
   low = λ a y e. elim (cases_Bool (x == y)) [
     | inl k ↦ let same : x ≡ y = eqb-true x y k in rw (← same) m
@@ -157,20 +154,23 @@ known_started {slots} x {next} latency s t {f} g l m known at idle fin some few 
         known.low a y (sym (put a y ∙ rw (apart, and_right (a == latency - 1) false refl)
         (or_false (is_due f.wheel a y))) ∙ e)
   ];
-  unsent = λ y n. ap (λ z. has z y) unsent ∙ (known.unsent y n ∙ sym (kept_test (can_send next) slots x y (Some t) l
-      (late (is_some (dest_of t.instr)) ∙ sym (ap (can_send next) at ∙ none_sends next s idle))));
-  gone = λ y n. kept_test (has_stayed next) slots x y (Some t) l (late (not (is_some (dest_of t.instr)))
+  unsent = λ y n. known.unsent y n ∙ sym (kept_test (can_send next) slots x y new l
+      (late (is_some (dest_of s.instr)) ∙ sym (ap (can_send next) at ∙ none_sends next s idle)));
+  gone = λ y n. kept_test (has_stayed next) slots x y new l (late (not (is_some (dest_of s.instr)))
       ∙ sym (ap (has_stayed next) at ∙ none_stays next s idle)) ∙ known.gone y n;
 }
   where
+    new : Option Station
+    new = Some (with_start (next + latency - 1) value s)
+
+    l : x < length slots
+    l = inside_of slots x s at
+
     and_true : (b : Bool) → (false || (b && true)) ≡ b
     and_true b = grind (arith, nat_tests)
 
-    or_false : (b : Bool) → (b || false) ≡ b
-    or_false b = grind (arith, nat_tests)
-
-    late : (b : Bool) → (b && is_finished_before t.finish next) ≡ false
-    late b = rw (fin, le-ltb (next + latency - 1) next (omega arith)) (and_right b false refl)
+    late : (b : Bool) → (b && nat_lt (next + latency - 1) next) ≡ false
+    late b = rw (le-ltb (next + latency - 1) next (let k : 1 ≤ latency = few.0 in omega arith)) (and_right b false refl)
 
 -- Before the first cycle.
 

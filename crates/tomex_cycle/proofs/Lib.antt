@@ -3,6 +3,7 @@ pub mod Parts
 pub mod Runs
 pub mod Totals
 pub mod Truth
+pub mod Turns
 pub mod Cycles
 pub mod Ticks
 pub mod Outer

@@ -68,12 +68,12 @@ soon_happens {i} {config} {new = new} w has soon within =
 
 -- after a cycle in which nothing happens
 pub settled_goes : {A : Type 0} {i : Loaded} {config : Configuration} {cycle to now after : ℕ} {old new : Inner A}
-    {made : CycleOutcome} (before : ℕ) → HasMade i config cycle old made new → made ≡ made_as.Settled
+    (before : ℕ) → HasMade i config cycle old made_as.Settled new
     → IsSkipped new.pools.slots (cycle + 1) to now (before + 1) after → EndsWithin i 262144
     → GoesOn (run_of config i) to cycle now before after
-settled_goes {i} {config} {cycle} {to} {now} {after} before has quiet passed within =
+settled_goes {i} {config} {cycle} {to} {now} {after} before has passed within =
     let first : SkipsTo (run_of config i) to cycle passed.last_free = go_passes passed.last_free to has passed.least
-    (λ less. (quiet, passed.free)) (λ s. passed.stops) within in
+    (λ less. (refl, passed.free)) (λ s. passed.stops) within in
     elim passed.last [
       | inl here ↦ let e : now ≡ passed.last_free = here.0 in inl (here.1, rw e first)
       | inr one ↦

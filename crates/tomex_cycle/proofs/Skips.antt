@@ -116,36 +116,36 @@ sound_made {new = new} {made} has high = sound_next (progress_of made) new has.s
     (λ n t at old. let r = has.makes n t at old in (r.0, r.1))
 
 -- so do those that are passed after it
-sound_free : {A : Type 0} {i : Loaded} {config : Configuration} {cycle : ℕ} {old new : Inner A} {made : CycleOutcome}
-    (w : ℕ) → HasMade i config cycle old made new → made ≡ made_as.Settled → cycle + 1 ≤ w → w ≤ 2 ^ 40
+sound_free : {A : Type 0} {i : Loaded} {config : Configuration} {cycle : ℕ} {old new : Inner A} (w : ℕ)
+    → HasMade i config cycle old made_as.Settled new → cycle + 1 ≤ w → w ≤ 2 ^ 40
     → IsFree new.pools.slots (cycle + 1) w → IsSound i config w Running new
-sound_free {i} {config} {cycle} {new = new} w has settled l high free =
-    steady_sound w (rw settled at (sound_made has (omega arith))) l high (λ n run v from to.
+sound_free {i} {config} {cycle} {new = new} w has l high free =
+    steady_sound w (sound_made has (omega arith)) l high (λ n run v from to.
     let shot = made_in has n run in
     quiet_steady v (first_timed config i (n + 1))
-    (settled_past (cycle + 1) w new run (omega arith) l shot.0 (shot.3 settled) free v from to))
+    (settled_past (cycle + 1) w new run (omega arith) l shot.0 (shot.3 refl) free v from to))
 
 -- and so does one more, in which nothing happens but finishes of results
-sound_taken : {A : Type 0} {i : Loaded} {config : Configuration} {cycle : ℕ} {old new : Inner A} {made : CycleOutcome}
-    (w : ℕ) → HasMade i config cycle old made new → made ≡ made_as.Settled → cycle + 1 ≤ w → w + 1 ≤ 2 ^ 40
+sound_taken : {A : Type 0} {i : Loaded} {config : Configuration} {cycle : ℕ} {old new : Inner A} (w : ℕ)
+    → HasMade i config cycle old made_as.Settled new → cycle + 1 ≤ w → w + 1 ≤ 2 ^ 40
     → IsFree new.pools.slots (cycle + 1) w → AreResults new.pools.slots (w + 1) → IsSound i config (w + 1) Running new
-sound_taken {cycle = cycle} {new = new} w has settled l high free results =
-    let next = sound_free w has settled l (omega arith) free in
+sound_taken {cycle = cycle} {new = new} w has l high free results =
+    let next = sound_free w has l (omega arith) free in
     steady_sound (w + 1) next (omega arith) high (λ n run v from to.
     let shot = made_in has n run in
-    let last = settled_last (cycle + 1) w new run (omega arith) l shot.0 (shot.3 settled) free in
+    let last = settled_last (cycle + 1) w new run (omega arith) l shot.0 (shot.3 refl) free in
     let at : v ≡ w + 1 = omega arith in
     rw at (next_steady w new run (omega arith) (next.after n run).snapshot last results))
 
 -- so it does as far as no station changes
 pub sound_passed : {A : Type 0} {i : Loaded} {config : Configuration} {cycle to w before after : ℕ}
-    {old new : Inner A} {made : CycleOutcome} → HasMade i config cycle old made new → made ≡ made_as.Settled
-    → w ≤ 2 ^ 40 → IsSkipped new.pools.slots (cycle + 1) to w before after → IsSound i config w Running new
-sound_passed {w = w} has settled high passed = elim passed.last [
+    {old new : Inner A} → HasMade i config cycle old made_as.Settled new → w ≤ 2 ^ 40
+    → IsSkipped new.pools.slots (cycle + 1) to w before after → IsSound i config w Running new
+sound_passed {w = w} has high passed = elim passed.last [
   | inl here ↦ let e : w ≡ passed.last_free = here.0 in
-      rw e (sound_free passed.last_free has settled passed.least (omega arith) passed.free)
+      rw e (sound_free passed.last_free has passed.least (omega arith) passed.free)
   | inr one ↦ let e : w ≡ passed.last_free + 1 = one.0 in
-      rw e (sound_taken passed.last_free has settled passed.least (omega arith) passed.free one.3)
+      rw e (sound_taken passed.last_free has passed.least (omega arith) passed.free one.3)
 ]
 
 -- the count of cycles made is no part of what holds

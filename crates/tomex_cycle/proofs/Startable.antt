@@ -5,8 +5,8 @@ use Rattle.tomex_cycle.proofs.Words.{◌==◌, ◌≢◌, ◌&&◌, not, is_none
 use Rattle.tomex_cycle.proofs.Words.{nat_tests, eqb-true, eqb-false, is_in, is_number, has, IsWithout, IsInIssueOrder}
 use Rattle.tomex_cycle.proofs.Words.{IsPicked, Configuration, option_of, pool_of, unit_at, unit_of, place_of_unit}
 use Rattle.tomex_cycle.proofs.Words.{PoolId, UnitId, is_of, none_in, inside_left, none_picked, no_option, is_memory_op}
-use Rattle.tomex_cycle.proofs.Words.{is_waiting, AreBusy, Pools, IsSetOf, has_address, waits, Station, AreStartable}
-use Rattle.tomex_cycle.proofs.Words.{IsStarting, is_clear, kind_if, kind_of, wanted, ◌||◌}
+use Rattle.tomex_cycle.proofs.Words.{is_waiting, AreBusy, Pools, IsSetOf, has_address, waits, Station, IsStarting}
+use Rattle.tomex_cycle.proofs.Words.{is_clear, kind_if, kind_of, wanted, ◌||◌}
 use Rattle.tomex_steps.specs.Steps.{bytes_at}
 use Rattle.tomex_steps.proofs.Fields.{bytes_of_op}
 use Rattle.tomex_sets.specs.Sets.{IsWith}
@@ -17,6 +17,7 @@ use Rattle.tomex_tags.proofs.Entering.{is_busy_there}
 use Rattle.tomex_tags.specs.Contents.{bytes_from, is_ready}
 use Rattle.tomex_tags.specs.WaitSets.{waits_for}
 use Rattle.tomex_cycle.specs.Starts.{AreStartableFor, IsWanted}
+use Rattle.tomex_cycle.proofs.Truth.{or_false}
 use Rattle.tomex_rvdec.specs.declared.pool.PoolId.TheVariants as pools
 use Rattle.tomex_rvdec.specs.declared.pool.UnitId.TheVariants as units
 
@@ -194,52 +195,59 @@ pub found_waiting : {st : Pools} {next waiting rest clear : ℕ} → IsSetOf (wa
     → waits_for units.Mem (slice_index_or st.slots x None) ≡ true
 found_waiting of so x l e = sym (of x l) ∙ so.found x l e
 
--- the oldest of each kind together
-pub are_starting : (config : Configuration) {st : Pools} {next ra rb rc rd re : ℕ} (a b c d e all : ℕ)
-    → AreStartableFor st next units.Alu ra → AreStartableFor st next units.Mul rb → AreStartableFor st next units.Div rc
-    → AreStartableFor st next units.Mem rd → AreStartableFor st next units.Bru re
-    → IsPicked ra st.issue_numbers (option_of config units.Alu).units a
-    → IsPicked rb st.issue_numbers (option_of config units.Mul).units b
-    → IsPicked rc st.issue_numbers (option_of config units.Div).units c
-    → IsPicked rd st.issue_numbers (option_of config units.Mem).units d
-    → IsPicked re st.issue_numbers (option_of config units.Bru).units e
+-- the oldest of the operations that can start, of a kind of unit
+pub record AreServedBy (config : Configuration) (st : Pools) (next : ℕ) (unit : UnitId) (set : ℕ) : Type 0 where
+  pub ready : ℕ
+  pub startable : AreStartableFor st next unit ready
+  pub picked : IsPicked ready st.issue_numbers (option_of config unit).units set
+
+pub are_served : (config : Configuration) (st : Pools) (next : ℕ) (unit : UnitId) (ready set : ℕ)
+    → AreStartableFor st next unit ready → IsPicked ready st.issue_numbers (option_of config unit).units set
+    → AreServedBy config st next unit set
+are_served config st next unit ready set startable picked =
+    record { ready = ready; startable = startable; picked = picked }
+
+-- those of each kind together
+pub are_starting : {config : Configuration} {st : Pools} {next a b c d e : ℕ} (all : ℕ)
+    → AreServedBy config st next units.Alu a → AreServedBy config st next units.Mul b
+    → AreServedBy config st next units.Div c → AreServedBy config st next units.Mem d
+    → AreServedBy config st next units.Bru e
     → ((x : ℕ) → has all x ≡ (has a x || (has b x || (has c x || (has d x || has e x)))))
     → IsStarting config st next all
-are_starting config {st} {next} {ra} {rb} {rc} {rd} {re} a b c d e all is_alu is_mul is_div is_mem is_bru alu mul div
-    mem bru together = record {
-      startable = ra ∷ rb ∷ rc ∷ rd ∷ re ∷ [];
-      kinds = a ∷ b ∷ c ∷ d ∷ e ∷ [];
-      are_startable = kinds;
-      units = each;
-      count = refl;
-      all = λ x l. together x ∙ ap (λ z. has a x || (has b x || (has c x || (has d x || z)))) (sym (or_none (has e x)));
-    }
+are_starting {config} {st} {next} {a} {b} {c} {d} {e} all alu mul div mem bru together = record {
+  startable = alu.ready ∷ mul.ready ∷ div.ready ∷ mem.ready ∷ bru.ready ∷ [];
+  kinds = a ∷ b ∷ c ∷ d ∷ e ∷ [];
+  are_startable = λ unit. (each unit).0;
+  units = λ unit. (each unit).1;
+  count = refl;
+  all = λ x l. together x ∙ ap (λ z. has a x || (has b x || (has c x || (has d x || z)))) (sym (or_false (has e x)));
+}
   where
-    or_none : (z : Bool) → (z || false) ≡ z
-    or_none z = grind (arith, nat_tests)
-
-    kinds : AreStartable st next (ra ∷ rb ∷ rc ∷ rd ∷ re ∷ [])
-    kinds = grind (arith, nat_tests)
-
-    each : (unit : UnitId) → IsPicked (slice_index (ra ∷ rb ∷ rc ∷ rd ∷ re ∷ []) (place_of_unit unit)) st.issue_numbers
-        (option_of config unit).units (slice_index (a ∷ b ∷ c ∷ d ∷ e ∷ []) (place_of_unit unit))
-    each unit = grind (arith, nat_tests)
+    each : (unit : UnitId) → AreStartableFor st next unit
+        (slice_index (alu.ready ∷ mul.ready ∷ div.ready ∷ mem.ready ∷ bru.ready ∷ []) (place_of_unit unit))
+        × IsPicked (slice_index (alu.ready ∷ mul.ready ∷ div.ready ∷ mem.ready ∷ bru.ready ∷ []) (place_of_unit unit))
+        st.issue_numbers (option_of config unit).units (slice_index (a ∷ b ∷ c ∷ d ∷ e ∷ []) (place_of_unit unit))
+    each units.Alu = (alu.startable, alu.picked)
+    each units.Mul = (mul.startable, mul.picked)
+    each units.Div = (div.startable, div.picked)
+    each units.Mem = (mem.startable, mem.picked)
+    each units.Bru = (bru.startable, bru.picked)
 
 -- if nothing waits, nothing starts
 pub none_starts : (config : Configuration) (st : Pools) (next waiting : ℕ) → AreBusy st.slots st.busy st.issue_numbers
     → IsSetOf waits st.slots waiting → waiting ≡ 0 → IsStarting config st next 0
 none_starts config st next waiting filled of empty =
-    are_starting config 0 0 0 0 0 0 (ready_for st next 0 units.Alu filled (none_for units.Alu) (λ e. absurd (cc)))
-    (ready_for st next 0 units.Mul filled (none_for units.Mul) (λ e. absurd (cc)))
-    (ready_for st next 0 units.Div filled (none_for units.Div) (λ e. absurd (cc)))
+    are_starting 0 (none units.Alu (λ e. absurd (cc))) (none units.Mul (λ e. absurd (cc)))
+    (none units.Div (λ e. absurd (cc))) (are_served config st next units.Mem 0 0
     (all_cleared filled (none_for units.Mem) (first_cleared st next 0 (none_for units.Mem)) refl)
-    (ready_for st next 0 units.Bru filled (none_for units.Bru) (λ e. absurd (cc)))
-    (none_picked 0 _ st.issue_numbers refl) (none_picked 0 _ st.issue_numbers refl)
-    (none_picked 0 _ st.issue_numbers refl) (none_picked 0 _ st.issue_numbers refl)
-    (none_picked 0 _ st.issue_numbers refl) (λ x. rw (none_in x) refl)
+    (none_picked 0 _ st.issue_numbers refl)) (none units.Bru (λ e. absurd (cc))) (λ x. rw (none_in x) refl)
   where
     none_too : (unit : UnitId) (o : Option Station) → waits o ≡ false → waits_for unit o ≡ false
     none_too unit o e = grind (arith, nat_tests)
 
     none_for : (unit : UnitId) → IsSetOf (waits_for unit) st.slots 0
     none_for unit = grind (arith, nat_tests)
+
+    none : (unit : UnitId) → unit ≢ units.Mem → AreServedBy config st next unit 0
+    none unit apart = are_served config st next unit 0 0 (ready_for st next 0 unit filled (none_for unit) apart)
+        (none_picked 0 _ st.issue_numbers refl)

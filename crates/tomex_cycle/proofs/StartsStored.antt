@@ -3,10 +3,11 @@ use Rattle.std.proofs.Common.{length, slice_index_or, zero, suc, Option, Some, N
 use Rattle.std.proofs.Common.{true, false, arith, refl, List, ap, sym}
 use Rattle.tomex_cycle.proofs.Words.{if◌then◌else◌, ◌&&◌, IfSome, and_parts, ByteRange, IsInside, byte_in, covers}
 use Rattle.tomex_cycle.proofs.Words.{nat_tests, overwrites, stored_byte, Bytes, bytes_of, AllInside, HaveStored}
-use Rattle.tomex_cycle.proofs.Words.{stored_at, written_by, AreLow, step_in, IsSetOf, Station, has, IsWithout, AreFrom}
-use Rattle.tomex_cycle.proofs.Words.{all_left, least_from, least_in, left_from, none_after, none_between, skip_to}
+use Rattle.tomex_cycle.proofs.Words.{stored_at, written_by, AreLow, step_in, IsSetOf, Station, has, AreFrom, all_left}
+use Rattle.tomex_cycle.proofs.Words.{none_after, skip_to}
 use Rattle.tomex_steps.specs.Access.{HasStored}
 use Rattle.tomex_tags.specs.WaitSets.{holds_store}
+use Rattle.tomex_cycle.proofs.Turns.{IsTaken, turn_at}
 
 -- The stores of the picked places, one after the other.
 
@@ -83,21 +84,19 @@ first_stored slots picked m = record {
 }
 
 pub member_stored : {slots : List (Option Station)} {picked rest left x : ℕ} {old now : Bytes} (new : Bytes)
-    → AreLow picked → AllInside old picked slots → x < 128 → has rest x ≡ true → ((i : ℕ) → i < x → has rest i ≡ false)
-    → IsWithout rest x left → ((s : Station) → slice_index_or slots x None ≡ Some s → HasStored (step_in s) now new)
+    → AreLow picked → AllInside old picked slots → IsTaken rest x left
+    → ((s : Station) → slice_index_or slots x None ≡ Some s → HasStored (step_in s) now new)
     → (slice_index_or slots x None ≡ None → new ≡ now) → IsStored slots picked rest old now
     → IsStored slots picked left old new
-member_stored {slots} {picked} {rest} {left} {x} {old} {now} new low inside l member least without some none so =
-    let pick : has picked x ≡ true = least_in picked rest so.k x so.from l member in
-    let below : x < 96 = low x l pick in
-    let before : HaveStored slots picked x old now =
-    skip_to (λ j. HaveStored slots picked j old now) picked so.k x (least_from picked rest so.k x so.from l member)
-    (none_between picked rest so.k x so.from l least) (λ j e b. skip_stored e b) so.stored in
+member_stored {slots} {picked} {x = x} {old} {now} new low inside out some none so =
+    let turn = turn_at so.from out in
+    let below : x < 96 = low x out.low turn.member in
     record {
       k = x + 1;
-      from = left_from picked rest left so.k x so.from l member least without;
+      from = turn.next;
       high = omega arith;
-      stored = more_stored new below pick some none inside before;
+      stored = more_stored new below turn.member some none inside (skip_to (λ j. HaveStored slots picked j old now)
+          picked so.k x turn.from turn.none (λ j e b. skip_stored e b) so.stored);
     }
 
 pub all_stored : {slots : List (Option Station)} {picked rest : ℕ} {old now : Bytes} → AreLow picked → rest ≡ 0

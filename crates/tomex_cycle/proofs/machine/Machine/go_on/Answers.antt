@@ -21,13 +21,10 @@ invariant_of-self-in-Settled g c =
     let running : c.self.inside.status ≡ Running = ap (λ x. x.status) c.self.view_is ∙ c.requires.running in
     let low : c.make_cycle.new.self.cycles_made ≤ c.self.inside.cycle + 1 =
     omega (arith, c.make_cycle.ensures.cycles_made, c.self.invariant.1) in (
-      rw (
-        c.skip_quiet-self-inside.ensures.inner,
-        c.skip_quiet-self-inside.ensures.same,
-        c.make_cycle.ensures.same,
-        running,
-      ) (sound_counted c.skip_quiet-self-inside.new.inner.cycles_made (sound_passed
-          (has_made c.make_cycle.new.self running c.self.invariant.0 (c.make_cycle.ensures.makes refl)) c.in-Settled.is
+      rw (c.skip_quiet-self-inside.ensures.inner, c.skip_quiet-self-inside.ensures.same, c.make_cycle.ensures.same,
+          running) (sound_counted c.skip_quiet-self-inside.new.inner.cycles_made (sound_passed
+          (has_made c.make_cycle.new.self running c.self.invariant.0
+          (rw c.in-Settled.is at (c.make_cycle.ensures.makes refl)))
           (omega (arith, c.requires.low)) c.skip_quiet-self-inside.ensures.skipped)),
       passed_low c.skip_quiet-self-inside.ensures.skipped low,
       (λ runs. rw c.skip_quiet-self-inside.ensures.inner c.skip_quiet-self-inside.ensures.timetable),
@@ -76,7 +73,8 @@ returns-in-Settled-clause-goes g c =
     subst (λ (x : Machine). EndsWithinLimit x.image → GoesOn (run_of x.config x.image) c.args.to x.cycle
     c.skip_quiet-self-inside.result x.cycles_made c.skip_quiet-self-inside.new.inner.cycles_made) c.self.view_is
     (settled_goes c.self.inside.inner.cycles_made
-    (has_made c.make_cycle.new.self running c.self.invariant.0 (c.make_cycle.ensures.makes refl)) c.in-Settled.is
+    (has_made c.make_cycle.new.self running c.self.invariant.0
+    (rw c.in-Settled.is at (c.make_cycle.ensures.makes refl)))
     (rw c.make_cycle.ensures.cycles_made at c.skip_quiet-self-inside.ensures.skipped))
 
 pub returns-in_default-clause-goes : goal.returns-in_default-clause-goes
