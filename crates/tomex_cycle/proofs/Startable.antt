@@ -196,37 +196,40 @@ pub found_waiting : {st : Pools} {next waiting rest clear : ℕ} → IsSetOf (wa
 found_waiting of so x l e = sym (of x l) ∙ so.found x l e
 
 -- the oldest of the operations that can start, of a kind of unit
-pub record AreServedBy (config : Configuration) (st : Pools) (next : ℕ) (unit : UnitId) (set : ℕ) : Type 0 where
+pub record AreServedBy (config : Configuration) (st : Pools) (next : ℕ) (unit : UnitId) : Type 0 where
   pub ready : ℕ
+  pub set : ℕ
   pub startable : AreStartableFor st next unit ready
   pub picked : IsPicked ready st.issue_numbers (option_of config unit).units set
 
-pub are_served : (config : Configuration) (st : Pools) (next : ℕ) (unit : UnitId) (ready set : ℕ)
+abbrev pub are_served : (config : Configuration) (st : Pools) (next : ℕ) (unit : UnitId) (ready set : ℕ)
     → AreStartableFor st next unit ready → IsPicked ready st.issue_numbers (option_of config unit).units set
-    → AreServedBy config st next unit set
+    → AreServedBy config st next unit
 are_served config st next unit ready set startable picked =
-    record { ready = ready; startable = startable; picked = picked }
+    record { ready = ready; set = set; startable = startable; picked = picked }
 
 -- those of each kind together
-pub are_starting : {config : Configuration} {st : Pools} {next a b c d e : ℕ} (all : ℕ)
-    → AreServedBy config st next units.Alu a → AreServedBy config st next units.Mul b
-    → AreServedBy config st next units.Div c → AreServedBy config st next units.Mem d
-    → AreServedBy config st next units.Bru e
-    → ((x : ℕ) → has all x ≡ (has a x || (has b x || (has c x || (has d x || has e x)))))
+pub are_starting : {config : Configuration} {st : Pools} {next : ℕ} (all : ℕ)
+    (alu : AreServedBy config st next units.Alu) (mul : AreServedBy config st next units.Mul)
+    (div : AreServedBy config st next units.Div) (mem : AreServedBy config st next units.Mem)
+    (bru : AreServedBy config st next units.Bru) → ((x : ℕ) → has all x
+    ≡ (has alu.set x || (has mul.set x || (has div.set x || (has mem.set x || has bru.set x)))))
     → IsStarting config st next all
-are_starting {config} {st} {next} {a} {b} {c} {d} {e} all alu mul div mem bru together = record {
+are_starting {config} {st} {next} all alu mul div mem bru together = record {
   startable = alu.ready ∷ mul.ready ∷ div.ready ∷ mem.ready ∷ bru.ready ∷ [];
-  kinds = a ∷ b ∷ c ∷ d ∷ e ∷ [];
+  kinds = alu.set ∷ mul.set ∷ div.set ∷ mem.set ∷ bru.set ∷ [];
   are_startable = λ unit. (each unit).0;
   units = λ unit. (each unit).1;
   count = refl;
-  all = λ x l. together x ∙ ap (λ z. has a x || (has b x || (has c x || (has d x || z)))) (sym (or_false (has e x)));
+  all = λ x l. together x ∙ ap
+      (λ z. has alu.set x || (has mul.set x || (has div.set x || (has mem.set x || z)))) (sym (or_false (has bru.set x)));
 }
   where
     each : (unit : UnitId) → AreStartableFor st next unit
         (slice_index (alu.ready ∷ mul.ready ∷ div.ready ∷ mem.ready ∷ bru.ready ∷ []) (place_of_unit unit))
         × IsPicked (slice_index (alu.ready ∷ mul.ready ∷ div.ready ∷ mem.ready ∷ bru.ready ∷ []) (place_of_unit unit))
-        st.issue_numbers (option_of config unit).units (slice_index (a ∷ b ∷ c ∷ d ∷ e ∷ []) (place_of_unit unit))
+        st.issue_numbers (option_of config unit).units
+        (slice_index (alu.set ∷ mul.set ∷ div.set ∷ mem.set ∷ bru.set ∷ []) (place_of_unit unit))
     each units.Alu = (alu.startable, alu.picked)
     each units.Mul = (mul.startable, mul.picked)
     each units.Div = (div.startable, div.picked)
@@ -237,10 +240,13 @@ are_starting {config} {st} {next} {a} {b} {c} {d} {e} all alu mul div mem bru to
 pub none_starts : (config : Configuration) (st : Pools) (next waiting : ℕ) → AreBusy st.slots st.busy st.issue_numbers
     → IsSetOf waits st.slots waiting → waiting ≡ 0 → IsStarting config st next 0
 none_starts config st next waiting filled of empty =
-    are_starting 0 (none units.Alu (λ e. absurd (cc))) (none units.Mul (λ e. absurd (cc)))
-    (none units.Div (λ e. absurd (cc))) (are_served config st next units.Mem 0 0
-    (all_cleared filled (none_for units.Mem) (first_cleared st next 0 (none_for units.Mem)) refl)
-    (none_picked 0 _ st.issue_numbers refl)) (none units.Bru (λ e. absurd (cc))) (λ x. rw (none_in x) refl)
+    are_starting 0 (are_served config st next units.Alu 0 0 (other units.Alu (λ e. absurd (cc))) (picked units.Alu))
+    (are_served config st next units.Mul 0 0 (other units.Mul (λ e. absurd (cc))) (picked units.Mul))
+    (are_served config st next units.Div 0 0 (other units.Div (λ e. absurd (cc))) (picked units.Div))
+    (are_served config st next units.Mem 0 0
+    (all_cleared filled (none_for units.Mem) (first_cleared st next 0 (none_for units.Mem)) refl) (picked units.Mem))
+    (are_served config st next units.Bru 0 0 (other units.Bru (λ e. absurd (cc))) (picked units.Bru))
+    (λ x. rw (none_in x) refl)
   where
     none_too : (unit : UnitId) (o : Option Station) → waits o ≡ false → waits_for unit o ≡ false
     none_too unit o e = grind (arith, nat_tests)
@@ -248,6 +254,8 @@ none_starts config st next waiting filled of empty =
     none_for : (unit : UnitId) → IsSetOf (waits_for unit) st.slots 0
     none_for unit = grind (arith, nat_tests)
 
-    none : (unit : UnitId) → unit ≢ units.Mem → AreServedBy config st next unit 0
-    none unit apart = are_served config st next unit 0 0 (ready_for st next 0 unit filled (none_for unit) apart)
-        (none_picked 0 _ st.issue_numbers refl)
+    other : (unit : UnitId) → unit ≢ units.Mem → AreStartableFor st next unit 0
+    other unit apart = ready_for st next 0 unit filled (none_for unit) apart
+
+    picked : (unit : UnitId) → IsPicked 0 st.issue_numbers (option_of config unit).units 0
+    picked unit = none_picked 0 _ st.issue_numbers refl
