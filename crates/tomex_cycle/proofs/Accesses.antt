@@ -40,8 +40,8 @@ starts_clear {config} d {older} timed some =
     (can_start_clear config d older) timed.start
 
 finished_one : (d e : Done) (a : ℕ) → covers e.step a ≡ true → covers d.step a ≡ true
-    → (is_store e.step || is_store d.step) ≡ true → (not (conflicts e.step d.step) || nat_lt e.at.finish d.at.start)
-    ≡ true → e.at.finish < d.at.start
+    → (is_store e.step || is_store d.step) ≡ true
+    → (not (conflicts e.step d.step) || nat_lt e.at.finish d.at.start) ≡ true → e.at.finish < d.at.start
 finished_one d e a ce cd store clear =
     let k : conflicts e.step d.step ≡ true = conflict_at e.step d.step a ce cd store in
     let f : (not true || nat_lt e.at.finish d.at.start) ≡ true = rw k at clear in
@@ -53,10 +53,10 @@ older_made : (i : Loaded) {config : Configuration} (t a : ℕ) (d : Done) (h : L
     → are_conflicts_finished h d.step d.at.start ≡ true → byte_at i t h a ≡ byte_after i (steps_in h) a
 older_made i t a d [] good timed c at clear = refl
 older_made i t a d (e ∷ older) good timed c at clear =
-    let two = and_parts (not (conflicts e.step d.step) || nat_lt e.at.finish d.at.start)
-    (are_conflicts_finished older d.step d.at.start) clear in
-    let rest : byte_at i t older a ≡ byte_after i (steps_in older) a =
-    older_made i t a d older good timed.1 c at two.1 in
+    let two = and_parts (not (conflicts e.step d.step) || nat_lt e.at.finish d.at.start) (are_conflicts_finished older
+    d.step d.at.start) clear in
+    let rest : byte_at i t older a ≡ byte_after i (steps_in older) a = older_made i t a d older good timed.1 c at two.1
+    in
     elim (cases_Bool (overwrites e.step a)) [
       | inr o ↦ rw o rest
       | inl o ↦
@@ -74,8 +74,8 @@ pub store_unit : (x : Step) → is_store x ≡ true → is_some (step_unit x) �
 store_unit x e = unit_with_pool x ∙ store_pool (step_pool x) e
 
 clear_at : (newer : List Done) (d : Done) (older : List Done) (n : Done) (a : ℕ) → covers d.step a ≡ true
-    → covers n.step a ≡ true → is_store n.step ≡ true → are_conflicts_finished (newer ++ (d ∷ older)) n.step n.at.start
-    ≡ true → d.at.finish < n.at.start
+    → covers n.step a ≡ true → is_store n.step ≡ true
+    → are_conflicts_finished (newer ++ (d ∷ older)) n.step n.at.start ≡ true → d.at.finish < n.at.start
 clear_at [] d older n a cd cn store clear =
     finished_one n d a cd cn (or_right (is_store d.step) (is_store n.step) store)
     (and_parts (not (conflicts d.step n.step) || nat_lt d.at.finish n.at.start)

@@ -125,8 +125,8 @@ pub test_is : {i : Loaded} {config : Configuration} (t u : ℕ) (d : Done) {olde
     → t < cycle_of d.at.address → is_there (field_of t older (j_of d.step)) ≡ (cycle_of d.at.address == u)
 test_is t u d {older} up e m last late =
     let issued : d.at.issue ≤ t = up.issued.0 in
-    let test : can_address older d.step d.at.issue u ≡ (cycle_of d.at.address == u) = least_test
-    (can_address older d.step d.at.issue) (cycle_of d.at.address) u (address_is d up.timed.0 m) (omega arith) in
+    let test : can_address older d.step d.at.issue u ≡ (cycle_of d.at.address == u) = least_test (can_address older
+    d.step d.at.issue) (cycle_of d.at.address) u (address_is d up.timed.0 m) (omega arith) in
     let there = there_test t older (j_of d.step) (older_up_to up) in
     grind (arith, nat_tests)
 

@@ -7,7 +7,7 @@ use Rattle.tomex_cycle.proofs.Words.{and_parts, eq-eqb, eqb-true, eqb-false, ne_
 use Rattle.tomex_cycle.proofs.Words.{length-set, step_pool, address_of, is_number, MakesAddress, Configuration, Done}
 use Rattle.tomex_cycle.proofs.Words.{cycle_of, is_memory, last_address, place_of, holds_place, order_of, station_at}
 use Rattle.tomex_cycle.proofs.Words.{station_of, clocks, Loaded, option_map, lacks_address, with_address, Pools}
-use Rattle.tomex_cycle.proofs.Words.{AreBusy, Station, IsInIssueOrder, IsUpTo}
+use Rattle.tomex_cycle.proofs.Words.{AreBusy, Station, IsInIssueOrder, IsUpTo, slot}
 use Rattle.tomex_cycle.proofs.IssueOrder.{first_waiting, next_address, where_base_is_there}
 use Rattle.tomex_cycle.proofs.Orders.{order_is}
 use Rattle.tomex_cycle.proofs.AddressChosen.{or_else, waits_for_address, chosen, address_rises, none_waits}
@@ -28,9 +28,9 @@ given_other (Some y) x s e = rw (ne_eqb y x (λ (z : y ≡ x). e (ap (λ (k : �
 given_here : (o : Option ℕ) (x : ℕ) (s : Option Station) → o ≡ Some x → given_at o x s ≡ option_map with_address s
 given_here o x s e = rw (e, eq-eqb x x refl) refl
 
-idle_by : (t u cycle address : ℕ) (memory : Bool) → u ≡ t + 1 → (memory && not (nat_le cycle t)) ≡ false
-    → (if memory && nat_le cycle u then Some address else None)
-    ≡ (if memory && nat_le cycle t then Some address else None)
+idle_by : (t u cycle address : ℕ) (memory : Bool) → u ≡ t + 1 → (memory && not (nat_le cycle t)) ≡ false →
+    (if memory && nat_le cycle u then Some address else None) ≡ (if memory && nat_le cycle t then Some address else
+    None)
 idle_by t u cycle address memory e w = grind (arith, nat_tests)
 
 idle_same : (t u : ℕ) (d : Done) (x : ℕ) → holds_place t x d ≡ true → u ≡ t + 1 → waits_for_address t d ≡ false
@@ -47,12 +47,12 @@ free_by t x d o s h5 = grind (arith, nat_tests)
 
 -- a busy step's station, if an older step waits or none does
 held_by : {i : Loaded} {config : Configuration} (t u x : ℕ) (d : Done) (older : List Done) (o : Option ℕ)
-    → IsUpTo i config t (d ∷ older) → u ≡ t + 1 → holds_place t x d ≡ true → chosen t older ≡ o
-    → Some (station_of i (clocks u u t) d older) ≡ given_at (or_else o (if waits_for_address t d then place_of d else
-    None)) x (Some (station_of i (clocks u t t) d older))
+    → IsUpTo i config t (d ∷ older) → u ≡ t + 1 → holds_place t x d ≡ true → chosen t older ≡ o → Some
+    (station_of i (clocks u u t) d older) ≡ given_at (or_else o (if waits_for_address t d then place_of d else None)) x
+    (Some (station_of i (clocks u t t) d older))
 held_by {i} {config} t u x d older (Some y) up e held c =
-    let free : is_vacant t x older ≡ true = vacant d older t x up (omega arith)
-    (and_parts (is_number (place_of d) x) (nat_lt t d.at.end) held).0 in
+    let free : is_vacant t x older ≡ true = vacant d older t x up (omega arith) (and_parts (is_number (place_of d) x)
+    (nat_lt t d.at.end) held).0 in
     let other : Some y ≡ Some x → ⊥ = λ z. chosen_held t x older (c ∙ z) free in
     let last : t < last_address older = some_waits config t y older up.timed.1 c in
     let same : a_by u d ≡ a_by t d = elim (cases_Bool (is_memory d.step)) [
@@ -83,11 +83,10 @@ addresses_at {i} t u x (d ∷ older) up e = elim (cases_Bool (holds_place t x d)
       ∙ free_by t x d (chosen t older) (station_at i (clocks u t t) older x) free)
 ]
 
-first-append : (slots : List (Option Station)) (xs : List ℕ) (x : ℕ)
-    → first_waiting slots (xs ++ (x ∷ [])) ≡ or_else (first_waiting slots xs)
-    (if lacks_address (slice_index_or slots x None) then Some x else None)
+first-append : (slots : List (Option Station)) (xs : List ℕ) (x : ℕ) → first_waiting slots (xs ++ (x ∷ [])) ≡ or_else
+    (first_waiting slots xs) (if lacks_address (slot slots x) then Some x else None)
 first-append slots [] x = refl
-first-append slots (y ∷ xs) x = elim (cases_Bool (lacks_address (slice_index_or slots y None))) [
+first-append slots (y ∷ xs) x = elim (cases_Bool (lacks_address (slot slots y))) [
   | inl e ↦ rw e refl
   | inr e ↦ rw e (first-append slots xs x)
 ]
@@ -106,22 +105,21 @@ pub waiting_is : {i : Loaded} {config : Configuration} {t u : ℕ} {st : Pools} 
     → first_waiting st.slots (order_of t part) ≡ chosen t part
 waiting_is [] up shown = refl
 waiting_is {t = t} {st = st} (d ∷ older) up shown =
-    let before : first_waiting st.slots (order_of t older) ≡ chosen t older =
-    waiting_is older (older_up_to up) (older_shown shown) in
+    let before : first_waiting st.slots (order_of t older) ≡ chosen t older = waiting_is older (older_up_to up)
+    (older_shown shown) in
     elim (cases_Bool (nat_lt t d.at.end)) [
       | inr l ↦ rw l (before ∙ sym (or_else_none (chosen t older)))
       | inl l ↦
           let (x, place, held) = busy_at d up l in
-          let same : lacks_address (slice_index_or st.slots x None) ≡ waits_for_address t d = rw
-          ((held_here shown x held).slot, l) (lacks_by (is_memory d.step) (nat_le (cycle_of d.at.address) t) (address_of d.step))
-          in
+          let same : lacks_address (slot st.slots x) ≡ waits_for_address t d = rw ((held_here shown x held).slot, l)
+          (lacks_by (is_memory d.step) (nat_le (cycle_of d.at.address) t) (address_of d.step)) in
           ap (first_waiting st.slots) (order_here t x d older place l)
           ∙ (first-append st.slots (order_of t older) x ∙ rw (before, same, place) refl)
     ]
 
 set_at_place : (xs : List (Option Station)) (x y : ℕ) (o : Option Station) → x < length xs
-    → o ≡ option_map with_address (slice_index_or xs x None) → slice_index_or (slice_set xs x o) y None
-    ≡ given_at (Some x) y (slice_index_or xs y None)
+    → o ≡ option_map with_address (slice_index_or xs x None)
+    → slice_index_or (slice_set xs x o) y None ≡ given_at (Some x) y (slice_index_or xs y None)
 set_at_place xs x y o l same = elim (cases_Bool (x == y)) [
   | inl e ↦ let f : x ≡ y = eqb-true x y e in rw (e, ← f) (get_or-set_same xs x o None l ∙ same)
   | inr e ↦ rw e (get_or-set_other xs x y o None (λ z. eqb-false x y e (sym z)))
@@ -143,7 +141,7 @@ made_none next old filled none i config h t e up shown =
     }
   where
     unmoved : (i : Loaded) (t next x : ℕ) (h : List Done) (old : Pools) (o : Option ℕ)
-        → None ≡ where_base_is_there old.slots o → slice_index_or old.slots x None ≡ station_at i (clocks next t t) h x
+        → None ≡ where_base_is_there old.slots o → slot old.slots x ≡ station_at i (clocks next t t) h x
         → station_at i (clocks next t t) h x ≡ given_at o x (station_at i (clocks next t t) h x)
     unmoved i t next x h old o e f = grind (arith, nat_tests)
 
@@ -162,7 +160,7 @@ chosen_low t x (d ∷ older) few e =
 
 pub made_some : (next x : ℕ) (old new : Pools) (o : Option Station) → AreBusy old.slots old.busy old.issue_numbers
     → ((order : List ℕ) → IsInIssueOrder old.busy old.issue_numbers order → Some x ≡ next_address old.slots order)
-    → o ≡ option_map with_address (slice_index_or old.slots x None) → new.slots ≡ slice_set old.slots x o
+    → o ≡ option_map with_address (slot old.slots x) → new.slots ≡ slice_set old.slots x o
     → new.issue_numbers ≡ old.issue_numbers → MakesAddress next old new
 made_some next x old new o filled some same slots issue_numbers i config h t e up shown =
     let by = order_is up (omega arith) shown filled in

@@ -10,8 +10,8 @@ events_next : (h : List Done) (t : ℕ) → events_by h (t + 1) ≡ events_by h 
 events_next h t = ap (λ (k : ℕ). events_by h k) (sym (suc-eq-add-one t))
     ∙ ap (λ (k : ℕ). events_by h t + events_in k h) (suc-eq-add-one t)
 
-busy_next : (h : List Done) (t : ℕ) → eventful_by h (t + 1) ≡ eventful_by h t
-    + (if events_in (t + 1) h == 0 then 0 else 1)
+busy_next : (h : List Done) (t : ℕ)
+    → eventful_by h (t + 1) ≡ eventful_by h t + (if events_in (t + 1) h == 0 then 0 else 1)
 busy_next h t = ap (λ (k : ℕ). eventful_by h k) (sym (suc-eq-add-one t))
     ∙ ap (λ (k : ℕ). eventful_by h t + (if events_in k h == 0 then 0 else 1)) (suc-eq-add-one t)
 
@@ -26,10 +26,10 @@ stays_by h u (suc n) none =
     let before = stays_by h u n (λ k a b. none k a (omega arith)) in
     let at : u + suc n ≡ u + n + 1 = omega arith in
     let idle : events_in (u + n + 1) h ≡ 0 = none (u + n + 1) (omega arith) (omega arith) in
-    let busy : eventful_by h (u + n + 1) ≡ eventful_by h (u + n) + 0 =
-    busy_next h (u + n) ∙ rw (eq-eqb (events_in (u + n + 1) h) 0 idle) refl in
-    let events : events_by h (u + n + 1) ≡ events_by h (u + n) + 0 =
-    events_next h (u + n) ∙ ap (λ (k : ℕ). events_by h (u + n) + k) idle in
+    let busy : eventful_by h (u + n + 1) ≡ eventful_by h (u + n) + 0 = busy_next h (u + n) ∙ rw (eq-eqb
+    (events_in (u + n + 1) h) 0 idle) refl in
+    let events : events_by h (u + n + 1) ≡ events_by h (u + n) + 0 = events_next h (u + n) ∙ ap (λ (k : ℕ). events_by h
+    (u + n) + k) idle in
     rw at (omega arith, omega arith)
 
 -- what is counted of a way so far: one cycle more may be owed, which the next one's event pays

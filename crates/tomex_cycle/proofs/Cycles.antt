@@ -13,8 +13,8 @@ use Rattle.tomex_cycle.proofs.Runs.{rest_to, run_timed, AreLater, issued_up_to}
 pub can_start_later : (config : Configuration) (d : Done) (older : List Done) (u : UnitId) (t : ℕ)
     → can_start config older d.step u d.at.issue (cycle_of d.at.address) t ≡ true → d.at.issue < t
 can_start_later config d older u t h =
-    let two = and_parts (nat_lt d.at.issue t) (nat_lt (cycle_of d.at.address) t)
-    (and_parts _ _ (and_parts _ _ (and_parts _ _ h).0).0).0 in
+    let two = and_parts (nat_lt d.at.issue t) (nat_lt (cycle_of d.at.address) t) (and_parts _ _ (and_parts _ _
+    (and_parts _ _ h).0).0).0 in
     ltb-true d.at.issue t two.0
 
 -- a store starts after its issue
@@ -118,5 +118,6 @@ pub cycle_answer : {i : Loaded} {config : Configuration} {n next : ℕ} {s : Cor
     → over ≡ is_done s.front.fetch s.front.pools.busy → p ≡ (if over then Ended else Running)
     → p ≡ (if nat_lt next (greatest_end (first_timed config i (n + 1))) then Running else Ended)
 cycle_answer {i} {config} {n} {next} {s} {over} {p} run shown filled e f = progress_same
-    (nat_lt next (greatest_end (first_timed config i (n + 1)))) over p (e ∙ done_is s.front.fetch run shown.issue filled)
+    (nat_lt next (greatest_end (first_timed config i (n + 1)))) over p
+    (e ∙ done_is s.front.fetch run shown.issue filled)
     f

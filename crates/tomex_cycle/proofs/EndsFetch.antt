@@ -12,7 +12,7 @@ use Rattle.tomex_cycle.proofs.Words.{steps_in, clocks, fetch_after, fetch_of, ho
 use Rattle.tomex_cycle.proofs.Words.{station_at, station_of, ShowsRegisters, ShowsStations, EndsIn, Hears, IsDoneBranch}
 use Rattle.tomex_cycle.proofs.Words.{finishes, sent_below, AreEnding, AreNamed, step_in, value_in, place_at}
 use Rattle.tomex_cycle.proofs.Words.{place_of_tag, Pools, AreBusy, RegStatus, Station, has, AreLow, dest_of, Tag, Front}
-use Rattle.tomex_cycle.proofs.Words.{front, ◌||◌, IsUpTo, eq-eqb}
+use Rattle.tomex_cycle.proofs.Words.{front, ◌||◌, IsUpTo, eq-eqb, slot}
 use Rattle.tomex_rvexec.specs.History.{Follows as Reads}
 use Rattle.tomex_cycle.specs.Ends.{Follows, after_branch, target_in}
 use Rattle.tomex_cycle.proofs.Accesses.{start_clear}
@@ -52,8 +52,8 @@ pool_IsSome (Some p) e = refl
 finish_from : (u start finish : ℕ) → is_number (if nat_le start u then Some finish else None) u ≡ true → finish ≡ u
 finish_from u start finish e = grind (arith, nat_tests)
 
-finish_is : (u start finish : ℕ) → start ≤ finish → is_number (if nat_le start u then Some finish else None) u
-    ≡ (finish == u)
+finish_is : (u start finish : ℕ) → start ≤ finish
+    → is_number (if nat_le start u then Some finish else None) u ≡ (finish == u)
 finish_is u start finish l = grind (arith, nat_tests)
 
 -- an older branch was done before a branch issued
@@ -111,8 +111,8 @@ pub step_back : (i : Loaded) {config : Configuration} (c : Rattle.tomex_cycle.sp
     {older : List Done} → IsTimed config older d.step d.at → Reads i (steps_in older) d.step → IsSome (step_pool d.step)
     → is_some (step_unit d.step) ≡ true → d.at.start ≤ c.end + 1 → step_in (station_of i c d older) ≡ d.step
 step_back i c d {older} timed reads pool some l =
-    let two = and_parts (nat_lt (source_end older (j_of d.step)) d.at.start)
-    (nat_lt (source_end older (k_of d.step)) d.at.start) (starts_with d timed some) in
+    let two = and_parts (nat_lt (source_end older (j_of d.step)) d.at.start) (nat_lt (source_end older (k_of d.step))
+    d.at.start) (starts_with d timed some) in
     let a : source_end older (j_of d.step) < d.at.start = ltb-true _ _ two.0 in
     let b : source_end older (k_of d.step) < d.at.start = ltb-true _ _ two.1 in
     let j : value_in (field_of c.end older (j_of d.step)) ≡ d.step.vj = value_there c.end d.step.vj d.step.instr.rs1
@@ -137,14 +137,18 @@ waits_for : {i : Loaded} {config : Configuration} {t u : ℕ} (d : Done) (older 
 waits_for {i} {config} {t} {u} d older {st} None up e shown branch late done =
     let r = reach d older up.lawful up.timed in
     let order : d.at.start ≤ d.at.finish = r.order in
-    let begins : d.at.issue < d.at.start = unit_later (step_pool d.step) d.at.issue d.at.start
-    (λ x. can_start config older d.step x d.at.issue (cycle_of d.at.address)) (can_start_later config d older)
-    (pool_some (step_pool d.step) branch) up.timed.0.start in
+    let begins : d.at.issue < d.at.start = unit_later (step_pool d.step) d.at.issue d.at.start (λ x. can_start config
+    older d.step x d.at.issue (cycle_of d.at.address)) (can_start_later config d older) (pool_some (step_pool d.step)
+    branch) up.timed.0.start in
     elim (option_cases (place_of d)) [
       | inl none ↦ absurd (some_none_of 0 (place_of d) (place_there d up.timed.0 (omega arith)) none)
       | inr place ↦
-          let held : holds_place t place.0 d ≡ true =
-          rw (place.1, lt-ltb t d.at.end (omega arith), eq-eqb place.0 place.0 refl) refl in
+          let held : holds_place t place.0 d ≡ true = rw (
+            place.1,
+            lt-ltb t d.at.end (omega arith),
+            eq-eqb place.0
+                place.0 refl,
+          ) refl in
           let there = held_here (shows_part up (omega arith) shown) place.0 held in
           let not_yet = done place.0 (place_high (step_pool d.step) d.at.station place.0 branch place.1) there.small in
           let here : is_number (if nat_le d.at.start u then Some d.at.finish else None) u ≡ false =
@@ -154,16 +158,16 @@ waits_for {i} {config} {t} {u} d older {st} None up e shown branch late done =
     ]
 waits_for {i} {t = t} {u} d older {st} (Some x) up e shown branch late done =
     let issued : d.at.issue ≤ u = up.issued.0 in
-    let fin : finishes u (station_at i (clocks u u t) (d ∷ older) x) ≡ true =
-    ap (finishes u) (sym (shown.slots x done.1)) ∙ done.2 in
+    let fin : finishes u (station_at i (clocks u u t) (d ∷ older) x) ≡ true = ap (finishes u) (sym
+    (shown.slots x done.1)) ∙ done.2 in
     elim (cases_Bool (holds_place t x d)) [
       | inr free ↦ absurd (no_older i t u d.at.issue x older (low older (older_up_to up))
           (can_issue_branches d up.timed.0) issued done.0 (rw free at fin))
       | inl held ↦
           let here : finishes u (Some (station_of i (clocks u u t) d older)) ≡ true = rw held at fin in
           let end : d.at.finish ≡ u = finish_from u d.at.start d.at.finish here in
-          let slot : slice_index_or st.slots x None ≡ Some (station_of i (clocks u u t) d older) =
-          shown.slots x done.1 ∙ rw held refl in
+          let slot : slot st.slots x ≡ Some (station_of i (clocks u u t) d older) = shown.slots x done.1 ∙ rw held refl
+          in
           let order : d.at.start ≤ d.at.finish = (reach d older up.lawful up.timed).order in
           let back = step_back i (clocks u u t) d up.timed.0 up.past.0 (pool_IsSome (step_pool d.step) branch)
           (unit_with_pool d.step ∙ pool_some (step_pool d.step) branch) (omega arith) in
@@ -171,9 +175,8 @@ waits_for {i} {t = t} {u} d older {st} (Some x) up e shown branch late done =
           ∙ ap (λ (s : Step). from.At (next_pc_of s)) back)
     ]
 
-follow_by : {i : Loaded} {config : Configuration} {t u : ℕ} (d : Done) (older : List Done) {st : Pools}
-    {result : Fetch} (o : Option EndKind) → IsUpTo i config u (d ∷ older) → u ≡ t + 1
-    → ShowsStations i (clocks u u t) (d ∷ older) st
+follow_by : {i : Loaded} {config : Configuration} {t u : ℕ} (d : Done) (older : List Done) {st : Pools} {result : Fetch}
+    (o : Option EndKind) → IsUpTo i config u (d ∷ older) → u ≡ t + 1 → ShowsStations i (clocks u u t) (d ∷ older) st
     → Follows u st.slots (fetch_after d.step (is_branch d.step && nat_lt t d.at.finish) o) result
     → result ≡ fetch_after d.step (is_branch d.step && nat_lt u d.at.finish) o
 follow_by d older (Some kind) up e shown f = f
@@ -197,8 +200,8 @@ follow_is (d ∷ older) up e shown f = follow_by d older (end_of d.step) up e sh
 -- Each Qi names a busy station whose destination is that register.
 
 named_in : {i : Loaded} {t u r : ℕ} {st : Pools} (part : List Done) (tag : Tag) (s : Station)
-    → ShowsPart i (clocks u u t) st part → producer t part r ≡ Some tag
-    → slice_index_or st.slots (place_of_tag tag) None ≡ Some s → dest_of s.instr ≡ Some r
+    → ShowsPart i (clocks u u t) st part → producer t part r ≡ Some tag → slot st.slots (place_of_tag tag) ≡ Some s
+    → dest_of s.instr ≡ Some r
 named_in [] tag s shown from here = absurd (cc)
 named_in {i} {t} {u} {r} {st} (d ∷ older) tag s shown from here = elim (cases_Bool (is_number (step_dest d.step) r)) [
   | inr k ↦ named_in older tag s (older_shown shown) (rw k at from) here
@@ -206,15 +209,15 @@ named_in {i} {t} {u} {r} {st} (d ∷ older) tag s shown from here = elim (cases_
     | inr l ↦ let z : None ≡ Some tag = rw (k, l) at from in absurd (cc)
     | inl l ↦
         let same : tag_of d ≡ Some tag = rw (k, l) at from in
-        let there = (held_here shown (place_of_tag tag)
-        (rw (same, l, eq-eqb (place_of_tag tag) (place_of_tag tag) refl) refl)).slot in
+        let there = (held_here shown (place_of_tag tag) (rw (same, l, eq-eqb (place_of_tag tag) (place_of_tag tag) refl)
+        refl)).slot in
         let g : station_of i (clocks u u t) d older ≡ s = cc in
         ap (λ (z : Station). dest_of z.instr) (sym g) ∙ number_is_some (step_dest d.step) r k
   ]
 ]
 
-tag_here : (o : Option Tag) (x : ℕ) → is_number (place_at o) x ≡ true → (tag : Tag) × (o ≡ Some tag)
-    × (place_of_tag tag ≡ x)
+tag_here : (o : Option Tag) (x : ℕ) → is_number (place_at o) x ≡ true
+    → (tag : Tag) × (o ≡ Some tag) × (place_of_tag tag ≡ x)
 tag_here None x e = absurd (cc)
 tag_here (Some tag) x e = (tag, refl, eqb-true _ _ e)
 
@@ -224,7 +227,7 @@ names_are : {i : Loaded} {config : Configuration} {t u : ℕ} {st : Pools} {rg :
 names_are {st = st} {rg} {h} up next shown regs r x l e s here =
     let tag = tag_here (slice_index_or rg.tags r None) x e in
     named_in h tag.0 s (shows_part up (omega arith) shown) (sym (regs.tags r l) ∙ tag.1)
-    (ap (λ y. slice_index_or st.slots y None) tag.2 ∙ here)
+    (ap (λ y. slot st.slots y) tag.2 ∙ here)
 
 -- what ends is busy
 pub ending_low : (st : Pools) (buses next ending : ℕ) → AreEnding st buses next ending
@@ -236,7 +239,8 @@ ending_low st buses next ending ends filled x l e = low_of st x filled l (elim (
 
 -- The whole phase.
 
-pub made_ends : (config : Configuration) {next : ℕ} (old : Front) {pools : Pools} {registers : RegStatus} {fetch : Fetch}
+pub made_ends : (config : Configuration) {next : ℕ} (old : Front) {pools : Pools} {registers : RegStatus}
+    {fetch : Fetch}
     (picked : ℕ) → AreEnding old.pools config.buses next picked
     → AreBusy old.pools.slots old.pools.busy old.pools.issue_numbers → Follows next old.pools.slots old.fetch fetch
     → (AreLow picked → EndsIn (λ x. has picked x) (sent_below old.pools.slots picked 96) old.pools pools)
@@ -255,7 +259,7 @@ made_ends config {next} old picked ends filled follows made heard_ i h t e up s 
       slots = record {
         places = m.places;
         slots = λ x l. m.slots x l ∙ (ends_same (has picked x) (sent_below slots picked 96) (sent_at i next h)
-            (slice_index_or slots x None) sent
+            (slot slots x) sent
             ∙ (rw (ended x l, shown.slots x l) (sym (stations_at t next x [] h up e))));
         order_count = ap length m.issue_numbers ∙ shown.order_count;
         issue_numbers = λ x l. ap (λ xs. slice_index xs x) m.issue_numbers ∙ shown.issue_numbers x l;

@@ -6,7 +6,7 @@ use Rattle.tomex_cycle.proofs.Words.{nat_tests, ltb-true, ltb-false, get_or-set_
 use Rattle.tomex_cycle.proofs.Words.{get_or_past, field_from, Field, Value, Unread, Tag, is_number, EndsIn, Hears}
 use Rattle.tomex_cycle.proofs.Words.{after_ends, sends_of, sent_below, AreNamed, HaveReceived, hears, field_after, only}
 use Rattle.tomex_cycle.proofs.Words.{value_or_tag, place_at, place_of_tag, Pools, RegStatus, Station, has, AreFrom}
-use Rattle.tomex_cycle.proofs.Words.{all_left, none_after, skip_to, dest_of, AreLow}
+use Rattle.tomex_cycle.proofs.Words.{all_left, none_after, skip_to, dest_of, AreLow, slot}
 use Rattle.tomex_timing.specs.declared.tables.Field.TheVariants.{Waits}
 use Rattle.tomex_cycle.specs.Ends.{AreEnded}
 use Rattle.tomex_tags.specs.Registers.{names, registers_after}
@@ -19,21 +19,21 @@ use Rattle.tomex_cycle.proofs.Turns.{IsTaken, turn_at}
 none_hears : (p : ℕ) (o : Option Station) → option_map (hears (only p None)) o ≡ o
 none_hears p o = grind (arith, nat_tests)
 
-released_at : (xs : List (Option Station)) (p x : ℕ) → p < length xs → slice_index_or (slice_set xs p None) x None
-    ≡ (if p == x then None else slice_index_or xs x None)
+released_at : (xs : List (Option Station)) (p x : ℕ) → p < length xs
+    → slice_index_or (slice_set xs p None) x None ≡ (if p == x then None else slice_index_or xs x None)
 released_at xs p x l = elim (cases_Bool (p == x)) [
   | inl e ↦ let same : p ≡ x = eqb-true p x e in rw (e, ← same) (get_or-set_same xs p None None l)
   | inr e ↦ rw e (get_or-set_other xs p x None None (λ z. eqb-false p x e (sym z)))
 ]
 
 -- what has nothing to send is released
-pub ends_silent : (p : ℕ) (old new : Pools) (s : Station) → p < 96 → slice_index_or old.slots p None ≡ Some s
+pub ends_silent : (p : ℕ) (old new : Pools) (s : Station) → p < 96 → slot old.slots p ≡ Some s
     → dest_of s.instr ≡ None → new.slots ≡ slice_set old.slots p None → new.issue_numbers ≡ old.issue_numbers
-    → EndsIn (λ x. p == x) (only p (sends_of (slice_index_or old.slots p None))) old new
+    → EndsIn (λ x. p == x) (only p (sends_of (slot old.slots p))) old new
 ends_silent p old new s l here dest slots issue_numbers count = record {
   places = ap length slots ∙ (length-set old.slots p None ∙ count);
   slots = λ x k. ap (λ xs. slice_index_or xs x None) slots ∙ (released_at old.slots p x (omega arith) ∙ grind
-      (arith, nat_tests, none_hears p (slice_index_or old.slots x None)));
+      (arith, nat_tests, none_hears p (slot old.slots x)));
   issue_numbers = issue_numbers;
 }
 
@@ -67,8 +67,8 @@ received_hears p r v rg l named count status = elim (cases_Bool (names rg r p)) 
 ]
 
 pub hears_sending : (p r : ℕ) (slots : List (Option Station)) (s : Station) (rg new : RegStatus)
-    → slice_index_or slots p None ≡ Some s → dest_of s.instr ≡ Some r → r < 32 → new ≡ registers_after rg r p s.value
-    → AreNamed slots rg → Hears (only p (sends_of (slice_index_or slots p None))) rg new
+    → slot slots p ≡ Some s → dest_of s.instr ≡ Some r → r < 32 → new ≡ registers_after rg r p s.value
+    → AreNamed slots rg → Hears (only p (sends_of (slot slots p))) rg new
 hears_sending p r slots s rg new here dest l made named =
     rw (here, dest, made) (received_hears p r s.value rg l (λ q k e. let f : dest_of s.instr ≡ Some q =
     named q p k e s here in one_register (dest_of s.instr) q r f dest))
@@ -104,8 +104,8 @@ named_still {picked} {k} {old} {s} {first} {r} named so count heard_ q x l e sta
     let low : x < 96 = wait_sets s.slots x station count here in
     let before = named_by (sent_below old.slots picked k) (slice_index first.values q) (slice_index r.values q)
     (slice_index_or first.tags q None) (slice_index_or r.tags q None) x (heard_.fields q l) e in
-    let from = stood (nat_lt x k && has picked x) (sent_below old.slots picked k) (slice_index_or old.slots x None)
-    station (sym (so.slots x low) ∙ here) in
+    let from = stood (nat_lt x k && has picked x) (sent_below old.slots picked k) (slot old.slots x) station
+    (sym (so.slots x low) ∙ here) in
     let dest : dest_of from.0.instr ≡ Some q = named q x l before from.0 from.1 in
     ap dest_of from.2 ∙ dest
   where
@@ -113,8 +113,9 @@ named_still {picked} {k} {old} {s} {first} {r} named so count heard_ q x l e sta
         → (z : Station) × (o ≡ Some z) × (s.instr ≡ z.instr)
     stood b sent o s e = grind (arith, nat_tests)
 
-    named_by : (sent : ℕ → Option ℕ) (a b : ℕ) (p q : Option Tag) (x : ℕ) → field_from b q ≡ field_after sent (field_from a p)
-        → is_number (place_at q) x ≡ true → is_number (place_at p) x ≡ true
+    named_by : (sent : ℕ → Option ℕ) (a b : ℕ) (p q : Option Tag) (x : ℕ)
+        → field_from b q ≡ field_after sent (field_from a p) → is_number (place_at q) x ≡ true
+        → is_number (place_at p) x ≡ true
     named_by sent a b p q x e f = grind (arith, nat_tests)
 
 -- The loop over the places that end, the least first.
@@ -134,9 +135,9 @@ first_applied picked st rg count = record {
   high = omega arith;
   stations = record {
     places = count;
-    slots = λ x l. none_ended (sent_below st.slots picked 0) (slice_index_or st.slots x None)
+    slots = λ x l. none_ended (sent_below st.slots picked 0) (slot st.slots x)
         (λ y. rw (le-ltb y 0 (omega arith)) refl) ∙ sym (ap
-        (λ b. after_ends (b && has picked x) (sent_below st.slots picked 0) (slice_index_or st.slots x None))
+        (λ b. after_ends (b && has picked x) (sent_below st.slots picked 0) (slot st.slots x))
         (le-ltb x 0 (omega arith)));
     issue_numbers = refl;
   };
@@ -151,8 +152,8 @@ first_applied picked st rg count = record {
 -- one place more
 pub one_applied : {picked rest left x : ℕ} {old s : Pools} (new : Pools) {first r : RegStatus} (status : RegStatus)
     → AreLow picked → AreApplied picked rest old s first r → IsTaken rest x left
-    → EndsIn (λ y. x == y) (only x (sends_of (slice_index_or s.slots x None))) s new
-    × (AreNamed s.slots r → Hears (only x (sends_of (slice_index_or s.slots x None))) r status)
+    → EndsIn (λ y. x == y) (only x (sends_of (slot s.slots x))) s new
+    × (AreNamed s.slots r → Hears (only x (sends_of (slot s.slots x))) r status)
     → AreApplied picked left old new first status
 one_applied {picked} {x = x} {old} {s} new {first} {r} status low so out ends =
     let turn = turn_at so.from out in
@@ -187,7 +188,7 @@ pub ended_below : {picked : ℕ} {old new : Pools} → AreEndedBelow picked 96 o
 ended_below {picked} {old} so = record {
   places = so.places;
   slots = λ x l. so.slots x l ∙ ap
-      (λ b. after_ends (b && has picked x) (sent_below old.slots picked 96) (slice_index_or old.slots x None))
+      (λ b. after_ends (b && has picked x) (sent_below old.slots picked 96) (slot old.slots x))
       (lt-ltb x 96 l);
   issue_numbers = so.issue_numbers;
 }

@@ -5,7 +5,7 @@ use Rattle.tomex_cycle.proofs.Words.{nat_lt, ◌&&◌, if◌then◌else◌, and_
 use Rattle.tomex_cycle.proofs.Words.{nat_tests, Unread, has, none_in, Fetch, AreDone, AreEnding, EndsIn, Hears}
 use Rattle.tomex_cycle.proofs.Words.{after_ends, sends_of, sent_below, IsTimetableOf, LeavesTimetable, MakesEnds}
 use Rattle.tomex_cycle.proofs.Words.{Finishes, hears, field_after, value_or_tag, place_of_tag, AreBusy, Pools}
-use Rattle.tomex_cycle.proofs.Words.{RegStatus, Station, Front, front}
+use Rattle.tomex_cycle.proofs.Words.{RegStatus, Station, Front, front, slot}
 use Rattle.tomex_timing.specs.declared.tables.Field.TheVariants.{Waits}
 use Rattle.tomex_cycle.specs.Ends.{Follows}
 use Rattle.tomex_cycle.proofs.EndsFetch.{made_ends}
@@ -19,14 +19,14 @@ hears_none : (sent : ℕ → Option ℕ) (o : Option Station) → ((y : ℕ) →
 hears_none sent o h2 = grind (arith, nat_tests)
 
 none_sent : (slots : List (Option Station)) (n y : ℕ) → sent_below slots 0 n y ≡ None
-none_sent slots n y = ap (λ b. if b then sends_of (slice_index_or slots y None) else None)
+none_sent slots n y = ap (λ b. if b then sends_of (slot slots y) else None)
     (ap (λ b. nat_lt y n && b) (none_in y) ∙ and_right (nat_lt y n) false refl)
 
 none_ended : (old : Pools) → EndsIn (λ x. has 0 x) (sent_below old.slots 0 96) old old
 none_ended old count = record {
   places = count;
-  slots = λ x l. sym (ap (λ b. after_ends b (sent_below old.slots 0 96) (slice_index_or old.slots x None)) (none_in x)
-      ∙ sym (hears_none (sent_below old.slots 0 96) (slice_index_or old.slots x None) (none_sent old.slots 96)));
+  slots = λ x l. sym (ap (λ b. after_ends b (sent_below old.slots 0 96) (slot old.slots x)) (none_in x)
+      ∙ sym (hears_none (sent_below old.slots 0 96) (slot old.slots x) (none_sent old.slots 96)));
   issue_numbers = refl;
 }
 
@@ -49,7 +49,7 @@ ends_none config ending old ends filled follows e = made_ends config old 0 (rw e
 pub none_over : (slots : List (Option Station)) (next ending : ℕ) (f : Finishes) → length slots ≡ 96
     → LeavesTimetable slots next ending f → ending ≡ 0 → IsTimetableOf slots (next + 1) f
 none_over slots next ending f count leaves e = leaves slots (λ y. None) count
-    (λ x l. rw (e, none_in x) (hears_none (λ y. None) (slice_index_or slots x None) (λ y. refl)))
+    (λ x l. rw (e, none_in x) (hears_none (λ y. None) (slot slots x) (λ y. refl)))
 
 -- if nothing finishes, no branch is followed
 pub none_followed : (next due : ℕ) (slots : List (Option Station)) (fetch : Fetch) → AreDone slots next due → due ≡ 0

@@ -1,13 +1,13 @@
 -- What ends in a cycle: the recurrence's test, by the buses that are left.
 use Rattle.std.proofs.Common.{ℕ, ◌+◌, ◌<◌, ◌≤◌, ◌≡◌, ◌∙◌, Bool, true, false, arith, refl, List, [], ◌∷◌, Option, Some}
-use Rattle.std.proofs.Common.{None, ap, sym, inl, inr, ◌⊎◌, slice_index_or}
+use Rattle.std.proofs.Common.{None, ap, sym, inl, inr, ◌⊎◌}
 use Rattle.tomex_cycle.proofs.Words.{nat_lt, nat_le, if◌then◌else◌, ◌&&◌, ◌==◌, is_some, count_by, MatchOption}
 use Rattle.tomex_cycle.proofs.Words.{nat_tests, not, MatchBool, cases_Bool, ltb-true, ltb-false, lt-ltb, and_parts}
 use Rattle.tomex_cycle.proofs.Words.{eqb-true, ne_eqb, both_ways, Loaded, Configuration, IsWithinLimits, PoolId}
 use Rattle.tomex_cycle.proofs.Words.{unit_at, is_number, step_dest, step_pool, Done, AreTimed, IsLeast, can_end, tag_at}
 use Rattle.tomex_cycle.proofs.Words.{clocks, holds_place, order_of, place_of, station_at, station_of, ShowsStations}
 use Rattle.tomex_cycle.proofs.Words.{is_finished_by, AreEnding, can_send, ends_alone, is_finished_before, place_at}
-use Rattle.tomex_cycle.proofs.Words.{Pools, AreBusy, Station, has, IsInIssueOrder, ◌||◌, IsUpTo}
+use Rattle.tomex_cycle.proofs.Words.{Pools, AreBusy, Station, has, IsInIssueOrder, ◌||◌, IsUpTo, slot}
 use Rattle.tomex_cycle.proofs.Places.{is_vacant, vacant, least_test, held_place}
 use Rattle.tomex_cycle.proofs.Totals.{reach}
 use Rattle.tomex_cycle.proofs.Serving.{AreServed, Serves, goes_at, picked_goes}
@@ -42,12 +42,12 @@ clause_false : (B C : Type 0) (dest : Bool) → dest ≡ false → MatchBool des
 clause_false B C false e h = h
 clause_false B C true e h = absurd (cc)
 
-before_is : (u start finish : ℕ) → start ≤ finish → is_finished_before (if nat_le start u then Some finish else None) u
-    ≡ nat_lt finish u
+before_is : (u start finish : ℕ) → start ≤ finish
+    → is_finished_before (if nat_le start u then Some finish else None) u ≡ nat_lt finish u
 before_is u start finish l = grind (arith, nat_tests)
 
-by_is : (u start finish : ℕ) → start ≤ finish → is_finished_by (if nat_le start u then Some finish else None) u
-    ≡ nat_le finish u
+by_is : (u start finish : ℕ) → start ≤ finish
+    → is_finished_by (if nat_le start u then Some finish else None) u ≡ nat_le finish u
 by_is u start finish l = grind (arith, nat_tests)
 
 last_is : (t u end : ℕ) → u ≡ t + 1 → t < end → nat_le end u ≡ (end == u)
@@ -62,9 +62,9 @@ one_ends {config = config} t u p d older up place next late =
     elim (cases_Bool (is_some (step_dest d.step))) [
       | inl dest ↦ rw dest (or_false (d.at.end == u))
       | inr dest ↦
-          let clause = end_clause (step_pool d.step) d.at.station p (d.at.end ≡ d.at.issue)
-          (IsLeast (can_end config older d.at.finish) d.at.end) (d.at.end ≡ d.at.finish)
-          (is_some (step_dest d.step)) place up.timed.0.end in
+          let clause = end_clause (step_pool d.step) d.at.station p (d.at.end ≡ d.at.issue) (IsLeast
+          (can_end config older d.at.finish) d.at.end) (d.at.end ≡ d.at.finish) (is_some (step_dest d.step)) place
+          up.timed.0.end in
           let same : d.at.end ≡ d.at.finish = clause_false (IsLeast (can_end config older d.at.finish) d.at.end)
           (d.at.end ≡ d.at.finish) (is_some (step_dest d.step)) dest clause in
           let done : is_finished_by (if nat_le d.at.start u then Some d.at.finish else None) u ≡ (d.at.end == u) =
@@ -74,15 +74,13 @@ one_ends {config = config} t u p d older up place next late =
 
 -- whether it sends: the recurrence's test
 one_sends : {i : Loaded} {config : Configuration} {s : ℕ} (t u p : ℕ) (d : Done) (older : List Done)
-    → IsUpTo i config s (d ∷ older) → place_of d ≡ Some p → u ≡ t + 1 → t < d.at.end
-    → sends_in u d ≡ ((is_some (step_dest d.step) && nat_lt d.at.finish u) && nat_lt (count_by (sends_in u) older)
-    config.buses)
+    → IsUpTo i config s (d ∷ older) → place_of d ≡ Some p → u ≡ t + 1 → t < d.at.end → sends_in u d
+    ≡ ((is_some (step_dest d.step) && nat_lt d.at.finish u) && nat_lt (count_by (sends_in u) older) config.buses)
 one_sends {config = config} t u p d older up place next late = elim (cases_Bool (is_some (step_dest d.step))) [
   | inr dest ↦ rw dest refl
   | inl dest ↦
-      let clause = end_clause (step_pool d.step) d.at.station p (d.at.end ≡ d.at.issue)
-      (IsLeast (can_end config older d.at.finish) d.at.end) (d.at.end ≡ d.at.finish) (is_some (step_dest d.step))
-      place up.timed.0.end in
+      let clause = end_clause (step_pool d.step) d.at.station p (d.at.end ≡ d.at.issue) (IsLeast (can_end config older
+      d.at.finish) d.at.end) (d.at.end ≡ d.at.finish) (is_some (step_dest d.step)) place up.timed.0.end in
       let least = clause_true (IsLeast (can_end config older d.at.finish) d.at.end) (d.at.end ≡ d.at.finish)
       (is_some (step_dest d.step)) dest clause in
       let test = least_test (can_end config older d.at.finish) d.at.end u least (omega arith) in
@@ -104,7 +102,7 @@ no_dest d older good timed e = grind (arith, nat_tests)
 send_serves : {i : Loaded} {config : Configuration} {s t u : ℕ} (ready : ℕ) {st : Pools} (d : Done) (older : List Done)
     → IsUpTo i config s (d ∷ older) → u ≡ t + 1 → ShowsPart i (clocks u u t) st (d ∷ older)
     → AreBusy st.slots st.busy st.issue_numbers
-    → ((x : ℕ) → x < 128 → has ready x ≡ (has st.busy x && can_send u (slice_index_or st.slots x None)))
+    → ((x : ℕ) → x < 128 → has ready x ≡ (has st.busy x && can_send u (slot st.slots x)))
     → Serves t config.buses ready (sends_in u) d older
 send_serves {config = config} {t = t} {u} ready {st} d older up next shown filled said = record {
   idle = λ l. let k : d.at.end ≤ t = ltb-false _ _ l in
@@ -124,7 +122,7 @@ send_serves {config = config} {t = t} {u} ready {st} d older up next shown fille
 all_send : {i : Loaded} {config : Configuration} {s t u : ℕ} (ready : ℕ) {st : Pools} (part : List Done)
     → IsUpTo i config s part → u ≡ t + 1 → ShowsPart i (clocks u u t) st part
     → AreBusy st.slots st.busy st.issue_numbers
-    → ((x : ℕ) → x < 128 → has ready x ≡ (has st.busy x && can_send u (slice_index_or st.slots x None)))
+    → ((x : ℕ) → x < 128 → has ready x ≡ (has st.busy x && can_send u (slot st.slots x)))
     → AreServed t config.buses ready (sends_in u) part
 all_send ready [] up next shown filled said = tt
 all_send ready (d ∷ older) up next shown filled said = (
@@ -177,10 +175,10 @@ pub ending_is : {i : Loaded} {config : Configuration} {t u : ℕ} (x : ℕ) {st 
     → has ending x ≡ ends_in u h x
 ending_is {t = t} {u} x {st} {h} up next shown filled ends l =
     let by : IsInIssueOrder st.busy st.issue_numbers (order_of t h) = order_is up (omega arith) shown filled in
-    let sends : has ends.sending x ≡ goes_at t (sends_in u) h x = picked_goes t (sends_in u) h by (λ y m k. (and_parts
-    (has st.busy y) (can_send u (slice_index_or st.slots y None)) (sym (ends.are_unsent y m) ∙ k)).0) ends.sent
-    (all_send ends.unsent h up next (shows_part up (omega arith) shown) filled ends.are_unsent)
-    (all_alone t (sends_in u) h up (omega arith)) x (omega arith) in
-    let alone = ap (λ b. b && ends_alone u (slice_index_or st.slots x None)) (filled.each x (omega arith))
-    ∙ (and_alone (slice_index_or st.slots x None) u ∙ ap (ends_alone u) (shown.slots x l)) in
+    let sends : has ends.sending x ≡ goes_at t (sends_in u) h x = picked_goes t (sends_in u) h by
+    (λ y m k. (and_parts (has st.busy y) (can_send u (slot st.slots y)) (sym (ends.are_unsent y m) ∙ k)).0) ends.sent
+    (all_send ends.unsent h up next (shows_part up (omega arith) shown) filled ends.are_unsent) (all_alone t
+    (sends_in u) h up (omega arith)) x (omega arith) in
+    let alone = ap (λ b. b && ends_alone u (slot st.slots x)) (filled.each x (omega arith)) ∙ (and_alone
+    (slot st.slots x) u ∙ ap (ends_alone u) (shown.slots x l)) in
     ends.all x (omega arith) ∙ (rw (sends, alone) (both_end t u x h up next))

@@ -8,6 +8,7 @@ use Rattle.tomex_cycle.proofs.Words.{Operand, Step, register_after, is_number, j
 use Rattle.tomex_cycle.proofs.Words.{step_pool, Field, Tag, Done, field_from, field_of, producer, steps_in, clocks}
 use Rattle.tomex_cycle.proofs.Words.{place_of, sent_at, station_at, station_of, ShowsRegisters, after_ends, sends_of}
 use Rattle.tomex_cycle.proofs.Words.{sent_below, HaveReceived, hears, field_after, RegStatus, Station, has, IsUpTo}
+use Rattle.tomex_cycle.proofs.Words.{slot}
 use Rattle.tomex_rvexec.specs.History.{Follows}
 use Rattle.tomex_cycle.proofs.EndsPass.{ends_in, idle_ends}
 use Rattle.tomex_cycle.proofs.Fields.{heard_is, silent}
@@ -50,14 +51,13 @@ sent_high i u x [] few l = refl
 sent_high i u x (d ∷ older) few l = elim (cases_Bool (is_number (place_of d) x)) [
   | inr at ↦ rw at (sent_high i u x older few.1 l)
   | inl at ↦
-      let small : x < 96 =
-      place_low (step_pool d.step) d.at.station x few.0 (number_is_some (place_of d) x at) in
+      let small : x < 96 = place_low (step_pool d.step) d.at.station x few.0 (number_is_some (place_of d) x at) in
       absurd (omega arith)
 ]
 
 pub sent_all : {i : Loaded} {config : Configuration} (t : ℕ) {u : ℕ} (h : List Done) (slots : List (Option Station))
     (picked : ℕ) → IsUpTo i config u h → u ≡ t + 1
-    → ((x : ℕ) → x < 96 → slice_index_or slots x None ≡ station_at i (clocks u u t) h x)
+    → ((x : ℕ) → x < 96 → slot slots x ≡ station_at i (clocks u u t) h x)
     → ((x : ℕ) → x < 96 → has picked x ≡ ends_in u h x) → (y : ℕ) → sent_at i u h y ≡ sent_below slots picked 96 y
 sent_all {i} t {u} h slots picked up e shown ends y = elim (cases_Bool (nat_lt y 96)) [
   | inl l ↦ let k : y < 96 = ltb-true y 96 l in rw (l, ends y k, shown y k) (sym (sent_is t u y h up e))
@@ -74,15 +74,14 @@ k_cases x = grind (arith, nat_tests)
 
 field_hears : {i : Loaded} {config : Configuration} (t u v r : ℕ) (newer older : List Done) (o : Option Operand)
     → IsUpTo i config u (newer ++ older) → u ≡ t + 1 → v ≡ register_after i (steps_in older) r
-    → (o ≡ None) ⊎ (o ≡ Some (operand v r))
-    → field_after (sent_at i u (newer ++ older)) (field_of t older o) ≡ field_of u older o
+    → (o ≡ None) ⊎ (o ≡ Some (operand v r)) → field_after (sent_at i u (newer ++ older))
+    (field_of t older o) ≡ field_of u older o
 field_hears t u v r newer older o up e value (inl none) = rw none refl
 field_hears t u v r newer older o up e value (inr some) = rw some (heard_is t u newer older (operand v r) up e value)
 
 station_hears : {i : Loaded} {config : Configuration} (t u : ℕ) (newer : List Done) (d : Done) (older : List Done)
-    → IsUpTo i config u ((newer ++ (d ∷ [])) ++ older) → u ≡ t + 1 → Follows i (steps_in older) d.step
-    → station_of i (clocks u u u) d older ≡ hears (sent_at i u ((newer ++ (d ∷ [])) ++ older)) (station_of i (clocks u u
-    t) d older)
+    → IsUpTo i config u ((newer ++ (d ∷ [])) ++ older) → u ≡ t + 1 → Follows i (steps_in older) d.step → station_of i
+    (clocks u u u) d older ≡ hears (sent_at i u ((newer ++ (d ∷ [])) ++ older)) (station_of i (clocks u u t) d older)
 station_hears {i} t u newer d older up e follows =
     let j = field_hears t u d.step.vj d.step.instr.rs1 (newer ++ (d ∷ [])) older (j_of d.step) up e follows.vj
     (j_cases d.step) in
@@ -155,8 +154,8 @@ registers_at {i} {t = t} {u} {h} {sent} {old} {new} up e shown same made =
     (register_after i (steps_in h) r) (producer u h r) = λ r l. made.fields r l ∙ (heard_same sent (sent_at i u h)
     (field_from (slice_index old.values r) (slice_index_or old.tags r None)) same ∙ (ap (field_after (sent_at i u h))
     (field_by (slice_index old.values r) (register_after i (steps_in h) r) (slice_index_or old.tags r None)
-    (producer t h r) (shown.tags r l) (shown.values r l)) ∙ heard_is t u [] h
-    (operand (register_after i (steps_in h) r) r) up e refl)) in
+    (producer t h r) (shown.tags r l) (shown.values r l)) ∙ heard_is t u [] h (operand (register_after i (steps_in h) r)
+    r) up e refl)) in
     record {
       count = made.count;
       status = made.status;

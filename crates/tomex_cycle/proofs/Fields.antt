@@ -108,9 +108,8 @@ dest_later {config = config} d older up dest = elim (pool_cases (step_pool d.ste
       absurd (cc)
   | inr e ↦
       let r = reach d older up.lawful up.timed in
-      let l : d.at.issue < d.at.start = unit_later (step_pool d.step) d.at.issue d.at.start
-      (λ u. can_start config older d.step u d.at.issue (cycle_of d.at.address)) (can_start_later config d older) e
-      up.timed.0.start in
+      let l : d.at.issue < d.at.start = unit_later (step_pool d.step) d.at.issue d.at.start (λ u. can_start config older
+      d.step u d.at.issue (cycle_of d.at.address)) (can_start_later config d older) e up.timed.0.start in
       omega arith
 ]
 
@@ -159,8 +158,8 @@ place_is w tag t e l = rw (e, lt-ltb t w.at.end l, eq-eqb (place_of_tag tag) (pl
 
 heard_from : {i : Loaded} {config : Configuration} (t u v : ℕ) (newer : List Done) (w : Done) (older : List Done)
     → IsUpTo i config u (newer ++ (w ∷ older)) → u ≡ t + 1 → is_some (step_dest w.step) ≡ true
-    → v ≡ result_of w.step (byte_after i (steps_in older))
-    → field_after (sent_at i u (newer ++ (w ∷ older))) (field_from v (unsent_tag t w)) ≡ field_from v (unsent_tag u w)
+    → v ≡ result_of w.step (byte_after i (steps_in older)) → field_after (sent_at i u (newer ++ (w ∷ older)))
+    (field_from v (unsent_tag t w)) ≡ field_from v (unsent_tag u w)
 heard_from {i} t u v newer w older up e dest value = elim (cases_Bool (nat_lt t w.at.end)) [
   | inr l ↦
       let k : w.at.end ≤ t = ltb-false _ _ l in
@@ -169,8 +168,8 @@ heard_from {i} t u v newer w older up e dest value = elim (cases_Bool (nat_lt t 
       let k : t < w.at.end = ltb-true _ _ l in
       let part = part_up_to newer up in
       let tag = tag_from (tag_of w) (place_there w part.timed.0 (dest_later w older part dest)) in
-      let sent : sent_at i u (newer ++ (w ∷ older)) (place_of_tag tag.0) ≡ sends i u w older =
-      sent_by t u (place_of_tag tag.0) newer w older up e dest (place_is w tag.0 t tag.1 k) in
+      let sent : sent_at i u (newer ++ (w ∷ older)) (place_of_tag tag.0) ≡ sends i u w older = sent_by t u
+      (place_of_tag tag.0) newer w older up e dest (place_is w tag.0 t tag.1 k) in
       elim (cases_Bool (w.at.end == u)) [
         | inl m ↦
             let n : w.at.end ≡ u = eqb-true _ _ m in
@@ -185,8 +184,8 @@ heard_from {i} t u v newer w older up e dest value = elim (cases_Bool (nat_lt t 
 
 heard_by : {i : Loaded} {config : Configuration} (t u : ℕ) (newer older : List Done) (o : Operand)
     → IsUpTo i config u (newer ++ older) → u ≡ t + 1 → o.value ≡ register_after i (steps_in older) o.register
-    → Writer i o.register older
-    → field_after (sent_at i u (newer ++ older)) (field_of t older (Some o)) ≡ field_of u older (Some o)
+    → Writer i o.register older → field_after (sent_at i u (newer ++ older))
+    (field_of t older (Some o)) ≡ field_of u older (Some o)
 heard_by t u newer older o up e value (nobody none) = rw (none t, none u) refl
 heard_by {i} {config} t u newer older o up e value (writes between w behind split dest from result) =
     let whole = ap (λ xs. newer ++ xs) split ∙ sym (append_assoc newer between (w ∷ behind)) in

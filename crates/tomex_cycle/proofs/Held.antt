@@ -2,10 +2,10 @@
 use Rattle.tomex_cycle.proofs.Places.{held_place, is_vacant, low, place_low, place_there, station_here, vacant}
 use Rattle.tomex_cycle.proofs.Parts.{older_up_to, part_up_to}
 use Rattle.std.proofs.Common.{ℕ, ◌+◌, ◌<◌, ◌≤◌, ◌≡◌, ◌∙◌, true, arith, refl, List, [], ◌∷◌, ◌++◌, Option, Some, None}
-use Rattle.std.proofs.Common.{inl, inr, slice_index_or, false, ap, sym, length}
+use Rattle.std.proofs.Common.{inl, inr, false, ap, sym, length}
 use Rattle.tomex_cycle.proofs.Words.{Clocks, Configuration, Done, IsUpTo, Loaded, Pools, ShowsStations, and_parts}
 use Rattle.tomex_cycle.proofs.Words.{cases_Bool, eq-eqb, holds_place, is_number, is_some, issue_number_at, ltb-true}
-use Rattle.tomex_cycle.proofs.Words.{nat_lt, not, place_of, slice_index, station_of, step_pool}
+use Rattle.tomex_cycle.proofs.Words.{nat_lt, not, place_of, slice_index, station_of, step_pool, slot}
 
 -- no place that a step holds is vacant
 pub not_vacant : (t x : ℕ) (newer : List Done) (w : Done) (older : List Done) → holds_place t x w ≡ true
@@ -27,7 +27,7 @@ number_here end x (n ∷ newer) d older up l held = elim (cases_Bool (is_number 
 
 pub record IsHeld (i : Loaded) (c : Clocks) (st : Pools) (d : Done) (older : List Done) (x : ℕ) : Type 0 where
   pub small : x < 96
-  pub slot : slice_index_or st.slots x None ≡ Some (station_of i c d older)
+  pub slot : slot st.slots x ≡ Some (station_of i c d older)
   pub number : slice_index st.issue_numbers x ≡ length older
 
 -- each busy step of the part is so held

@@ -77,7 +77,8 @@ made_from instr pc j k start u finish value address l e = rw (lt-leb start u l, 
 
 pub station_made : (i : Loaded) {config : Configuration} (t u : ℕ) (d : Done) {h : List Done} (p : PoolId)
     → IsTimed config h d.step d.at → d.at.issue ≡ u → step_pool d.step ≡ Some p
-    → station_of i (clocks u u t) d h ≡ new_station d.step.instr d.step.pc (field_of t h (j_of d.step)) (field_of t h (k_of
+    → station_of i (clocks u u t) d h ≡ new_station d.step.instr d.step.pc (field_of t h (j_of d.step))
+    (field_of t h (k_of
     d.step))
 station_made i t u d {h} p timed at pool =
     let after : d.at.issue < d.at.start = starts_after d p timed pool in
@@ -89,8 +90,8 @@ station_made i t u d {h} p timed at pool =
 
 -- its tag
 tag_from : (pool : Option PoolId) (station : Option ℕ) (p : PoolId) (n issue : ℕ) (older : List Done) → pool ≡ Some p
-    → IsLeast (is_free p older issue) n
-    → MatchOption pool (station ≡ None) (λ p. (n : ℕ) × (station ≡ Some n) × IsLeast (is_free p older issue) n)
+    → IsLeast (is_free p older issue) n → MatchOption pool (station ≡ None)
+    (λ p. (n : ℕ) × (station ≡ Some n) × IsLeast (is_free p older issue) n)
     → tag_at pool station ≡ Some (record { pool = p; number = n })
 tag_from pool station p n issue older h6 h7 h8 = grind (arith, nat_tests)
 
@@ -106,8 +107,8 @@ slot_with : (i : Loaded) (c : Clocks) (x y : ℕ) (d : Done) (h : List Done) →
     → station_at i c (d ∷ h) y ≡ (if x == y then Some (station_of i c d h) else station_at i c h y)
 slot_with i c x y d h e l = rw (lt-ltb c.end d.at.end l, e) (turned (x == y))
   where
-    turned : (b : Bool) → (if b && true then Some (station_of i c d h) else station_at i c h y)
-        ≡ (if b then Some (station_of i c d h) else station_at i c h y)
+    turned : (b : Bool) → (if b && true then Some (station_of i c d h) else station_at i c h y) ≡ (if b then Some
+        (station_of i c d h) else station_at i c h y)
     turned b = grind (arith, nat_tests)
 
 set_slot : (xs : List (Option Station)) (x y : ℕ) (s : Station) → x < length xs
@@ -158,8 +159,8 @@ stations_same d shown none =
 -- The registers.
 
 tags_at : (tags : List (Option Tag)) (dest : Option ℕ) (tag : Tag) (r : ℕ) → length tags ≡ 32
-    → IfSome dest (λ q. q < 32) → slice_index_or (tags_with tags dest tag) r None
-    ≡ (if is_number dest r then Some tag else slice_index_or tags r None)
+    → IfSome dest (λ q. q < 32) → slice_index_or (tags_with tags dest tag) r None ≡ (if is_number dest r then Some tag
+    else slice_index_or tags r None)
 tags_at tags None tag r count low = refl
 tags_at tags (Some q) tag r count low = elim (cases_Bool (q == r)) [
   | inl e ↦ let f : q ≡ r = eqb-true q r e in rw (e, ← f) (get_or-set_same tags q (Some tag) None (rw count low))

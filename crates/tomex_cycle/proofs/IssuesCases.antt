@@ -9,7 +9,7 @@ use Rattle.tomex_cycle.proofs.Words.{AreTimed, IsLeast, can_issue, can_issue_ano
 use Rattle.tomex_cycle.proofs.Words.{is_free, stations_high, number_is, Fetch, At, Stopped, IsIssuing, IssuesNext}
 use Rattle.tomex_cycle.proofs.Words.{AreIssuedBy, first_timed, ShowsStations, clocks, fetch_after, station_of, place_at}
 use Rattle.tomex_cycle.proofs.Words.{new_station, Pools, is_open, operand_in, tags_with, Front, IsNextCycle, IsUpTo}
-use Rattle.tomex_cycle.proofs.Words.{ShowsFront, Tag, front, place_of_tag, station_from}
+use Rattle.tomex_cycle.proofs.Words.{ShowsFront, Tag, front, place_of_tag, station_from, slot}
 use Rattle.tomex_rvexec.specs.declared.outcome.FaultKind.{FaultKind}
 use Rattle.tomex_cycle.specs.declared.fetch.Fetch.TheVariants.{Waits}
 use Rattle.tomex_cycle.proofs.Places.{pool_low, low}
@@ -127,9 +127,8 @@ made_by {i} {config} {t = t} {u} {count} x is e issued shown =
 
 next_is : {i : Loaded} {config : Configuration} {n count t u : ℕ} {pc : ℕ} {instr : Instruction} {s : Front}
     → IsNextCycle i config n t u → can_issue_another config (first_timed config i count) u ≡ true
-    → IsIssuing i config n t u count s → IsFetched i s pc instr
-    → has_station config (first_timed config i count) (pool_of instr.op) u ≡ true
-    → (x : Step) × IsNext i config n t u count pc instr x
+    → IsIssuing i config n t u count s → IsFetched i s pc instr → has_station config (first_timed config i count)
+    (pool_of instr.op) u ≡ true → (x : Step) × IsNext i config n t u count pc instr x
 next_is {i} {config} {count = count} {t} {u} {pc} {instr} at slot shown from has =
     let h : List Done = first_timed config i count in
     let up : IsUpTo i config u h = issued_up_to at.run shown in
@@ -217,7 +216,8 @@ some_case i config count old new pc instr tag from opening taken n t u at slot s
     let late : t < d.at.end = let e : u ≡ t + 1 = at.next in omega arith in
     let a = read_j shown.shown.status x.1.come.follows (rw x.1.instr_is taken.sources.0) in
     let b = read_k shown.shown.status x.1.come.follows (rw x.1.instr_is taken.sources.1) in
-    let made : station_from old.registers instr pc ≡ station_of i (clocks u u t) d h = station_same x.0.instr instr x.0.pc
+    let made : station_from old.registers instr pc ≡ station_of i (clocks u u t) d h =
+    station_same x.0.instr instr x.0.pc
     pc _ _ x.1.instr_is x.1.come.at a b ∙ sym (station_made i t u d p x.1.timed.0 issue here) in (
       true,
       refl,

@@ -85,21 +85,20 @@ number_same station n k e f = grind (arith, nat_tests)
 
 -- the number that a step takes is free of older ones, and is one of the pool's
 taken_free : (older : List Done) (pool : Option PoolId) (station : Option ℕ) (issue k : ℕ) (p : PoolId)
-    → is_in p pool ≡ true → is_number station k ≡ true
-    → MatchOption pool (station ≡ None) (λ p. (n : ℕ) × (station ≡ Some n) × IsLeast (is_free p older issue) n)
-    → is_free p older issue k ≡ true
+    → is_in p pool ≡ true → is_number station k ≡ true → MatchOption pool (station ≡ None)
+    (λ p. (n : ℕ) × (station ≡ Some n) × IsLeast (is_free p older issue) n) → is_free p older issue k ≡ true
 taken_free older None station issue k p e f is = absurd (cc)
 taken_free older (Some q) station issue k p e f is = rw (same_pool q p e, number_same station is.0 k is.1 f) at is.2.0
 
 taken_low : (config : Configuration) (older : List Done) (pool : Option PoolId) (station : Option ℕ) (issue : ℕ)
-    (p : PoolId) → is_in p pool ≡ true → has_station config older pool issue ≡ true
-    → MatchOption pool (station ≡ None) (λ p. (n : ℕ) × (station ≡ Some n) × IsLeast (is_free p older issue) n)
+    (p : PoolId) → is_in p pool ≡ true → has_station config older pool issue ≡ true → MatchOption pool (station ≡ None)
+    (λ p. (n : ℕ) × (station ≡ Some n) × IsLeast (is_free p older issue) n)
     → lower station (stations_of config p) ≡ true
 taken_low config older None station issue p e has is = absurd (cc)
 taken_low config older (Some q) station issue p e has is =
     let found = number_is config older q issue has in
-    let same : is.0 ≡ least (is_free q older issue) (stations_of config q) =
-    least_same (is_free q older issue) _ _ is.2 found.0 in
+    let same : is.0 ≡ least (is_free q older issue) (stations_of config q) = least_same (is_free q older issue) _ _ is.2
+    found.0 in
     let f : stations_of config q ≡ stations_of config p = ap (stations_of config) (same_pool q p e) in
     let s : station ≡ Some is.0 = is.1 in
     rw (s, lt-ltb is.0 (stations_of config p) (omega arith)) refl
@@ -128,8 +127,8 @@ all_below config p u (d ∷ older) timed =
       | inr e ↦ rw (sum_by-cons, sum_by-cons, e) (omega arith)
       | inl e ↦
           let has = issue_station config older d.step d.at.issue timed.0.issue.0 in
-          let f = taken_low config older (step_pool d.step) d.at.station d.at.issue p
-          (and_parts (is_in p (step_pool d.step)) (nat_le u d.at.end) e).0 has timed.0.station in
+          let f = taken_low config older (step_pool d.step) d.at.station d.at.issue p (and_parts (is_in p
+          (step_pool d.step)) (nat_le u d.at.end) e).0 has timed.0.station in
           rw (sum_by-cons, sum_by-cons, e, f) (omega arith)
     ]
 

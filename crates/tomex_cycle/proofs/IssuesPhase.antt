@@ -126,9 +126,8 @@ word_of : {i : Loaded} {config : Configuration} {n t u count made : ℕ} (word :
 word_of {n} {count} word have l e = let few : count ≤ n + 1 = have.now.few in omega (arith, e)
 
 -- the width leaves no more
-full : {i : Loaded} {config : Configuration} {n t u count made : ℕ} {s : Front}
-    → HaveIssued i config n t u count made s → config.width ≤ made → u ≡ t + 1 → count ≤ n
-    → IsYetToIssue i config count u
+full : {i : Loaded} {config : Configuration} {n t u count made : ℕ} {s : Front} → HaveIssued i config n t u count made s
+    → config.width ≤ made → u ≡ t + 1 → count ≤ n → IsYetToIssue i config count u
 full {i} {config} {u = u} {count} have most e less = yet_more i config count (have.now.next less)
     (λ y is. without_slot config u (first_timed config i count) y (no_slot have most)) e
 

@@ -6,7 +6,7 @@ use Rattle.tomex_cycle.proofs.Words.{Configuration, IsWithinLimits, EndKind, Ste
 use Rattle.tomex_cycle.proofs.Words.{step_after, is_branch, step_pool, step_follows, Done, AreTimed}
 use Rattle.tomex_cycle.proofs.Words.{are_branches_finished, can_issue, can_issue_another, times_of, has_station}
 use Rattle.tomex_cycle.proofs.Words.{least_same, times_are, At, IsYetToIssue, AreIssuedBy, first_timed, steps_in}
-use Rattle.tomex_cycle.proofs.Words.{RunEndsAfter, fetch_after, fetch_of, IsUpTo, ◌||◌}
+use Rattle.tomex_cycle.proofs.Words.{RunEndsAfter, fetch_after, fetch_of, IsUpTo, ◌||◌, slot}
 use Rattle.tomex_rvexec.specs.History.{Follows, pc_after}
 use Rattle.tomex_cycle.specs.declared.fetch.Fetch.TheVariants.{Waits}
 use Rattle.tomex_cycle.proofs.Runs.{step_is, steps_are}
@@ -39,8 +39,8 @@ pub branches_is : (config : Configuration) (t u : ℕ) (h : List Done) → AreTi
     → are_branches_finished h u ≡ not (is_waiting t h)
 branches_is config t u [] timed issued e = refl
 branches_is config t u (d ∷ older) timed issued e =
-    let before : are_branches_finished older u ≡ true =
-    finished_later d.at.issue u older issued.0 (finished_from config older d.step d.at.issue timed.0.issue.0) in
+    let before : are_branches_finished older u ≡ true = finished_later d.at.issue u older issued.0
+    (finished_from config older d.step d.at.issue timed.0.issue.0) in
     rw before (finished_test (is_branch d.step) t u d.at.finish e)
 
 can_from : (config : Configuration) (h : List Done) (x : Step) (u : ℕ) (b s : Bool) → 0 < u
@@ -78,8 +78,8 @@ yet_more i config count {t} {u} yet never e x is s l = elim (cases_order s u) [
 
 -- Fetch.
 
-at_parts : (x : Step) (w : Bool) (o : Option EndKind) (pc : ℕ) → fetch_after x w o ≡ At pc → (pc ≡ next_pc_of x)
-    × (w ≡ false)
+at_parts : (x : Step) (w : Bool) (o : Option EndKind) (pc : ℕ) → fetch_after x w o ≡ At pc
+    → (pc ≡ next_pc_of x) × (w ≡ false)
 at_parts x w (Some kind) pc e = absurd (cc)
 at_parts x true None pc e = absurd (cc)
 at_parts x false None pc e = (cc, refl)
@@ -123,8 +123,8 @@ pub coming : {config : Configuration} {i : Loaded} {n : ℕ} (t count pc : ℕ) 
 coming {config} {i} {n} t count pc run few e =
     let less : count ≤ n = left t count pc run few e in
     let x = step_is count run less in
-    let follows : Follows i (steps_in (first_timed config i count)) x.0 =
-    rw (steps_are config i count) (step_follows i n count run.state run.kind x.0 run.loaded run.ends less x.1) in
+    let follows : Follows i (steps_in (first_timed config i count)) x.0 = rw (steps_are config i count)
+    (step_follows i n count run.state run.kind x.0 run.loaded run.ends less x.1) in
     let at = at_is i t pc (first_timed config i count) e in
     let f = fetched_by pc follows at.0 in
     (x.0, record { less = less; is = x.1; follows = follows; at = f.0; fetched = f.1; goes = at.1 })

@@ -7,7 +7,7 @@ use Rattle.tomex_cycle.proofs.Words.{cases_Bool, eq-eqb, eqb-true, eqb-false, le
 use Rattle.tomex_cycle.proofs.Words.{get_or-replicate, get_or-set_same, get_or-set_other, get_or_past, length-set}
 use Rattle.tomex_cycle.proofs.Words.{dest_of, place_of_pool, PoolId, is_number, is_due, none_in, with_address, is_open}
 use Rattle.tomex_cycle.proofs.Words.{Station, Field, can_send, finishes, is_finished_before, IsTimetableOf, has_stayed}
-use Rattle.tomex_cycle.proofs.Words.{Finishes, ◌||◌, with_start}
+use Rattle.tomex_cycle.proofs.Words.{Finishes, ◌||◌, with_start, slot}
 use Rattle.tomex_bus.specs.Wheel.{HasPut, IsEmpty, Lacks}
 use Rattle.tomex_cycle.proofs.Places.{pool_low}
 use Rattle.tomex_cycle.proofs.Truth.{or_false}
@@ -15,8 +15,7 @@ use Rattle.tomex_cycle.proofs.Truth.{or_false}
 -- A test of each place's content, after this is put into one.
 
 kept_test : (test : Option Station → Bool) (slots : List (Option Station)) (x y : ℕ) (o : Option Station)
-    → x < length slots → test o ≡ test (slice_index_or slots x None)
-    → test (slice_index_or (slice_set slots x o) y None) ≡ test (slice_index_or slots y None)
+    → x < length slots → test o ≡ test (slot slots x) → test (slot (slice_set slots x o) y) ≡ test (slot slots y)
 kept_test test slots x y o l same = elim (cases_Bool (x == y)) [
   | inl e ↦ let at : x ≡ y = eqb-true x y e in rw (← at) (ap test (get_or-set_same slots x o None l) ∙ same)
   | inr e ↦ ap test (get_or-set_other slots x y o None (λ z. eqb-false x y e (sym z)))
@@ -24,9 +23,9 @@ kept_test test slots x y o l same = elim (cases_Bool (x == y)) [
 
 pub known_same : {slots : List (Option Station)} (x : ℕ) {next : ℕ} (o : Option Station) {f : Finishes}
     → x < length slots → IsTimetableOf slots next f
-    → ((v : ℕ) → finishes v o ≡ finishes v (slice_index_or slots x None))
-    → can_send next o ≡ can_send next (slice_index_or slots x None)
-    → has_stayed next o ≡ has_stayed next (slice_index_or slots x None) → IsTimetableOf (slice_set slots x o) next f
+    → ((v : ℕ) → finishes v o ≡ finishes v (slot slots x))
+    → can_send next o ≡ can_send next (slot slots x)
+    → has_stayed next o ≡ has_stayed next (slot slots x) → IsTimetableOf (slice_set slots x o) next f
 known_same {slots} x {next} o l known fin send stay = record {
   places = length-set slots x o ∙ known.places;
   ahead = λ a y m k. known.ahead a y m k ∙ sym (kept_test (finishes (next + a)) slots x y o l (fin (next + a)));
@@ -37,7 +36,7 @@ known_same {slots} x {next} o l known fin send stay = record {
 }
 
 -- a place that is taken
-pub inside_of : (slots : List (Option Station)) (x : ℕ) (s : Station) → slice_index_or slots x None ≡ Some s
+pub inside_of : (slots : List (Option Station)) (x : ℕ) (s : Station) → slot slots x ≡ Some s
     → x < length slots
 inside_of slots x s at = elim (cases_Bool (nat_lt x (length slots))) [
   | inl l ↦ ltb-true _ _ l
@@ -59,7 +58,7 @@ none_stays next s e = ap (λ (z : Option ℕ). not (is_some (dest_of s.instr)) &
 
 -- an instruction issues to an empty place
 pub known_issued : {slots : List (Option Station)} (x : ℕ) {next : ℕ} (s : Station) {f : Finishes} → x < length slots
-    → IsTimetableOf slots next f → slice_index_or slots x None ≡ None → s.finish ≡ None
+    → IsTimetableOf slots next f → slot slots x ≡ None → s.finish ≡ None
     → IsTimetableOf (slice_set slots x (Some s)) next f
 known_issued x {next} s l known empty idle = known_same x (Some s) l known
     (λ v. none_finishes v s idle ∙ sym (ap (finishes v) empty))
@@ -77,25 +76,24 @@ pub known_taken : {slots : List (Option Station)} (new : List (Option Station)) 
 known_taken {slots} new number count pool s made empty less few idle known =
     let low : place_of_pool pool < 6 = pool_low pool in
     rw made (known_issued (16 * place_of_pool pool + number) s (omega arith) known
-    (none_of (slice_index_or slots (16 * place_of_pool pool + number) None) empty) idle)
+    (none_of (slot slots (16 * place_of_pool pool + number)) empty) idle)
 
-address_keeps : (s : Station) → ((with_address s).finish ≡ s.finish)
-    × (dest_of (with_address s).instr ≡ dest_of s.instr)
+address_keeps : (s : Station)
+    → ((with_address s).finish ≡ s.finish) × (dest_of (with_address s).instr ≡ dest_of s.instr)
 address_keeps s = of s.j refl
   where
-    of : (j : Field) → s.j ≡ j → ((with_address s).finish ≡ s.finish)
-        × (dest_of (with_address s).instr ≡ dest_of s.instr)
+    of : (j : Field) → s.j ≡ j
+        → ((with_address s).finish ≡ s.finish) × (dest_of (with_address s).instr ≡ dest_of s.instr)
     of j e = grind (arith, nat_tests)
 
 -- an address is computed
 pub known_addressed : {slots : List (Option Station)} (new : List (Option Station)) (x : ℕ) {next : ℕ} {f : Finishes}
-    → IsSome (slice_index_or slots x None)
-    → new ≡ slice_set slots x (option_map with_address (slice_index_or slots x None)) → IsTimetableOf slots next f
+    → IsSome (slot slots x)
+    → new ≡ slice_set slots x (option_map with_address (slot slots x)) → IsTimetableOf slots next f
     → IsTimetableOf new next f
-known_addressed {slots} new x {next} {f} some made known = rw made (of (slice_index_or slots x None) refl)
+known_addressed {slots} new x {next} {f} some made known = rw made (of (slot slots x) refl)
   where
-    of : (o : Option Station) → slice_index_or slots x None ≡ o
-        → IsTimetableOf (slice_set slots x (option_map with_address o)) next f
+    of : (o : Option Station) → slot slots x ≡ o → IsTimetableOf (slice_set slots x (option_map with_address o)) next f
     of None e = let z : false ≡ true = rw e at some in absurd (cc)
     of (Some s) e =
         let keeps = address_keeps s in
@@ -106,7 +104,7 @@ known_addressed {slots} new x {next} {f} some made known = rw made (of (slice_in
 -- An operation starts.
 
 pub lacks_idle : {slots : List (Option Station)} (x : ℕ) {next : ℕ} (s : Station) {f : Finishes} → x < 96
-    → IsTimetableOf slots next f → slice_index_or slots x None ≡ Some s → s.finish ≡ None → Lacks f.wheel x
+    → IsTimetableOf slots next f → slot slots x ≡ Some s → s.finish ≡ None → Lacks f.wheel x
 lacks_idle x {next} s l known at idle a = elim (cases_Bool (nat_lt a 64)) [
   | inl k ↦ known.ahead a x (ltb-true a 64 k) l ∙ (ap (finishes (next + a)) at ∙ none_finishes (next + a) s idle)
   | inr k ↦ rw k refl
@@ -116,7 +114,7 @@ shift_test : (next a latency : ℕ) → 1 ≤ latency → (a == latency - 1) ≡
 shift_test next a latency some = grind (arith, nat_tests)
 
 pub known_started : {slots : List (Option Station)} (x : ℕ) {next : ℕ} (latency value : ℕ) (s : Station) {f : Finishes}
-    (wheel : List ℕ) → x < 96 → IsTimetableOf slots next f → slice_index_or slots x None ≡ Some s → s.finish ≡ None
+    (wheel : List ℕ) → x < 96 → IsTimetableOf slots next f → slot slots x ≡ Some s → s.finish ≡ None
     → (1 ≤ latency) × (latency ≤ 64) → HasPut (latency - 1) x f.wheel wheel
     → IsTimetableOf (slice_set slots x (Some (with_start (next + latency - 1) value s))) next
     (record { wheel = wheel; unsent = f.unsent })
@@ -139,8 +137,7 @@ known_started {slots} x {next} latency value s {f} wheel m known at idle few put
   near = λ y v n e. elim (cases_Bool (x == y)) [
     | inl k ↦
         let same : x ≡ y = eqb-true x y k in
-        let done : ((next + latency - 1) == v) ≡ true =
-        rw (← same, get_or-set_same slots x new None l) at e in
+        let done : ((next + latency - 1) == v) ≡ true = rw (← same, get_or-set_same slots x new None l) at e in
         let at : next + latency - 1 ≡ v = eqb-true (next + latency - 1) v done in
         let most : latency ≤ 64 = few.1 in
         omega arith
@@ -193,5 +190,5 @@ known_first slots f e empty unsent = rw e (record {
 
 -- Beyond the wheel nothing finishes.
 pub all_ahead : {slots : List (Option Station)} {next : ℕ} (a x : ℕ) {f : Finishes} → IsTimetableOf slots next f
-    → x < 96 → is_due f.wheel a x ≡ finishes (next + a) (slice_index_or slots x None)
+    → x < 96 → is_due f.wheel a x ≡ finishes (next + a) (slot slots x)
 all_ahead {slots} {next} a x known l = grind (arith, nat_tests)

@@ -1,13 +1,13 @@
 -- What is known of the finishes ahead once a cycle has ended: what was due is over or waits for a bus.
 use Rattle.std.proofs.Common.{ℕ, ◌+◌, ◌^◌, ◌<◌, ◌≤◌, ◌≡◌, ◌∙◌, Bool, true, false, arith, refl, ap, sym, inl, inr, List}
-use Rattle.std.proofs.Common.{Option, Some, None, length, slice_index_or, option_map}
+use Rattle.std.proofs.Common.{Option, Some, None, length, option_map}
 use Rattle.tomex_cycle.proofs.Words.{nat_le, nat_lt, ◌==◌, ◌≢◌, ◌&&◌, not, is_some, and_parts, and_right, nat_tests}
 use Rattle.tomex_cycle.proofs.Words.{both_ways, cases_Bool, eqb-true, eqb-false, le-leb, leb-true, lt-leb, lt-ltb}
 use Rattle.tomex_cycle.proofs.Words.{ltb-true, ltb-false, get_or_past, dest_of, is_number, IsPicked, none_picked, has}
 use Rattle.tomex_cycle.proofs.Words.{is_due, none_in, hears, is_served, AreBusy, Pools, IsSetOf, writes, Station}
 use Rattle.tomex_cycle.proofs.Words.{AreDone, AreEnding, IsDoneBranch, after_ends, can_send, ends_alone, finishes}
 use Rattle.tomex_cycle.proofs.Words.{is_finished_by, is_finished_before, IsTimetableOf, HaveTurned, LeavesTimetable}
-use Rattle.tomex_cycle.proofs.Words.{has_stayed, Finishes, ◌||◌}
+use Rattle.tomex_cycle.proofs.Words.{has_stayed, Finishes, ◌||◌, slot}
 use Rattle.tomex_sets.proofs.Bits.{agreed, member_some}
 use Rattle.tomex_tags.proofs.Entering.{of_busy}
 use Rattle.tomex_cycle.proofs.Happens.{member_of}
@@ -20,10 +20,10 @@ pub all_due : {slots : List (Option Station)} {next due : ℕ} {f g : Finishes} 
     → HaveTurned f g due → AreDone slots next due
 all_due {slots} {next} {f} known turned x l = turned.due x ∙ elim (cases_Bool (nat_lt x 96)) [
   | inl k ↦ let now : next + 0 ≡ next = omega arith in
-      all_ahead 0 x known (ltb-true x 96 k) ∙ ap (λ (v : ℕ). finishes v (slice_index_or slots x None)) now
+      all_ahead 0 x known (ltb-true x 96 k) ∙ ap (λ (v : ℕ). finishes v (slot slots x)) now
   | inr k ↦
       let high : 96 ≤ x = ltb-false x 96 k in
-      let past : slice_index_or slots x None ≡ None = get_or_past slots x None (omega arith) in
+      let past : slot slots x ≡ None = get_or_past slots x None (omega arith) in
       rw past (grind (arith, nat_tests))
 ]
 
@@ -49,17 +49,17 @@ alone_is next None e = refl
 alone_is next (Some s) e = alone_test next s.finish (is_some (dest_of s.instr)) e
 
 stayed_past : {slots : List (Option Station)} {next : ℕ} (x : ℕ) {f : Finishes} → IsTimetableOf slots next f
-    → has_stayed next (slice_index_or slots x None) ≡ false
+    → has_stayed next (slot slots x) ≡ false
 stayed_past {slots} x known = elim (cases_Bool (nat_lt x 96)) [
   | inl k ↦ known.gone x (ltb-true x 96 k)
   | inr k ↦ let high : 96 ≤ x = ltb-false x 96 k in let count : length slots ≡ 96 = known.places in
-      let past : slice_index_or slots x None ≡ None = get_or_past slots x None (omega arith) in rw past refl
+      let past : slot slots x ≡ None = get_or_past slots x None (omega arith) in rw past refl
 ]
 
 -- the choice of what ends: results are sent, and what is due and no result ends too
 pub record IsChoice (st : Pools) (buses due unsent found sending ending : ℕ) : Type 0 where
   pub silent : ℕ
-  pub results : (x : ℕ) → x < 128 → has found x ≡ (has due x && writes (slice_index_or st.slots x None))
+  pub results : (x : ℕ) → x < 128 → has found x ≡ (has due x && writes (slot st.slots x))
   pub picked : IsPicked unsent st.issue_numbers buses sending
   pub others : (x : ℕ) → x < 128 → has silent x ≡ (has due x && not (has found x))
   pub all : (x : ℕ) → has ending x ≡ (has sending x || has silent x)
@@ -72,7 +72,7 @@ pub record HasSent (g : Finishes) (sending found : ℕ) (h : Finishes) : Type 0 
 -- the results of what is due
 pub with_results : (slots : List (Option Station)) (due writing found : ℕ) → IsSetOf writes slots writing
     → ((x : ℕ) → has found x ≡ (has due x && has writing x)) → (x : ℕ) → x < 128
-    → has found x ≡ (has due x && writes (slice_index_or slots x None))
+    → has found x ≡ (has due x && writes (slot slots x))
 with_results slots due writing found of both x l = both x ∙ ap (λ b. has due x && b) (of x l)
 
 pub choice_is : (st : Pools) {buses due unsent found sending ending : ℕ} (writing silent : ℕ)
@@ -104,7 +104,7 @@ are_ending st buses {next} {due} {found} {sending} {g = g} filled now choice =
       sent = rw same at choice.picked;
       all = λ x l. choice.all x ∙ ap (λ b. has sending x || b) (choice.others x l
           ∙ rw (choice.results x l, all_due now.known now.turned x l, filled.each x l)
-          (alone_is next (slice_index_or st.slots x None) (stayed_past x now.known)));
+          (alone_is next (slot st.slots x) (stayed_past x now.known)));
     }
 
 heard_same : (test : Option Station → Bool) (sent : ℕ → Option ℕ) (o : Option Station)
@@ -123,9 +123,9 @@ before_next : (next : ℕ) (finish : Option ℕ)
     → is_finished_before finish (next + 1) ≡ (is_finished_before finish next || is_number finish next)
 before_next next finish = grind (arith, nat_tests)
 
-unsent_is : (next : ℕ) (o : Option Station) (sending : Bool) → (sending ≡ true → can_send next o ≡ true)
-    → ((can_send next o && not sending) || (finishes next o && writes o))
-    ≡ (not (sending || (finishes next o && not (finishes next o && writes o))) && can_send (next + 1) o)
+unsent_is : (next : ℕ) (o : Option Station) (sending : Bool) → (sending ≡ true → can_send next o ≡ true) →
+    ((can_send next o && not sending) || (finishes next o && writes o)) ≡ (not (sending || (finishes next o && not
+    (finishes next o && writes o))) && can_send (next + 1) o)
 unsent_is next o sending h3 = grind (arith, nat_tests)
 
 gone_test : (r before done sending : Bool) → (not r && before) ≡ false
@@ -144,20 +144,19 @@ pub leaves_known : (st : Pools) (buses : ℕ) {next due found sending ending : �
     → LeavesTimetable st.slots next ending h
 leaves_known st buses {next} {due} {found} {sending} {ending} {g} h filled now choice done_so new sent count after =
     let known : IsTimetableOf st.slots next now.before = now.known in
-    let on : (a x : ℕ) → is_due h.wheel a x ≡ is_due now.before.wheel (a + 1) x =
-    λ a x. ap (λ (w : List ℕ). is_due w a x) done_so.wheel ∙ now.turned.wheel a x in
+    let on : (a x : ℕ) → is_due h.wheel a x ≡ is_due now.before.wheel (a + 1) x = λ a x. ap (λ (w : List ℕ). is_due w a
+    x) done_so.wheel ∙ now.turned.wheel a x in
     let done : AreDone st.slots next due = all_due known now.turned in
-    let was : (x : ℕ) → x < 128 → has g.unsent x ≡ can_send next (slice_index_or st.slots x None) =
-    λ x l. ap (λ z. has z x) now.turned.unsent ∙ known.unsent x l in
-    let inside : (x : ℕ) → x < 128 → has sending x ≡ true → can_send next (slice_index_or st.slots x None) ≡ true =
+    let was : (x : ℕ) → x < 128 → has g.unsent x ≡ can_send next (slot st.slots x) = λ x l. ap (λ z. has z x)
+    now.turned.unsent ∙ known.unsent x l in
+    let inside : (x : ℕ) → x < 128 → has sending x ≡ true → can_send next (slot st.slots x) ≡ true =
     λ x l e. sym (was x l) ∙ choice.picked.inside x l e in
-    let ends : (x : ℕ) → x < 128 → has ending x ≡ (has sending x || (finishes next (slice_index_or st.slots x None) &&
-    not (finishes next (slice_index_or st.slots x None) && writes (slice_index_or st.slots x None)))) = λ x l.
-    choice.all x ∙ ap (λ b. has sending x || b) (choice.others x l ∙ rw (choice.results x l, done x l) refl) in
-    let test : (t : Option Station → Bool) (x : ℕ) → x < 96 → t None ≡ false
-    → ((s : Station) → t (Some (hears sent s)) ≡ t (Some s))
-    → t (slice_index_or new x None) ≡ (not (has ending x) && t (slice_index_or st.slots x None)) =
-    λ t x l none same. ap t (after x l) ∙ after_test t sent (has ending x) (slice_index_or st.slots x None) none same in
+    let ends : (x : ℕ) → x < 128 → has ending x ≡ (has sending x || (finishes next (slot st.slots x) && not
+    (finishes next (slot st.slots x) && writes (slot st.slots x)))) = λ x l. choice.all x ∙ ap (λ b. has sending x || b)
+    (choice.others x l ∙ rw (choice.results x l, done x l) refl) in
+    let test : (t : Option Station → Bool) (x : ℕ) → x < 96 → t None ≡ false → ((s : Station) → t (Some (hears sent s))
+    ≡ t (Some s)) → t (slot new x) ≡ (not (has ending x) && t (slot st.slots x)) = λ t x l none same. ap t (after x l)
+    ∙ after_test t sent (has ending x) (slot st.slots x) none same in
     record {
       places = count;
       ahead = λ a x l m. on a x ∙ (all_ahead (a + 1) x known m ∙ sym (test (finishes (next + 1 + a)) x m refl
@@ -170,26 +169,24 @@ leaves_known st buses {next} {due} {found} {sending} {ending} {g} h filled now c
         | inl k ↦
             let low : x < 96 = ltb-true x 96 k in
             rw (was x l, choice.results x l, done x l)
-            (unsent_is next (slice_index_or st.slots x None) (has sending x) (inside x l))
+            (unsent_is next (slot st.slots x) (has sending x) (inside x l))
             ∙ sym (test (can_send (next + 1)) x low refl (λ s. refl)
-            ∙ ap (λ b. not b && can_send (next + 1) (slice_index_or st.slots x None)) (ends x l))
+            ∙ ap (λ b. not b && can_send (next + 1) (slot st.slots x)) (ends x l))
         | inr k ↦
             let high : 96 ≤ x = ltb-false x 96 k in
-            let gone : slice_index_or new x None ≡ None = get_or_past new x None (omega arith) in
+            let gone : slot new x ≡ None = get_or_past new x None (omega arith) in
             let past = get_or_past st.slots x None (let c : length st.slots ≡ 96 = filled.places in omega arith) in
             rw (was x l, choice.results x l, done x l, past, gone) refl
       ];
       gone = λ x l. test (has_stayed (next + 1)) x l refl (λ s. refl)
-          ∙ (ap (λ b. not b && has_stayed (next + 1) (slice_index_or st.slots x None)) (ends x (omega arith))
-          ∙ gone_is next (slice_index_or st.slots x None) (has sending x) (known.gone x l));
+          ∙ (ap (λ b. not b && has_stayed (next + 1) (slot st.slots x)) (ends x (omega arith))
+          ∙ gone_is next (slot st.slots x) (has sending x) (known.gone x l));
     }
   where
-    same_later : (a x : ℕ) → x < 96 → (has sending x ≡ true → can_send next (slice_index_or st.slots x None) ≡ true)
-        → has ending x ≡ (has sending x ||
-        (finishes next (slice_index_or st.slots x None) && not
-        (finishes next (slice_index_or st.slots x None) && writes (slice_index_or st.slots x None))))
-        → (not (has ending x) && finishes (next + 1 + a) (slice_index_or st.slots x None)) ≡ finishes (next + (a + 1))
-        (slice_index_or st.slots x None)
+    same_later : (a x : ℕ) → x < 96 → (has sending x ≡ true → can_send next (slot st.slots x) ≡ true) → has ending x
+        ≡ (has sending x || (finishes next (slot st.slots x) && not (finishes next (slot st.slots x) && writes
+        (slot st.slots x)))) → (not (has ending x) && finishes (next + 1 + a) (slot st.slots x)) ≡ finishes
+        (next + (a + 1)) (slot st.slots x)
     same_later a x e f g = grind (arith, nat_tests)
 
 -- if nothing is over, no result is unsent
@@ -242,8 +239,7 @@ one_branch slots next due branches served x done serves both l e =
     (leb-true 80 x place.0, ltb-true x 96 place.1, sym (done x l) ∙ two.0)
 
 -- if nothing finishes and nothing is sent, nothing ends
-none_chosen : (st : Pools) (buses : ℕ) {due unsent : ℕ} → due ≡ 0 → unsent ≡ 0
-    → IsChoice st buses due unsent 0 0 0
+none_chosen : (st : Pools) (buses : ℕ) {due unsent : ℕ} → due ≡ 0 → unsent ≡ 0 → IsChoice st buses due unsent 0 0 0
 none_chosen st buses over none = record {
   silent = 0;
   results = λ x l. rw (over, none_in x) refl;

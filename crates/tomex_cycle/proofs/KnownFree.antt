@@ -1,10 +1,10 @@
 -- What is known of the finishes ahead once cycles are passed in which nothing finishes.
 use Rattle.std.proofs.Common.{ℕ, ◌+◌, ◌-◌, ◌<◌, ◌≤◌, ◌≡◌, ◌∙◌, Bool, true, false, arith, refl, ap, sym, inl, inr, List}
-use Rattle.std.proofs.Common.{Option, Some, None, length, slice_index_or}
+use Rattle.std.proofs.Common.{Option, Some, None, length}
 use Rattle.tomex_cycle.proofs.Words.{nat_lt, ◌==◌, ◌≢◌, ◌&&◌, not, is_some, both_ways, cases_Bool, eq-eqb, eqb-true}
 use Rattle.tomex_cycle.proofs.Words.{nat_tests, eqb-false, ltb-true, ltb-false, get_or_past, dest_of, is_number, is_due}
 use Rattle.tomex_cycle.proofs.Words.{none_in, Station, can_send, finishes, is_finished_before, IsTimetableOf, IsFree}
-use Rattle.tomex_cycle.proofs.Words.{has_stayed, Finishes}
+use Rattle.tomex_cycle.proofs.Words.{has_stayed, Finishes, slot}
 use Rattle.tomex_bus.specs.Wheel.{HasPassed, IsClearTo, IsNext}
 use Rattle.tomex_cycle.specs.Finishes.{CanSkip}
 use Rattle.tomex_cycle.proofs.Known.{all_ahead}
@@ -12,24 +12,24 @@ use Rattle.tomex_cycle.proofs.Known.{all_ahead}
 pub free_to : {slots : List (Option Station)} (cycle k : ℕ) {f : Finishes} → IsTimetableOf slots (cycle + 1) f
     → f.unsent ≡ 0 → IsClearTo f.wheel k → IsFree slots cycle (cycle + k)
 free_to {slots} cycle k {f} known none clear x v l from to = elim
-    (cases_Bool (finishes v (slice_index_or slots x None))) [
+    (cases_Bool (finishes v (slot slots x))) [
       | inr e ↦ e
       | inl e ↦ elim (cases_Bool (v == cycle)) [
         | inl h ↦
             let here : v ≡ cycle = eqb-true v cycle h in
-            absurd (done_now (slice_index_or slots x None) (rw here at e) (sym (known.unsent x (omega arith))
+            absurd (done_now (slot slots x) (rw here at e) (sym (known.unsent x (omega arith))
             ∙ rw none (none_in x)) (known.gone x l))
         | inr h ↦
             let later : v ≢ cycle = eqb-false v cycle h in
             let at : cycle + 1 + (v - cycle - 1) ≡ v = omega arith in
             absurd (both_ways (is_due f.wheel (v - cycle - 1) x) (clear (v - cycle - 1) x (omega arith)) (all_ahead
-            (v - cycle - 1) x known l ∙ (ap (λ (u : ℕ). finishes u (slice_index_or slots x None)) at ∙ e)))
+            (v - cycle - 1) x known l ∙ (ap (λ (u : ℕ). finishes u (slot slots x)) at ∙ e)))
       ]
     ]
   where
     of_finish : (finish : Option ℕ) (r : Bool) → is_number finish cycle ≡ true
-        → (r && is_finished_before finish (cycle + 1)) ≡ false → (not r && is_finished_before finish (cycle + 1))
-        ≡ false → ⊥
+        → (r && is_finished_before finish (cycle + 1)) ≡ false
+        → (not r && is_finished_before finish (cycle + 1)) ≡ false → ⊥
     of_finish finish r e f g = grind (arith, nat_tests)
 
     done_now : (o : Option Station) → finishes cycle o ≡ true → can_send (cycle + 1) o ≡ false
@@ -68,18 +68,18 @@ known_later {slots} cycle k g known none clear passed unsent =
     record {
       places = count;
       ahead = λ a x l m. let at : cycle + 1 + (a + k) ≡ cycle + k + 1 + a = omega arith in
-          passed a x ∙ (all_ahead (a + k) x known m ∙ ap (λ (v : ℕ). finishes v (slice_index_or slots x None)) at);
+          passed a x ∙ (all_ahead (a + k) x known m ∙ ap (λ (v : ℕ). finishes v (slot slots x)) at);
       near = λ x v l e. let n : v < cycle + 1 + 64 = known.near x v l e in omega arith;
       low = λ a x e. known.low (a + k) x (sym (passed a x) ∙ e);
       unsent = λ x l. rw (unsent, none) (none_in x) ∙ sym (elim (cases_Bool (nat_lt x 96)) [
         | inl m ↦
             let low : x < 96 = ltb-true x 96 m in
-            send_later cycle (cycle + k + 1) (slice_index_or slots x None) (omega arith) (sym (known.unsent x l)
+            send_later cycle (cycle + k + 1) (slot slots x) (omega arith) (sym (known.unsent x l)
             ∙ rw none (none_in x)) (λ v from to. free x v low from (omega arith))
         | inr m ↦ let high : 96 ≤ x = ltb-false x 96 m in
-            let past : slice_index_or slots x None ≡ None = get_or_past slots x None (omega arith) in rw past refl
+            let past : slot slots x ≡ None = get_or_past slots x None (omega arith) in rw past refl
       ]);
-      gone = λ x l. stay_later cycle (cycle + k + 1) (slice_index_or slots x None) (omega arith) (known.gone x l)
+      gone = λ x l. stay_later cycle (cycle + k + 1) (slot slots x) (omega arith) (known.gone x l)
           (λ v from to. free x v l from (omega arith));
     }
 

@@ -1,10 +1,9 @@
 -- What is made and what is passed, as counts of cycles see it.
-use Rattle.std.proofs.Common.{ℕ, ◌+◌, ◌<◌, ◌≤◌, ◌≡◌, ◌∙◌, true, arith, refl, List, Option, None, ap, sym, inl, inr}
-use Rattle.std.proofs.Common.{slice_index_or}
+use Rattle.std.proofs.Common.{ℕ, ◌+◌, ◌<◌, ◌≤◌, ◌≡◌, ◌∙◌, true, arith, refl, List, Option, ap, sym, inl, inr}
 use Rattle.tomex_cycle.proofs.Words.{nat_lt, ◌⊎◌, if◌then◌else◌, cases_Bool, ltb-true, ltb-false, Loaded, Configuration}
 use Rattle.tomex_cycle.proofs.Words.{nat_tests, EndsWithin, Done, greatest_end, Inner, CycleOutcome, Running, Ended}
 use Rattle.tomex_cycle.proofs.Words.{progress_of, finishes, GoesOn, SkipsTo, events_in, IsFree, IsSkipped, IsAt}
-use Rattle.tomex_cycle.proofs.Words.{RunEndsAfter, run_of, first_timed, clocks, Station}
+use Rattle.tomex_cycle.proofs.Words.{RunEndsAfter, run_of, first_timed, clocks, Station, slot}
 use Rattle.tomex_cycle.specs.Finishes.{FinishesNext}
 use Rattle.tomex_cycle.proofs.Happens.{finish_happens, over_happens, run_happens, quiet_none}
 use Rattle.tomex_cycle.proofs.Runs.{run_whole}
@@ -20,8 +19,8 @@ pub active_not_settled : (made : CycleOutcome) → made ≡ made_as.Active → m
 active_not_settled made e f = cc
 
 shown_finish : {A : Type 0} {i : Loaded} {config : Configuration} {n u : ℕ} (v x : ℕ) (at : Inner A)
-    → RunEndsAfter i config n → IsAt i config n u at → x < 96
-    → finishes v (slice_index_or at.pools.slots x None) ≡ true → 0 < events_in v (first_timed config i (n + 1))
+    → RunEndsAfter i config n → IsAt i config n u at → x < 96 → finishes v (slot at.pools.slots x) ≡ true
+    → 0 < events_in v (first_timed config i (n + 1))
 shown_finish {i} {config} {n} {u} v x at run shot small e =
     run_happens at.issued v run shot.issue.few (finish_happens i (clocks u u u) v x (first_timed config i at.issued)
     (ap (finishes v) (sym (shot.issue.shown.slots.slots x small)) ∙ e))

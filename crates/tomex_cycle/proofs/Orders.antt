@@ -24,8 +24,8 @@ in_order i c [] x = refl
 in_order i c (d ∷ older) x = in_by i c d older x (place_of d) refl (in_order i c older x)
   where
     in_by : (i : Loaded) (c : Clocks) (d : Done) (older : List Done) (x : ℕ) (p : Option ℕ) → place_of d ≡ p
-        → is_some (station_at i c older x) ≡ is_listed (order_of c.end older) x → is_some (station_at i c (d ∷ older) x)
-        ≡ is_listed (order_of c.end (d ∷ older)) x
+        → is_some (station_at i c older x) ≡ is_listed (order_of c.end older) x
+        → is_some (station_at i c (d ∷ older) x) ≡ is_listed (order_of c.end (d ∷ older)) x
     in_by i c d older x None e before = elim (cases_Bool (nat_lt c.end d.at.end)) [
       | inl l ↦ rw (e, l) before
       | inr l ↦ rw (e, l) before
@@ -112,8 +112,8 @@ order_rises {i} {c} {st} (d ∷ older) shown =
         → AreOlder st.issue_numbers c.end (d ∷ older)
     by_place None f l before = longer (rw (l, f) refl) before
     by_place (Some p) f l before =
-        let number : slice_index st.issue_numbers p ≡ length older =
-        (held_here shown p (rw (f, l, eq-eqb p p refl) refl)).number in
+        let number : slice_index st.issue_numbers p ≡ length older = (held_here shown p (rw (f, l, eq-eqb p p refl)
+        refl)).number in
         let order : order_of c.end (d ∷ older) ≡ order_of c.end older ++ (p ∷ []) = rw (l, f) refl in
         record {
           rises = rw order (rises-append st.issue_numbers (order_of c.end older) p before.rises

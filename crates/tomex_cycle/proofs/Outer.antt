@@ -9,7 +9,7 @@ use Rattle.tomex_cycle.proofs.Words.{shown, qi_of, all_tags, producer, Inner, Is
 use Rattle.tomex_cycle.proofs.Words.{RunEndsAfter, first_timed, run_of, steps_in, byte_at, clocks, ShowsRegisters}
 use Rattle.tomex_cycle.proofs.Words.{ShowsStations, IsSnapshot, IsYetToIssue, Seen, overwrites, step_ends_it}
 use Rattle.tomex_cycle.proofs.Words.{step_follows, step_joins, timed_by, IsSound, Pools, Station, Core, Front, IsUpTo}
-use Rattle.tomex_cycle.proofs.Words.{core, core_of}
+use Rattle.tomex_cycle.proofs.Words.{core, core_of, slot}
 use Rattle.tomex_image.specs.Image.{IsLoaded}
 use Rattle.tomex_rvexec.specs.History.{Leaves, history as first_steps}
 use Rattle.tomex_rvexec.specs.Machine.{State}
@@ -35,9 +35,8 @@ none_at : {A : Type 0} (n : ℕ) (xs : List (Option A)) → xs ≡ replicate n N
     → slice_index_or xs x None ≡ None
 none_at n xs e x l = rw (e, get_or-replicate) refl
 
-shows_none : (i : Loaded) (st : Pools) → length st.slots ≡ 96
-    → ((x : ℕ) → x < 96 → slice_index_or st.slots x None ≡ None) → st.issue_numbers ≡ replicate 128 0
-    → ShowsStations i (clocks 0 0 0) [] st
+shows_none : (i : Loaded) (st : Pools) → length st.slots ≡ 96 → ((x : ℕ) → x < 96 → slot st.slots x ≡ None)
+    → st.issue_numbers ≡ replicate 128 0 → ShowsStations i (clocks 0 0 0) [] st
 shows_none i st places slots issue_numbers = record {
   places = places;
   slots = slots;
@@ -87,8 +86,8 @@ sound_start {i} {config} {inner} good loaded fresh = record {
   loaded = loaded;
   low = omega arith;
   after = λ n run.
-      let k : 0 < greatest_end (first_timed config i (n + 1)) = more_left inner.issued 0 run
-      (let none : inner.issued ≡ 0 = fresh.none in omega arith) (fresh.start config n).issue.next in
+      let k : 0 < greatest_end (first_timed config i (n + 1)) = more_left inner.issued 0 run (let none : inner.issued
+      ≡ 0 = fresh.none in omega arith) (fresh.start config n).issue.next in
       record {
         high = omega arith;
         answer = rw (lt-ltb 0 (greatest_end (first_timed config i (n + 1))) k) refl;
@@ -123,13 +122,17 @@ tables_later t newer h later =
       busy = x;
       registers = map (qi_of t (newer ++ h)) (range_with_len 0 32);
     } in
-    let g : List (Option Tag) → Tables =
-    λ x. record { cycle = t; busy = filter_map (shown t h) all_tags; registers = x } in
+    let g : List (Option Tag) → Tables = λ x. record {
+      cycle = t;
+      busy = filter_map (shown t h) all_tags;
+      registers =
+          x;
+    } in
     ap f a ∙ ap g b
 
 -- the tables of the whole run are those of what has issued
-tables_whole : {config : Configuration} {i : Loaded} {n : ℕ} (count t : ℕ) → RunEndsAfter i config n
-    → count ≤ n + 1 → (count ≤ n → IsYetToIssue i config count t)
+tables_whole : {config : Configuration} {i : Loaded} {n : ℕ} (count t : ℕ) → RunEndsAfter i config n → count ≤ n + 1
+    → (count ≤ n → IsYetToIssue i config count t)
     → tables_of t (run_of config i) ≡ tables_of t (first_timed config i count)
 tables_whole {config} {i} {n} count t run few next =
     let rest = rest_to count (n + 1) t run next few (omega arith) in
@@ -238,5 +241,6 @@ pub is_over_at : {A : Type 0} {config : Configuration} {i : Loaded} {n : ℕ} (t
 is_over_at {config = config} {i} {n} t at run shot l =
     let e : at.issued ≡ n + 1 = all_issued t at.issued run shot.issue.few shot.issue.next l in
     let s : Core = core_of at in
-    let P : ℕ → Type 0 = λ x. IsSnapshot i config n t (core x s.front s.memory) → IsOver run (core x s.front s.memory) in
+    let P : ℕ → Type 0 = λ x. IsSnapshot i config n t (core x s.front s.memory) → IsOver run (core x s.front s.memory)
+    in
     subst P (sym e) (λ seen. over_at t s.front s.memory run seen l) shot

@@ -33,14 +33,13 @@ AreLow [] = ⊤
 AreLow (d ∷ older) = IsLow d × AreLow older
 
 station_low : {config : Configuration} (older : List Done) (pool : Option PoolId) (station : Option ℕ) (issue : ℕ)
-    → IsWithinLimits config → has_station config older pool issue ≡ true
-    → MatchOption pool (station ≡ None) (λ p. (n : ℕ) × (station ≡ Some n) × IsLeast (is_free p older issue) n)
-    → (n : ℕ) → station ≡ Some n → n < 16
+    → IsWithinLimits config → has_station config older pool issue ≡ true → MatchOption pool (station ≡ None)
+    (λ p. (n : ℕ) × (station ≡ Some n) × IsLeast (is_free p older issue) n) → (n : ℕ) → station ≡ Some n → n < 16
 station_low older None station issue good has is n e = let f : station ≡ None = is in absurd (cc)
 station_low {config} older (Some p) station issue good has is n e =
     let found = number_is config older p issue has in
-    let same : is.0 ≡ least (is_free p older issue) (stations_of config p) =
-    least_same (is_free p older issue) _ _ is.2 found.0 in
+    let same : is.0 ≡ least (is_free p older issue) (stations_of config p) = least_same (is_free p older issue) _ _ is.2
+    found.0 in
     let g : n ≡ is.0 = cc in
     let m : stations_of config p ≤ 16 = stations_high config p good in
     omega arith
@@ -64,8 +63,9 @@ place_low pool station x h3 h4 = grind (arith, nat_tests)
 abbrev pub is_vacant : ℕ → ℕ → List Done → Bool
 is_vacant end x h = list_all (λ e. not (holds_place end x e)) h
 
-held_same : (p q : PoolId) (m n x issue end : ℕ) → m < 16 → n < 16 → 16 * place_of_pool p + m ≡ x → 16 * place_of_pool q
-    + n ≡ x → issue ≤ end → (((place_of_pool q == place_of_pool p) && nat_le issue end) && (n == m)) ≡ true
+held_same : (p q : PoolId) (m n x issue end : ℕ) → m < 16 → n < 16 → 16 * place_of_pool p + m ≡ x
+    → 16 * place_of_pool q + n ≡ x → issue ≤ end
+    → (((place_of_pool q == place_of_pool p) && nat_le issue end) && (n == m)) ≡ true
 held_same p q m n x issue end lm ln a b l =
     rw (eq-eqb (place_of_pool q) (place_of_pool p) (omega arith), eq-eqb n m (omega arith), le-leb issue end l) refl
 
@@ -75,8 +75,8 @@ held_with : (pool : Option PoolId) (station : Option ℕ) (p q : PoolId) (m n is
 held_with pool station p q m n issue end e f h = rw (e, f) h
 
 -- what is free for a step that issues isn't held by an older one
-vacant_one : (p : PoolId) (n x issue end : ℕ) (e : Done) → IsLow e → n < 16 → 16 * place_of_pool p + n ≡ x → issue ≤ end
-    + 1 → not (is_held p issue e && is_number e.at.station n) ≡ true → not (holds_place end x e) ≡ true
+vacant_one : (p : PoolId) (n x issue end : ℕ) (e : Done) → IsLow e → n < 16 → 16 * place_of_pool p + n ≡ x
+    → issue ≤ end + 1 → not (is_held p issue e && is_number e.at.station n) ≡ true → not (holds_place end x e) ≡ true
 vacant_one p n x issue end e few small sum l free = elim (cases_Bool (holds_place end x e)) [
   | inr h ↦ rw h refl
   | inl h ↦
@@ -98,9 +98,8 @@ vacant_all p n x issue end (e ∷ h) few small sum l free =
     rw (vacant_one p n x issue end e few.0 small sum l two.0, vacant_all p n x issue end h few.1 small sum l two.1) refl
 
 free_here : (older : List Done) (pool : Option PoolId) (station : Option ℕ) (issue n : ℕ) (p : PoolId) → pool ≡ Some p
-    → station ≡ Some n
-    → MatchOption pool (station ≡ None) (λ p. (n : ℕ) × (station ≡ Some n) × IsLeast (is_free p older issue) n)
-    → is_free p older issue n ≡ true
+    → station ≡ Some n → MatchOption pool (station ≡ None)
+    (λ p. (n : ℕ) × (station ≡ Some n) × IsLeast (is_free p older issue) n) → is_free p older issue n ≡ true
 free_here older pool station issue n p h6 h7 h8 = grind (arith, nat_tests)
 
 -- a step's place is vacant of older ones as long as it is the step's
@@ -161,8 +160,8 @@ least_test p a u l le = grind (arith, nat_tests)
 
 -- Tables.
 
-same_tag : (p q : PoolId) (m n : ℕ) → m < 16 → n < 16 → (16 * place_of_pool q + n == 16 * place_of_pool p + m)
-    ≡ ((place_of_pool q == place_of_pool p) && (n == m))
+same_tag : (p q : PoolId) (m n : ℕ) → m < 16 → n < 16
+    → (16 * place_of_pool q + n == 16 * place_of_pool p + m) ≡ ((place_of_pool q == place_of_pool p) && (n == m))
 same_tag p q m n a b = grind (arith, nat_tests)
 
 pub same_place : (p : PoolId) (m : ℕ) (pool : Option PoolId) (station : Option ℕ) → m < 16

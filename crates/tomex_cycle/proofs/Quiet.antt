@@ -202,8 +202,8 @@ start_quiet : {config : Configuration} (v : ℕ) (h : List Done) (s : Step) (uni
     → IsWithinLimits config → AllQuiet v h → issue ≢ v → address ≢ v
     → can_start config h s unit issue address (v + 1) ≡ true → can_start config h s unit issue address v ≡ true
 start_quiet {config} v h s unit issue address l good quiet i a e =
-    let p = and_parts (nat_lt issue (v + 1) && nat_lt address (v + 1) && has_operands h s (v + 1) &&
-    are_conflicts_finished h s (v + 1)) (has_unit config h unit (v + 1)) e in
+    let p = and_parts (nat_lt issue (v + 1) && nat_lt address (v + 1) && has_operands h s (v + 1)
+    && are_conflicts_finished h s (v + 1)) (has_unit config h unit (v + 1)) e in
     let q = and_parts (nat_lt issue (v + 1) && nat_lt address (v + 1) && has_operands h s (v + 1))
     (are_conflicts_finished h s (v + 1)) p.0 in
     let r = and_parts (nat_lt issue (v + 1) && nat_lt address (v + 1)) (has_operands h s (v + 1)) q.0 in
@@ -242,18 +242,18 @@ abbrev pub AllQuietTo : ℕ → ℕ → List Done → Type 0
 AllQuietTo u v h = (k : ℕ) → u ≤ k → k ≤ v → AllQuiet k h
 
 start_by : {config : Configuration} (v : ℕ) (h : List Done) (x : Step) (at : Times) (unit : Option UnitId) → 0 < v
-    → IsWithinLimits config → AllQuiet v h → at.issue ≢ v → cycle_of at.address ≢ v → at.issue ≢ v + 1
-    → MatchOption unit (at.start ≡ at.issue) (λ u. IsLeast (can_start config h x u at.issue (cycle_of at.address))
-    at.start) → at.start ≢ v + 1
+    → IsWithinLimits config → AllQuiet v h → at.issue ≢ v → cycle_of at.address ≢ v → at.issue ≢ v + 1 → MatchOption
+    unit (at.start ≡ at.issue) (λ u. IsLeast (can_start config h x u at.issue (cycle_of at.address)) at.start)
+    → at.start ≢ v + 1
 start_by v h x at None l good quiet i a next timed e = let f : at.start ≡ at.issue = timed in next (omega arith)
 start_by {config} v h x at (Some unit) l good quiet i a next timed e =
     not_least (can_start config h x unit at.issue (cycle_of at.address)) at.start v
     (start_quiet v h x unit at.issue (cycle_of at.address) l good quiet i a) timed e
 
 end_by : {config : Configuration} (v : ℕ) (h : List Done) (at : Times) (unit : Option UnitId) (dest : Bool)
-    → IsWithinLimits config → AllAtRest v h → at.finish ≢ v → at.issue ≢ v + 1 → (dest ≡ false → at.finish ≢ v + 1)
-    → MatchOption unit (at.end ≡ at.issue) (λ u. MatchBool dest (IsLeast (can_end config h at.finish) at.end) (at.end ≡
-    at.finish)) → at.end ≢ v + 1
+    → IsWithinLimits config → AllAtRest v h → at.finish ≢ v → at.issue ≢ v + 1 → (dest ≡ false → at.finish ≢ v + 1) →
+    MatchOption unit (at.end ≡ at.issue)
+    (λ u. MatchBool dest (IsLeast (can_end config h at.finish) at.end) (at.end ≡ at.finish)) → at.end ≢ v + 1
 end_by v h at None dest good quiet f i g timed e = let k : at.end ≡ at.issue = timed in i (omega arith)
 end_by {config} v h at (Some unit) true good quiet f i g timed e =
     not_least (can_end config h at.finish) at.end v (end_quiet v h at.finish good quiet f) timed e
@@ -283,14 +283,14 @@ quiet_next {config} u v (d ∷ h) good timed l m quiet free =
     let rest : AllAtRest v h = quiet_rests v h before in
     let low : 0 < v = omega arith in
     let apart : last_issue h ≢ v + 1 = last_issue_quiet (v + 1) h (omega arith) (quiet_rests (v + 1) h older) in
-    let issue : d.at.issue ≢ v + 1 = not_least (can_issue config h d.step) d.at.issue v
-    (issue_quiet v h d.step low good timed.1 rest apart) timed.0.issue in
+    let issue : d.at.issue ≢ v + 1 = not_least (can_issue config h d.step) d.at.issue v (issue_quiet v h d.step low good
+    timed.1 rest apart) timed.0.issue in
     let address = address_by v h d.step d.at (is_memory d.step) low rest now.issue timed.0.address in
     let start = start_by v h d.step d.at (step_unit d.step) low good before now.issue now.address issue timed.0.start in
     let order : d.at.start ≤ d.at.finish = (reach d h good timed).order in
     let finish = finish_by u v d.at.start d.at.finish m (λ k a b. (quiet k a b).0.start) start order free.0 in
-    let end : d.at.end ≢ v + 1 = end_by v h d.at (step_unit d.step) (is_some (step_dest d.step)) good rest
-    now.finish issue (λ silent. finish) timed.0.end in
+    let end : d.at.end ≢ v + 1 = end_by v h d.at (step_unit d.step) (is_some (step_dest d.step)) good rest now.finish
+    issue (λ silent. finish) timed.0.end in
     (record { issue = issue; address = address; start = start; finish = finish; end = end }, older)
 
 -- if nothing happens in the cycle u, and nothing that had started finishes in the next ones, nothing happens in them
@@ -371,7 +371,7 @@ pub settled_quiet : {config : Configuration} (u n : ℕ) (h : List Done) → IsW
     → 0 < u → AllSettled u h → ((w : ℕ) → u < w → w ≤ u + n → AllFree u w h) → (k : ℕ) → u < k → k ≤ u + n
     → AllQuiet k h
 settled_quiet u n h good timed l settled free k a b =
-    let first : AllQuiet (u + 1) h =
-    settled_next (λ d. ⊥) u h (λ d none. absurd none) good timed l settled (free (u + 1) (omega arith) (omega arith)) in
+    let first : AllQuiet (u + 1) h = settled_next (λ d. ⊥) u h (λ d none. absurd none) good timed l settled
+    (free (u + 1) (omega arith) (omega arith)) in
     quiet_on (u + 1) (n - 1) h good timed (omega arith) first
     (λ w c d. free_on u w h settled (free w (omega arith) (omega arith))) k (omega arith) (omega arith)

@@ -27,8 +27,8 @@ abbrev pub AreServed : ℕ → ℕ → ℕ → (Done → Bool) → List Done →
 AreServed t n set goes [] = ⊤
 AreServed t n set goes (d ∷ older) = Serves t n set goes d older × AreServed t n set goes older
 
-count_on : (goes : Done → Bool) (d : Done) (older : List Done) → goes d ≡ true → count_by goes (d ∷ older) ≡ 1
-    + count_by goes older
+count_on : (goes : Done → Bool) (d : Done) (older : List Done) → goes d ≡ true
+    → count_by goes (d ∷ older) ≡ 1 + count_by goes older
 count_on goes d older e = rw (sum_by-cons, e) refl
 
 count_off : (goes : Done → Bool) (d : Done) (older : List Done) → goes d ≡ false
@@ -41,8 +41,8 @@ pub record IsServed (t n set : ℕ) (goes : Done → Bool) (part : List Done) : 
   pub taken : (x : ℕ) → is_listed (take n (filter (has set) (order_of t part))) x ≡ goes_at t goes part x
 
 -- who doesn't go changes nothing
-same_by : {t n set : ℕ} {goes : Done → Bool} (d : Done) {older : List Done} → goes d ≡ false
-    → filter (has set) (order_of t (d ∷ older)) ≡ filter (has set) (order_of t older)
+same_by : {t n set : ℕ} {goes : Done → Bool} (d : Done) {older : List Done} → goes d ≡ false → filter (has set)
+    (order_of t (d ∷ older)) ≡ filter (has set) (order_of t older)
     → ((x : ℕ) → holds_place t x d ≡ true → goes_at t goes older x ≡ false) → IsServed t n set goes older
     → IsServed t n set goes (d ∷ older)
 same_by {t} {n} {goes} d {older} stays same alone before = record {
@@ -75,14 +75,14 @@ ready_by {t} {n} {set} p {goes} {d} {older} place late member serves alone befor
     holds_other : (x : ℕ) → (p == x) ≡ false → holds_place t x d ≡ false
     holds_other x e = rw (place, e) refl
 
-    go : (xs : List ℕ) → filter (has set) (order_of t older) ≡ xs → filter (has set) (order_of t (d ∷ older))
-        ≡ filter (has set) (order_of t older) ++ (p ∷ []) → holds_place t p d ≡ true
+    go : (xs : List ℕ) → filter (has set) (order_of t older) ≡ xs → filter (has set)
+        (order_of t (d ∷ older)) ≡ filter (has set) (order_of t older) ++ (p ∷ []) → holds_place t p d ≡ true
         → goes d ≡ nat_lt (count_by goes older) n → IsServed t n set goes (d ∷ older)
     go xs e order held ready = elim (cases_Bool (nat_lt (length xs) n)) [
       | inl l ↦
           let few : length xs < n = ltb-true _ _ l in
-          let so_many : count_by goes older ≡ length xs =
-          before.count ∙ (ap (λ (ys : List ℕ). min n (length ys)) e ∙ omega arith) in
+          let so_many : count_by goes older ≡ length xs = before.count ∙ (ap (λ (ys : List ℕ). min n (length ys)) e
+          ∙ omega arith) in
           let on : goes d ≡ true = ready ∙ lt-ltb (count_by goes older) n (omega arith) in
           record {
             count = count_on goes d older on ∙ (rw (order, e, length-append) (omega arith));
@@ -96,8 +96,8 @@ ready_by {t} {n} {set} p {goes} {d} {older} place late member serves alone befor
           }
       | inr l ↦
           let full : n ≤ length xs = ltb-false _ _ l in
-          let so_many : count_by goes older ≡ n =
-          before.count ∙ (ap (λ (ys : List ℕ). min n (length ys)) e ∙ omega arith) in
+          let so_many : count_by goes older ≡ n = before.count ∙ (ap (λ (ys : List ℕ). min n (length ys)) e ∙ omega
+          arith) in
           let off : goes d ≡ false = ready ∙ le-ltb (count_by goes older) n (omega arith) in
           record {
             count = count_off goes d older off ∙ (rw (order, e, length-append) (omega arith));

@@ -13,7 +13,7 @@ use Rattle.tomex_cycle.proofs.Words.{eq-eqb, Loaded, Configuration, IsWithinLimi
 use Rattle.tomex_cycle.proofs.Words.{step_unit, Done, cycle_of, is_memory, AreTimed, IsTimed, IsLeast, can_issue}
 use Rattle.tomex_cycle.proofs.Words.{can_start, AllSettled, finishes, AreResults, NoneWaits, clocks, holds_place}
 use Rattle.tomex_cycle.proofs.Words.{place_of, station_at, station_of, ShowsStations, is_waiting, Pools, waits, Station}
-use Rattle.tomex_cycle.proofs.Words.{IsUpTo, step_pool}
+use Rattle.tomex_cycle.proofs.Words.{IsUpTo, step_pool, slot}
 use Rattle.tomex_cycle.proofs.Cycles.{can_start_later}
 use Rattle.tomex_cycle.proofs.Runs.{AreLater}
 use Rattle.tomex_cycle.proofs.StartsTests.{ready_is, no_address}
@@ -45,7 +45,7 @@ left_empty t u x (n ∷ newer) d older up e held over = elim (cases_Bool (holds_
 pub record IsKept (i : Loaded) (s t u : ℕ) (new : Pools) (d : Done) (older : List Done) (x : ℕ) : Type 0 where
   pub small : x < 96
   pub late : u < d.at.end
-  pub slot : slice_index_or new.slots x None ≡ Some (station_of i (clocks u u u) d older)
+  pub slot : slot new.slots x ≡ Some (station_of i (clocks u u u) d older)
   pub stays : station_of i (clocks s t t) d older ≡ station_of i (clocks u u u) d older
 
 pub record AreKept (i : Loaded) (s t u : ℕ) (new : Pools) (part : List Done) : Type 0 where
@@ -66,14 +66,14 @@ are_kept {i} {s = s} {t} {u} up e before after same = record {
       let place = (and_parts (is_number (place_of d) x) (nat_lt t d.at.end) held).0 in
       let few = (low (d ∷ older) (part_up_to newer here)).0 in
       let small : x < 96 = place_low (step_pool d.step) d.at.station x few (held_place t x d held) in
-      let was = ap (λ xs. slice_index_or xs x None) same ∙ (before.slots x small
-      ∙ rw split (station_here (clocks s t t) newer d older x here (omega arith) held)) in
+      let was = ap (λ xs. slice_index_or xs x None) same ∙ (before.slots x small ∙ rw split (station_here (clocks s t t)
+      newer d older x here (omega arith) held)) in
       elim (cases_Bool (nat_lt u d.at.end)) [
         | inr l ↦ absurd (some_not_none (station_of i (clocks s t t) d older) (sym was ∙ (after.slots x small
             ∙ rw split (left_empty t u x newer d older here e held (ltb-false u d.at.end l)))))
         | inl l ↦
-            let now = after.slots x small
-            ∙ rw split (station_here (clocks u u u) newer d older x here (omega arith) (rw (place, l) refl)) in
+            let now = after.slots x small ∙ rw split (station_here (clocks u u u) newer d older x here (omega arith)
+            (rw (place, l) refl)) in
             record {
               small = small;
               late = ltb-true u d.at.end l;
@@ -84,8 +84,8 @@ are_kept {i} {s = s} {t} {u} up e before after same = record {
       ];
 }
 
-not_begun : (t u start finish : ℕ) → u ≡ t + 1 → (if nat_le start t then Some finish else None)
-    ≡ (if nat_le start u then Some finish else None) → start ≢ u
+not_begun : (t u start finish : ℕ) → u ≡ t + 1
+    → (if nat_le start t then Some finish else None) ≡ (if nat_le start u then Some finish else None) → start ≢ u
 not_begun t u start finish e same = grind (arith, nat_tests)
 
 not_given : (t u a address : ℕ) (memory : Bool) → u ≡ t + 1 → (memory ≡ false → a ≡ 0)
@@ -113,7 +113,7 @@ over_quiet t u d older up over e =
 -- a busy step, if the cycle leaves its station as it was
 busy_rests : {i : Loaded} {config : Configuration} {s t u x : ℕ} {new : Pools} (d : Done) (older : List Done)
     → IsUpTo i config t (d ∷ older) → u ≡ t + 1 → IsKept i s t u new d older x
-    → ((x : ℕ) → x < 96 → finishes u (slice_index_or new.slots x None) ≡ false) → IsAtRest u d
+    → ((x : ℕ) → x < 96 → finishes u (slot new.slots x) ≡ false) → IsAtRest u d
 busy_rests {t = t} {u} {x} d older up e kept free =
     let order : d.at.start ≤ d.at.finish = (reach d older up.lawful up.timed).order in
     let issued : d.at.issue ≤ t = up.issued.0 in
@@ -129,7 +129,7 @@ busy_rests {t = t} {u} {x} d older up e kept free =
 
 pub issued_quiet : {i : Loaded} {config : Configuration} {t u : ℕ} {new : Pools} (part : List Done)
     → IsUpTo i config t part → u ≡ t + 1 → AreKept i t t u new part
-    → ((x : ℕ) → x < 96 → finishes u (slice_index_or new.slots x None) ≡ false) → AllQuiet u part
+    → ((x : ℕ) → x < 96 → finishes u (slot new.slots x) ≡ false) → AllQuiet u part
 issued_quiet [] up e kept free = tt
 issued_quiet {t = t} {u} (d ∷ older) up e kept free = (
   elim (cases_Bool (nat_lt t d.at.end)) [
@@ -157,7 +157,8 @@ waits_before {i} {config} u d older up e = of (step_unit d.step) up.timed.0.star
     of : (unit : Option UnitId) → MatchOption unit (d.at.start ≡ d.at.issue)
         (λ k. IsLeast (can_start config older d.step k d.at.issue (cycle_of d.at.address)) d.at.start)
         → is_waiting (station_of i (clocks u u u) d older) ≡ true
-    of None s = let same : d.at.start ≡ d.at.issue = s in let past : d.at.issue ≤ u = up.issued.0 in absurd (omega arith)
+    of None s = let same : d.at.start ≡ d.at.issue = s in let past : d.at.issue ≤ u =
+        up.issued.0 in absurd (omega arith)
     of (Some k) s =
         let can = can_start_is config older d.step k d.at.issue (cycle_of d.at.address) (u + 1) (rw e at s.0) in
         ready_is u (u + 1) d older up refl ∙ and_from _ _ (and_from _ _ (and_from _ _
@@ -166,7 +167,7 @@ waits_before {i} {config} u d older up e = of (step_unit d.step) up.timed.0.star
 
 pub issued_settles : {i : Loaded} {config : Configuration} {t u : ℕ} {new : Pools} (part : List Done)
     → IsUpTo i config t part → u ≡ t + 1 → AreKept i u t u new part
-    → ((x : ℕ) → x < 96 → finishes u (slice_index_or new.slots x None) ≡ false) → NoneWaits new.slots
+    → ((x : ℕ) → x < 96 → finishes u (slot new.slots x) ≡ false) → NoneWaits new.slots
     → AllSettled u part
 issued_settles [] up e kept free idle = tt
 issued_settles {t = t} {u} (d ∷ older) up e kept free idle = (
@@ -201,9 +202,10 @@ issued_settles {t = t} {u} (d ∷ older) up e kept free idle = (
   issued_settles older (older_up_to up) e (older_kept kept) free idle,
 )
 
-start_after : (config : Configuration) (d : Done) (older : List Done) (unit : Option UnitId)
-    → MatchOption unit (d.at.start ≡ d.at.issue) (λ u. IsLeast (can_start config older d.step u d.at.issue (cycle_of
-    d.at.address)) d.at.start) → d.at.issue ≤ d.at.start
+start_after : (config : Configuration) (d : Done) (older : List Done) (unit : Option UnitId) → MatchOption unit
+    (d.at.start ≡ d.at.issue)
+    (λ u. IsLeast (can_start config older d.step u d.at.issue (cycle_of d.at.address)) d.at.start)
+    → d.at.issue ≤ d.at.start
 start_after config d older None timed = let e : d.at.start ≡ d.at.issue = timed in omega arith
 start_after config d older (Some u) timed = let l : d.at.issue < d.at.start =
     can_start_later config d older u d.at.start timed.0 in omega arith
@@ -212,9 +214,10 @@ address_after : {config : Configuration} (d : Done) {older : List Done} (u : ℕ
     → u < d.at.issue → cycle_of d.at.address ≡ u → 0 < u → ⊥
 address_after d {older} u timed l e low = grind (arith, nat_tests)
 
-start_apart : (config : Configuration) (d : Done) (older : List Done) (u : ℕ) (unit : Option UnitId)
-    → MatchOption unit (d.at.start ≡ d.at.issue) (λ k. IsLeast (can_start config older d.step k d.at.issue (cycle_of
-    d.at.address)) d.at.start) → u < d.at.issue → d.at.issue ≢ u + 1 → d.at.start ≢ u + 1
+start_apart : (config : Configuration) (d : Done) (older : List Done) (u : ℕ) (unit : Option UnitId) → MatchOption unit
+    (d.at.start ≡ d.at.issue)
+    (λ k. IsLeast (can_start config older d.step k d.at.issue (cycle_of d.at.address)) d.at.start) → u < d.at.issue
+    → d.at.issue ≢ u + 1 → d.at.start ≢ u + 1
 start_apart config d older u None timed late apart e = let same : d.at.start ≡ d.at.issue = timed in apart (omega arith)
 start_apart config d older u (Some k) timed late apart e = let l : d.at.issue < d.at.start =
     can_start_later config d older k d.at.start timed.0 in omega arith
@@ -255,7 +258,7 @@ later_due P config u w (d ∷ newer) h timed later due = (
 -- of what had started, and finishes in a cycle, the stations show what holds of it
 pub issued_due : (P : Done → Type 0) {i : Loaded} {config : Configuration} {u w : ℕ} {st : Pools} (part : List Done)
     → IsUpTo i config u part → u < w → ShowsPart i (clocks u u u) st part
-    → ((d : Done) (x : ℕ) (s : Station) → x < 96 → place_of d ≡ Some x → slice_index_or st.slots x None ≡ Some s
+    → ((d : Done) (x : ℕ) (s : Station) → x < 96 → place_of d ≡ Some x → slot st.slots x ≡ Some s
     → s.instr ≡ d.step.instr → finishes w (Some s) ≡ true → P d) → AllDue P u w part
 issued_due P [] up l shown of = tt
 issued_due P {i} {u = u} {w} (d ∷ older) up l shown of = (
@@ -276,7 +279,7 @@ issued_due P {i} {u = u} {w} (d ∷ older) up l shown of = (
 -- no station shows a finish
 pub issued_free : {i : Loaded} {config : Configuration} {u w : ℕ} {st : Pools} {h : List Done} → IsUpTo i config u h
     → u < w → ShowsStations i (clocks u u u) h st
-    → ((x : ℕ) → x < 96 → finishes w (slice_index_or st.slots x None) ≡ false) → AllFree u w h
+    → ((x : ℕ) → x < 96 → finishes w (slot st.slots x) ≡ false) → AllFree u w h
 issued_free {w = w} {h = h} up l shown free =
     issued_due (λ d. ⊥) h up l (shows_part up (omega arith) shown) (λ d x s small place slot instr done. both_ways
     (finishes w (Some s)) (ap (finishes w) (sym slot) ∙ free x small) done)
@@ -287,6 +290,6 @@ pub issued_results : {i : Loaded} {config : Configuration} {u w : ℕ} {st : Poo
 issued_results {w = w} {st} {h} up l shown results =
     issued_due HasResult h up l (shows_part up (omega arith) shown) of
   where
-    of : (d : Done) (x : ℕ) (s : Station) → x < 96 → place_of d ≡ Some x → slice_index_or st.slots x None ≡ Some s
+    of : (d : Done) (x : ℕ) (s : Station) → x < 96 → place_of d ≡ Some x → slot st.slots x ≡ Some s
         → s.instr ≡ d.step.instr → finishes w (Some s) ≡ true → HasResult d
     of d x s e f g h k = grind (arith, nat_tests)

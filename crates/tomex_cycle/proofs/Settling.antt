@@ -1,9 +1,9 @@
 -- A cycle that issues nothing, computes no address and ends nothing, and leaves nothing that waits for a unit, is
 -- settled.
-use Rattle.std.proofs.Common.{ℕ, ◌+◌, ◌<◌, ◌≡◌, ◌∙◌, false, arith, Option, None, inl, inr, slice_index_or, List}
+use Rattle.std.proofs.Common.{ℕ, ◌+◌, ◌<◌, ◌≡◌, ◌∙◌, false, arith, Option, inl, inr, List}
 use Rattle.tomex_cycle.proofs.Words.{◌⊎◌, Loaded, Configuration, AllSettled, finishes, IsTimetableOf, IsSnapshot}
 use Rattle.tomex_cycle.proofs.Words.{first_timed, NoneWaits, Finishes, Pools, Core, Done, IsNextCycle, IsUpTo}
-use Rattle.tomex_cycle.proofs.Words.{ShowsStations, Station, clocks}
+use Rattle.tomex_cycle.proofs.Words.{ShowsStations, Station, clocks, slot}
 use Rattle.tomex_cycle.proofs.KnownFree.{free_to}
 use Rattle.tomex_cycle.proofs.Quiet.{quiet_settles}
 use Rattle.tomex_cycle.proofs.SettledStations.{issued_settles, issued_quiet, are_kept}
@@ -14,11 +14,11 @@ use Rattle.tomex_cycle.proofs.Runs.{issued_up_to}
 pub record IsIdle (next : ℕ) (old started new : Pools) : Type 0 where
   pub same : new.slots ≡ started.slots
   pub none : (started.slots ≡ old.slots) ⊎ NoneWaits new.slots
-  pub free : (x : ℕ) → x < 96 → finishes next (slice_index_or new.slots x None) ≡ false
+  pub free : (x : ℕ) → x < 96 → finishes next (slot new.slots x) ≡ false
 
 -- no operation finishes in the cycle, as is known after it
 pub none_finishes : {slots : List (Option Station)} (next : ℕ) {f : Finishes} → IsTimetableOf slots (next + 1) f
-    → f.unsent ≡ 0 → (x : ℕ) → x < 96 → finishes next (slice_index_or slots x None) ≡ false
+    → f.unsent ≡ 0 → (x : ℕ) → x < 96 → finishes next (slot slots x) ≡ false
 none_finishes next known unsent x l =
     free_to next 0 known unsent (λ a y k. absurd (omega arith)) x next l (omega arith) (omega arith)
 

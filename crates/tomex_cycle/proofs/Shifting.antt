@@ -118,8 +118,8 @@ yet_later : {config : Configuration} {i : Loaded} {n : ℕ} (count u w : ℕ) �
 yet_later {config} {i} count u w run l m yet steady x e v low =
     let h : List Done = first_timed config i count in
     let late : u < (times_of config h x).issue = not_by h x u run.lawful (run_timed i count run.lawful) (yet x e) in
-    let never : (k : ℕ) → u < k → k ≤ w → (times_of config h x).issue ≢ k = λ k a b.
-    (rw (run_next config i count x e) at (steady_part (count + 1) k run (omega arith) (steady k a b))).0.issue in
+    let never : (k : ℕ) → u < k → k ≤ w → (times_of config h x).issue ≢ k = λ k a b. (rw (run_next config i count x e)
+    at (steady_part (count + 1) k run (omega arith) (steady k a b))).0.issue in
     let past : w < (times_of config h x).issue = grind (arith, nat_tests) in
     (times_are config h x run.lawful (run_timed i count run.lawful)).issue.1 v (omega arith)
 
@@ -130,8 +130,7 @@ shifted {config} {i} {n} {u} w {s} run l steady old =
     let h : List Done = first_timed config i s.issued in
     let slots : ShowsStations i (clocks u u u) h s.front.pools = old.issue.shown.slots in
     let status : ShowsRegisters i u h s.front.registers = old.issue.shown.status in
-    let same : AllAlike u w h =
-    all_alike u w h l (λ k a b. steady_part s.issued k run old.issue.few (steady k a b)) in
+    let same : AllAlike u w h = all_alike u w h l (λ k a b. steady_part s.issued k run old.issue.few (steady k a b)) in
     record {
       issue = record {
         few = old.issue.few;

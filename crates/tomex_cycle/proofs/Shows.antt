@@ -8,14 +8,14 @@ use Rattle.tomex_cycle.proofs.Words.{nat_tests, le-leb, Loaded, Configuration, i
 use Rattle.tomex_cycle.proofs.Words.{address_of, Busy, Tag, Done, cycle_of, is_memory, Tables, tables_of, shown, qi_of}
 use Rattle.tomex_cycle.proofs.Words.{producer, all_tags, place_of_pool, AreIssuedBy, clocks, holds_place, station_at}
 use Rattle.tomex_cycle.proofs.Words.{station_of, ShowsStations, ShowsRegisters, place_of_tag, Pools, RegStatus, IsUpTo}
+use Rattle.tomex_cycle.proofs.Words.{slot}
 use Rattle.tomex_timing.specs.Tables.{busy_of, is_under_way}
 use Rattle.tomex_cycle.proofs.Places.{low, AreLow, IsLow, same_place, turn_and}
 use Rattle.tomex_tags.specs.Contents.{a_from, busy_from}
 use Rattle.tomex_tags.specs.Places.{pool_at, tag_at_place}
 
-a_same : (t imm address cycle : ℕ) (memory : Bool)
-    → (if memory then Some (if nat_lt t cycle then imm else address) else None)
-    ≡ a_from memory (if memory && nat_le cycle t then Some address else None) imm
+a_same : (t imm address cycle : ℕ) (memory : Bool) → (if memory then Some (if nat_lt t cycle then imm else address) else
+    None) ≡ a_from memory (if memory && nat_le cycle t then Some address else None) imm
 a_same t imm address cycle memory = grind (arith, nat_tests)
 
 busy_same : (i : Loaded) (t : ℕ) (tag : Tag) (d : Done) (older : List Done)
@@ -24,9 +24,8 @@ busy_same i t tag d older =
     let a = a_same t d.step.instr.imm (address_of d.step) (cycle_of d.at.address) (is_memory d.step) in
     ap (λ (x : Option ℕ). record (busy_of t tag d older) { a = x }) a
 
-holds_test : (t : ℕ) (tag : Tag) (d : Done) → tag.number < 16 → IsLow d → d.at.issue ≤ t
-    → (is_under_way t d && is_in tag.pool (step_pool d.step) && is_number d.at.station tag.number)
-    ≡ holds_place t (place_of_tag tag) d
+holds_test : (t : ℕ) (tag : Tag) (d : Done) → tag.number < 16 → IsLow d → d.at.issue ≤ t → (is_under_way t d && is_in
+    tag.pool (step_pool d.step) && is_number d.at.station tag.number) ≡ holds_place t (place_of_tag tag) d
 holds_test t tag d small few issued =
     rw (le-leb d.at.issue t issued, same_place tag.pool tag.number (step_pool d.step) d.at.station small few)
     (turn_and (nat_lt t d.at.end) (is_in tag.pool (step_pool d.step)) (is_number d.at.station tag.number))
@@ -79,8 +78,8 @@ list_by n xs f count each = ext_get_or None xs (map f (range_with_len 0 n))
 pub tables_is : {i : Loaded} {config : Configuration} {t : ℕ} {h : List Done} {st : Pools} {rg : RegStatus}
     (busy : List (Option Busy)) → IsUpTo i config t h → ShowsStations i (clocks t t t) h st → ShowsRegisters i t h rg
     → length busy ≡ 96
-    → ((x : ℕ) → x < 96 → slice_index_or busy x None ≡ option_map (busy_from (tag_at_place x)) (slice_index_or st.slots
-    x None)) → ◌≡◌ {A = Tables} (record { cycle = t; busy = filter_map (λ b. b) busy; registers = rg.tags })
+    → ((x : ℕ) → x < 96 → slice_index_or busy x None ≡ option_map (busy_from (tag_at_place x)) (slot st.slots
+    x)) → ◌≡◌ {A = Tables} (record { cycle = t; busy = filter_map (λ b. b) busy; registers = rg.tags })
     (tables_of t h)
 tables_is {i} {t = t} {h} {rg = rg} busy up slots status count each =
     let f : ℕ → Option Busy = λ x. shown t h (tag_at_place x) in
@@ -90,6 +89,6 @@ tables_is {i} {t = t} {h} {rg = rg} busy up slots status count each =
     each x l ∙ (ap (option_map (busy_from (tag_at_place x))) (slots.slots x l) ∙ sym (rw p at s))) in
     let b = ap (filter_map (λ (x : Option Busy). x)) a ∙ (filter_map-map f (λ x. x) (range_with_len 0 96) ∙ sym
     (filter_map-map tag_at_place (shown t h) (range_with_len 0 96))) in
-    let c : rg.tags ≡ map (qi_of t h) (range_with_len 0 32) =
-    list_by 32 rg.tags (qi_of t h) status.status (λ r l. status.tags r l ∙ sym (qi_is t h r up.issued)) in
+    let c : rg.tags ≡ map (qi_of t h) (range_with_len 0 32) = list_by 32 rg.tags (qi_of t h) status.status
+    (λ r l. status.tags r l ∙ sym (qi_is t h r up.issued)) in
     same_tables _ t (filter_map (shown t h) all_tags) (map (qi_of t h) (range_with_len 0 32)) refl b c

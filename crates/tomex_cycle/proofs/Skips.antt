@@ -117,8 +117,8 @@ sound_made {new = new} {made} has high = sound_next (progress_of made) new has.s
 
 -- so do those that are passed after it
 sound_free : {A : Type 0} {i : Loaded} {config : Configuration} {cycle : ℕ} {old new : Inner A} (w : ℕ)
-    → HasMade i config cycle old made_as.Settled new → cycle + 1 ≤ w → w ≤ 2 ^ 40
-    → IsFree new.pools.slots (cycle + 1) w → IsSound i config w Running new
+    → HasMade i config cycle old made_as.Settled new → cycle + 1 ≤ w → w ≤ 2 ^ 40 → IsFree new.pools.slots (cycle + 1) w
+    → IsSound i config w Running new
 sound_free {i} {config} {cycle} {new = new} w has l high free =
     steady_sound w (sound_made has (omega arith)) l high (λ n run v from to.
     let shot = made_in has n run in
@@ -168,6 +168,11 @@ pub later_seen : {A : Type 0} {i : Loaded} {config : Configuration} {cycle w : �
     → ◌≡◌ {A = Seen} (record { image = i; config = config; cycle = w; status = now }) (seen_after seen.image seen.config
     w)
 later_seen {i} {config} {w = w} {now = now} e sound =
-    let P : Seen → Type 0 = λ x. EndsWithin x.image 262144 → ◌≡◌ {A = Seen}
-    (record { image = i; config = config; cycle = w; status = now }) (seen_after x.image x.config w) in
+    let P : Seen → Type 0 = λ x. EndsWithin x.image 262144 → ◌≡◌ {A = Seen} (record {
+      image = i;
+      config =
+          config;
+      cycle = w;
+      status = now;
+    }) (seen_after x.image x.config w) in
     subst P e (λ ends. seen_is sound ends)

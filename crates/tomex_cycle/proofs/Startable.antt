@@ -1,12 +1,12 @@
 -- The sets of the operations that can start, by kind of unit.
 use Rattle.std.proofs.Common.{ℕ, ◌<◌, ◌≡◌, ◌∙◌, Bool, true, false, refl, List, [], ◌∷◌, ◌++◌, Option, Some, None, ap}
-use Rattle.std.proofs.Common.{arith, sym, inl, inr, slice_index, slice_index_or}
+use Rattle.std.proofs.Common.{arith, sym, inl, inr, slice_index}
 use Rattle.tomex_cycle.proofs.Words.{◌==◌, ◌≢◌, ◌&&◌, not, is_none, is_some, cases_Bool, both_ways, and_parts}
 use Rattle.tomex_cycle.proofs.Words.{nat_tests, eqb-true, eqb-false, is_in, is_number, has, IsWithout, IsInIssueOrder}
 use Rattle.tomex_cycle.proofs.Words.{IsPicked, Configuration, option_of, pool_of, unit_at, unit_of, place_of_unit}
 use Rattle.tomex_cycle.proofs.Words.{PoolId, UnitId, is_of, none_in, inside_left, none_picked, no_option, is_memory_op}
 use Rattle.tomex_cycle.proofs.Words.{is_waiting, AreBusy, Pools, IsSetOf, has_address, waits, Station, IsStarting}
-use Rattle.tomex_cycle.proofs.Words.{is_clear, kind_if, kind_of, wanted, ◌||◌}
+use Rattle.tomex_cycle.proofs.Words.{is_clear, kind_if, kind_of, wanted, ◌||◌, slot}
 use Rattle.tomex_steps.specs.Steps.{bytes_at}
 use Rattle.tomex_steps.proofs.Fields.{bytes_of_op}
 use Rattle.tomex_sets.specs.Sets.{IsWith}
@@ -59,7 +59,7 @@ first_cleared st next waiting of = record {
   inside = λ x l e. e;
   found = λ x l e. absurd (both_ways (has 0 x) (none_in x) e);
   wants = λ x l e older younger by. none_in x
-      ∙ sym (wants_not st.slots older next units.Mem (slice_index_or st.slots x None) (sym (of x l) ∙ e));
+      ∙ sym (wants_not st.slots older next units.Mem (slot st.slots x) (sym (of x l) ∙ e));
   later = λ x l e. none_in x;
 }
 
@@ -119,23 +119,23 @@ addressed_one : (s : Station) → waits_for units.Mem (Some s) ≡ true → has_
 addressed_one s w =
     let two = and_parts (is_waiting s) (is_of units.Mem (unit_of s.instr.op)) w in
     let memory : is_memory_op s.instr.op ≡ true = memory_unit (pool_of s.instr.op) ∙ two.1 in
-    let address : (not (is_memory_op s.instr.op) || is_some s.address) ≡ true =
-    (and_parts (is_none s.finish && is_ready s) (not (is_memory_op s.instr.op) || is_some s.address) two.0).1 in
+    let address : (not (is_memory_op s.instr.op) || is_some s.address) ≡ true = (and_parts (is_none s.finish && is_ready
+    s) (not (is_memory_op s.instr.op) || is_some s.address) two.0).1 in
     rw memory (rw memory at address)
 
 -- all that wait are clear if each of them is
 pub all_waiting : (st : Pools) (next waiting : ℕ) → AreBusy st.slots st.busy st.issue_numbers
     → IsSetOf (waits_for units.Mem) st.slots waiting
     → ((place next : ℕ) (s : Station) (older younger : List ℕ) → place < 128
-    → slice_index_or st.slots place None ≡ Some s → has_address (Some s) ≡ true
+    → slot st.slots place ≡ Some s → has_address (Some s) ≡ true
     → IsInIssueOrder st.busy st.issue_numbers (older ++ (place ∷ younger)) → is_clear st.slots older s next ≡ true)
     → AreStartableFor st next units.Mem waiting
 all_waiting st next waiting filled of clear = record {
   inside = is_busy_there (waits_for units.Mem) st.slots st.busy st.issue_numbers waiting (none_waits units.Mem) filled
       of;
-  wants = λ x l older younger by. of x l ∙ elim (cases_Bool (waits_for units.Mem (slice_index_or st.slots x None))) [
-    | inr e ↦ e ∙ sym (wants_not st.slots older next units.Mem (slice_index_or st.slots x None) e)
-    | inl e ↦ e ∙ wants_clear st.slots older next units.Mem (slice_index_or st.slots x None) true e (λ s here. sym
+  wants = λ x l older younger by. of x l ∙ elim (cases_Bool (waits_for units.Mem (slot st.slots x))) [
+    | inr e ↦ e ∙ sym (wants_not st.slots older next units.Mem (slot st.slots x) e)
+    | inl e ↦ e ∙ wants_clear st.slots older next units.Mem (slot st.slots x) true e (λ s here. sym
         (clear x next s older younger l here (addressed_one s (ap (waits_for units.Mem) (sym here) ∙ e)) by))
   ];
 }
@@ -168,14 +168,14 @@ pub ready_for : (st : Pools) (next set : ℕ) (unit : UnitId) → AreBusy st.slo
     → IsSetOf (waits_for unit) st.slots set → unit ≢ units.Mem → AreStartableFor st next unit set
 ready_for st next set unit filled of apart = record {
   inside = is_busy_there (waits_for unit) st.slots st.busy st.issue_numbers set (none_waits unit) filled of;
-  wants = λ x l older younger by. of x l ∙ wants_unit st.slots older next unit (slice_index_or st.slots x None) apart;
+  wants = λ x l older younger by. of x l ∙ wants_unit st.slots older next unit (slot st.slots x) apart;
 }
 
 -- all that wait for a unit of a kind, if at most one operation waits
 pub single_of : (unit : UnitId) (slots : List (Option Station)) (waiting set n : ℕ) (issue_numbers : List ℕ)
     → ((a b : ℕ) → a < 128 → b < 128 → has waiting a ≡ true → has waiting b ≡ true → a ≡ b)
     → IsSetOf waits slots waiting → 0 < n
-    → ((x : ℕ) → x < 128 → has set x ≡ true → waits_for unit (slice_index_or slots x None) ≡ true)
+    → ((x : ℕ) → x < 128 → has set x ≡ true → waits_for unit (slot slots x) ≡ true)
     → IsPicked set issue_numbers n set
 single_of unit slots waiting set n issue_numbers single are some wait =
     single_picked set n issue_numbers some (λ a b l m e f. single a b l m (among a l e) (among b m f))
@@ -184,15 +184,15 @@ single_of unit slots waiting set n issue_numbers single are some wait =
     waits_too o e = grind (arith, nat_tests)
 
     among : (x : ℕ) → x < 128 → has set x ≡ true → has waiting x ≡ true
-    among x l e = are x l ∙ waits_too (slice_index_or slots x None) (wait x l e)
+    among x l e = are x l ∙ waits_too (slot slots x) (wait x l e)
 
 pub all_of : (unit : UnitId) (slots : List (Option Station)) (set : ℕ) → IsSetOf (waits_for unit) slots set → (x : ℕ)
-    → x < 128 → has set x ≡ true → waits_for unit (slice_index_or slots x None) ≡ true
+    → x < 128 → has set x ≡ true → waits_for unit (slot slots x) ≡ true
 all_of unit slots set of x l e = sym (of x l) ∙ e
 
 pub found_waiting : {st : Pools} {next waiting rest clear : ℕ} → IsSetOf (waits_for units.Mem) st.slots waiting
     → AreCleared st next waiting rest clear → (x : ℕ) → x < 128 → has clear x ≡ true
-    → waits_for units.Mem (slice_index_or st.slots x None) ≡ true
+    → waits_for units.Mem (slot st.slots x) ≡ true
 found_waiting of so x l e = sym (of x l) ∙ so.found x l e
 
 -- the oldest of the operations that can start, of a kind of unit
@@ -222,14 +222,14 @@ are_starting {config} {st} {next} all alu mul div mem bru together = record {
   units = λ unit. (each unit).1;
   count = refl;
   all = λ x l. together x ∙ ap
-      (λ z. has alu.set x || (has mul.set x || (has div.set x || (has mem.set x || z)))) (sym (or_false (has bru.set x)));
+      (λ z. has alu.set x || (has mul.set x || (has div.set x || (has mem.set x || z))))
+      (sym (or_false (has bru.set x)));
 }
   where
-    each : (unit : UnitId) → AreStartableFor st next unit
-        (slice_index (alu.ready ∷ mul.ready ∷ div.ready ∷ mem.ready ∷ bru.ready ∷ []) (place_of_unit unit))
-        × IsPicked (slice_index (alu.ready ∷ mul.ready ∷ div.ready ∷ mem.ready ∷ bru.ready ∷ []) (place_of_unit unit))
-        st.issue_numbers (option_of config unit).units
-        (slice_index (alu.set ∷ mul.set ∷ div.set ∷ mem.set ∷ bru.set ∷ []) (place_of_unit unit))
+    each : (unit : UnitId) → AreStartableFor st next unit (slice_index (alu.ready ∷ mul.ready ∷ div.ready ∷ mem.ready
+        ∷ bru.ready ∷ []) (place_of_unit unit)) × IsPicked (slice_index (alu.ready ∷ mul.ready ∷ div.ready ∷ mem.ready
+        ∷ bru.ready ∷ []) (place_of_unit unit)) st.issue_numbers (option_of config unit).units (slice_index
+        (alu.set ∷ mul.set ∷ div.set ∷ mem.set ∷ bru.set ∷ []) (place_of_unit unit))
     each units.Alu = (alu.startable, alu.picked)
     each units.Mul = (mul.startable, mul.picked)
     each units.Div = (div.startable, div.picked)

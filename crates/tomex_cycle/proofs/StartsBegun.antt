@@ -4,7 +4,7 @@ use Rattle.std.proofs.Common.{Option, Some, None, ap, sym, inl, inr, ◌≤◌}
 use Rattle.tomex_cycle.proofs.Words.{nat_lt, ◌&&◌, ◌==◌, ◌≢◌, is_some, both_ways, cases_Bool, lt-ltb, le-ltb, nat_tests}
 use Rattle.tomex_cycle.proofs.Words.{eqb-true, eqb-false, get_or-set_same, get_or-set_other, length-set, Configuration}
 use Rattle.tomex_cycle.proofs.Words.{Bytes, Fault, AllCanBegin, CanBegin, HaveBegun, begun, begun_if, AreLow, Pools}
-use Rattle.tomex_cycle.proofs.Words.{Station, has, IsWithout, AreFrom, all_left, none_after, skip_to}
+use Rattle.tomex_cycle.proofs.Words.{Station, has, IsWithout, AreFrom, all_left, none_after, skip_to, slot}
 use Rattle.tomex_cycle.proofs.Turns.{IsTaken, IsTurn, turn_at}
 
 pub none_begun : (config : Configuration) (next : ℕ) (m : Bytes) (picked : ℕ) (st : Pools) → length st.slots ≡ 96
@@ -21,7 +21,7 @@ below_other x k b e = below_more x k b (λ z. absurd (e z))
 
 -- the station of a place that is to start is still as it was
 pub still_old : {config : Configuration} {next k : ℕ} {m : Bytes} {picked : ℕ} {old now : Pools} → k < 96
-    → HaveBegun config next m picked k old now → slice_index_or now.slots k None ≡ slice_index_or old.slots k None
+    → HaveBegun config next m picked k old now → slot now.slots k ≡ slot old.slots k
 still_old {k} l before = before.slots k l ∙ rw (le-ltb k k (omega arith)) refl
 
 -- a place that isn't picked changes nothing
@@ -29,14 +29,14 @@ skip_begun : {config : Configuration} {next k : ℕ} {m : Bytes} {picked : ℕ} 
     → HaveBegun config next m picked k old now → HaveBegun config next m picked (k + 1) old now
 skip_begun {config} {next} {k} {m} {picked} {old} none before = record {
   places = before.places;
-  slots = λ x f. before.slots x f ∙ sym (ap (λ b. begun_if config next m b (slice_index_or old.slots x None))
+  slots = λ x f. before.slots x f ∙ sym (ap (λ b. begun_if config next m b (slot old.slots x))
       (below_more x k (has picked x) (λ e. rw e none)));
   issue_numbers = before.issue_numbers;
 }
 
 pub begun_here : {config : Configuration} {next k : ℕ} {m : Bytes} {picked : ℕ} {old now : Pools} (new : Pools) → k < 96
     → has picked k ≡ true
-    → ((s : Station) → slice_index_or now.slots k None ≡ Some s → CanBegin m s
+    → ((s : Station) → slot now.slots k ≡ Some s → CanBegin m s
     → new.slots ≡ slice_set now.slots k (Some (begun config next m s))) → new.issue_numbers ≡ now.issue_numbers
     → AllCanBegin m picked old.slots → HaveBegun config next m picked k old now
     → HaveBegun config next m picked (k + 1) old new
@@ -53,7 +53,7 @@ begun_here {config} {next} {k} {m} {picked} {old} {now} new l pick set issue_num
             rw (same, here, pick, lt-ltb k (k + 1) (omega arith))
             (get_or-set_same now.slots k (Some made) None (omega arith))
         | inr e ↦ get_or-set_other now.slots k x (Some made) None (eqb-false _ _ e)
-            ∙ (before.slots x f ∙ sym (ap (λ b. begun_if config next m b (slice_index_or old.slots x None))
+            ∙ (before.slots x f ∙ sym (ap (λ b. begun_if config next m b (slot old.slots x))
             (below_other x k (has picked x) (eqb-false _ _ e))))
       ];
       issue_numbers = issue_numbers ∙ before.issue_numbers;
@@ -99,7 +99,7 @@ begun_to {config} {next} {x} {m} {picked} {old = old} {now} so turn = skip_to
 -- no fault if all can start
 pub no_fault_at : {config : Configuration} {next x : ℕ} {m : Bytes} {picked rest left : ℕ} {old now : Pools}
     (fault : Option Fault) → IsTaken rest x left
-    → ((s : Station) → slice_index_or now.slots x None ≡ Some s → CanBegin m s → fault ≡ None)
+    → ((s : Station) → slot now.slots x ≡ Some s → CanBegin m s → fault ≡ None)
     → IsBegun config next m picked rest old now → fault ≡ None
 no_fault_at {x = x} fault out good so =
     let turn = turn_at so.from out in
@@ -109,7 +109,7 @@ no_fault_at {x = x} fault out good so =
 
 pub member_begun : {config : Configuration} {next x : ℕ} {m : Bytes} {picked rest left : ℕ} {old now : Pools}
     (new : Pools) → IsTaken rest x left
-    → ((s : Station) → slice_index_or now.slots x None ≡ Some s → CanBegin m s
+    → ((s : Station) → slot now.slots x ≡ Some s → CanBegin m s
     → new.slots ≡ slice_set now.slots x (Some (begun config next m s))) → new.issue_numbers ≡ now.issue_numbers
     → IsBegun config next m picked rest old now → IsBegun config next m picked left old new
 member_begun {x = x} new out set issue_numbers so =

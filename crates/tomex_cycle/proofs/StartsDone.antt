@@ -1,12 +1,12 @@
 -- The phase of starts.
-use Rattle.std.proofs.Common.{length, slice_index_or, ℕ, ◌+◌, ◌<◌, ◌≡◌, ◌∙◌, true, arith, refl, List, [], ◌∷◌, Option}
-use Rattle.std.proofs.Common.{Some, None, ap, sym, inl, inr, subst, slice_index, ◌≤◌}
+use Rattle.std.proofs.Common.{length, ℕ, ◌+◌, ◌<◌, ◌≡◌, ◌∙◌, true, arith, refl, List, [], ◌∷◌, Option, Some, None, ap}
+use Rattle.std.proofs.Common.{sym, inl, inr, subst, slice_index, ◌≤◌}
 use Rattle.tomex_cycle.proofs.Words.{◌==◌, is_some, nat_lt, if◌then◌else◌, nat_le, cases_Bool, lt-ltb, and_parts}
 use Rattle.tomex_cycle.proofs.Words.{ltb-true, ltb-false, both_ways, eqb-true, lt-leb, Loaded, Configuration, byte_in}
 use Rattle.tomex_cycle.proofs.Words.{Bytes, step_unit, Fault, Step, Done, MakesStarts, IsInside, AllCanBegin, AllInside}
 use Rattle.tomex_cycle.proofs.Words.{CanBegin, HaveBegun, HaveStored, begun, IsStarting, AreLow, ShowsMemory, clocks}
 use Rattle.tomex_cycle.proofs.Words.{holds_place, station_at, station_of, step_in, Pools, AreBusy, Station, has}
-use Rattle.tomex_cycle.proofs.Words.{get_or_past, place_of_unit, UnitId, IsUpTo}
+use Rattle.tomex_cycle.proofs.Words.{get_or_past, place_of_unit, UnitId, IsUpTo, slot}
 use Rattle.tomex_cycle.proofs.StartsMade.{begins_at, inside_is, some_is, step_is}
 use Rattle.tomex_cycle.proofs.StartsPicked.{starting_is, starts_at, starts_in, five}
 use Rattle.tomex_cycle.proofs.StartsWritten.{written_is}
@@ -14,8 +14,8 @@ use Rattle.tomex_cycle.proofs.Truth.{or_cases}
 use Rattle.tomex_cycle.proofs.Parts.{older_up_to}
 use Rattle.tomex_rvdec.specs.declared.pool.UnitId.TheVariants as units
 
-unstarted : (t u start finish : ℕ) → u ≡ t + 1 → (start == u) ≡ true → (if nat_le start t then Some finish else None)
-    ≡ None
+unstarted : (t u start finish : ℕ) → u ≡ t + 1 → (start == u) ≡ true
+    → (if nat_le start t then Some finish else None) ≡ None
 unstarted t u start finish e f = let at : start ≡ u = eqb-true start u f in rw (lt-leb start t (omega arith)) refl
 
 -- what starts has a unit and an access inside memory
@@ -57,7 +57,7 @@ low_of st x filled l e = elim (cases_Bool (nat_lt x 96)) [
   | inl k ↦ ltb-true x 96 k
   | inr k ↦
       let high : 96 ≤ x = ltb-false x 96 k in
-      let none : slice_index_or st.slots x None ≡ None = get_or_past st.slots x None (omega arith) in
+      let none : slot st.slots x ≡ None = get_or_past st.slots x None (omega arith) in
       absurd (both_ways (has st.busy x) (filled.each x l ∙ ap is_some none) e)
 ]
 
@@ -92,16 +92,15 @@ pub start_made : (config : Configuration) (next : ℕ) (old new : Pools) (m writ
     → (AreLow picked → AllInside m picked new.slots → HaveStored new.slots picked 96 m written)
     → MakesStarts config next old m fault new written
 start_made config next old new m written fault picked starting filled begins good writes i h t e up shown memory =
-    let picks : (x : ℕ) → x < 96 → has picked x ≡ starts_at t next h x =
-    λ x l. starting_is x up shown filled starting e (omega arith) in
+    let picks : (x : ℕ) → x < 96 → has picked x ≡ starts_at t next h x = λ x l. starting_is x up shown filled starting e
+    (omega arith) in
     let low : AreLow picked = λ x l k. starting_low starting filled x l k in
     let can : AllCanBegin m picked old.slots = λ x l pick.
     let r = can_begin next x h m up e memory (sym (picks x l) ∙ pick) in
     (r.0, shown.slots x l ∙ r.1, r.2) in
     let made : HaveBegun config next m picked 96 old new = begins shown.places low can in
-    let slots : (x : ℕ) → x < 96 → slice_index_or new.slots x None ≡ station_at i (clocks next t t) h x = λ x l.
-    made.slots x l ∙ (rw (lt-ltb x 96 l, picks x l, shown.slots x l) refl
-    ∙ sym (begins_at t next x [] h m up e memory)) in
+    let slots : (x : ℕ) → x < 96 → slot new.slots x ≡ station_at i (clocks next t t) h x = λ x l. made.slots x l
+    ∙ (rw (lt-ltb x 96 l, picks x l, shown.slots x l) refl ∙ sym (begins_at t next x [] h m up e memory)) in
     let stored : HaveStored new.slots picked 96 m written = writes low (all_inside can made) in
     let base : m.base ≡ i.window.base = memory.base in (
       good shown.places low can,

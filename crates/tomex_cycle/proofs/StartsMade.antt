@@ -61,8 +61,8 @@ step_is {i} t u d older up e starts =
     let pool = sym (unit_with_pool d.step) ∙ (and_parts (is_some (step_unit d.step)) (d.at.start == u) starts).0 in
     let j : value_in (field_of t older (j_of d.step)) ≡ d.step.vj = value_is t d.step.vj older (sources_of
     d.step.instr).j there.0 (unread_j i (steps_in older) d.step up.past.0 (some_is (step_pool d.step) pool)) in
-    let k : value_in (field_of t older (k_of d.step)) ≡ d.step.vk =
-    value_is t d.step.vk older (sources_of d.step.instr).k there.1 (unread_k i (steps_in older) d.step up.past.0) in
+    let k : value_in (field_of t older (k_of d.step)) ≡ d.step.vk = value_is t d.step.vk older (sources_of
+    d.step.instr).k there.1 (unread_k i (steps_in older) d.step up.past.0) in
     rw (j, k) refl
 
 goes_on : (op : Op) → is_some (unit_of op) ≡ true → end_at op ≡ None
@@ -112,13 +112,13 @@ begun_is {i} {config} t u d newer older m up e starts shown =
     let at : d.at.start ≡ u = eqb-true _ _ two.1 in
     let part = part_up_to newer up in
     let step : step_in (station_of i (clocks t t t) d older) ≡ d.step = step_is t u d older part e starts in
-    let finish : Some d.at.finish ≡ finish_from config u (step_unit d.step) =
-    finish_at config d.at.finish d.at.start d.at.issue u (step_unit d.step) two.0 part.timed.0.finish at in
-    let value = sym (result_is u d newer older up e starts shown) ∙ ap
-    (λ (x : Step). result_of x (byte_in m)) (sym step) in
+    let finish : Some d.at.finish ≡ finish_from config u (step_unit d.step) = finish_at config d.at.finish d.at.start
+    d.at.issue u (step_unit d.step) two.0 part.timed.0.finish at in
+    let value = sym (result_is u d newer older up e starts shown) ∙ ap (λ (x : Step). result_of x (byte_in m))
+    (sym step) in
     let set : Option ℕ → ℕ → Station = λ f v. record (station_of i (clocks t t t) d older) { finish = f; value = v } in
-    let first : station_of i (clocks u t t) d older ≡ set (Some d.at.finish)
-    (result_of d.step (byte_after i (steps_in older))) = rw (le-leb d.at.start u (omega arith)) refl in
+    let first : station_of i (clocks u t t) d older ≡ set (Some d.at.finish) (result_of d.step (byte_after i
+    (steps_in older))) = rw (le-leb d.at.start u (omega arith)) refl in
     first ∙ (ap (λ f. set f (result_of d.step (byte_after i (steps_in older)))) finish
     ∙ ap (λ v. set (finish_from config u (step_unit d.step)) v) value)
 
@@ -136,9 +136,9 @@ pub kept_is : {i : Loaded} {config : Configuration} (t u : ℕ) (d : Done) (olde
     → IsUpTo i config t (d ∷ older) → u ≡ t + 1 → starts_in u d ≡ false
     → station_of i (clocks u t t) d older ≡ station_of i (clocks t t t) d older
 kept_is {config = config} t u d older up e starts =
-    let same = not_u d.at.start t u e (late_unit (step_unit d.step) d.at.start d.at.issue t u
-    (λ v. IsLeast (can_start config older d.step v d.at.issue (cycle_of d.at.address)) d.at.start) up.timed.0.start
-    up.issued.0 e starts) in
+    let same = not_u d.at.start t u e (late_unit (step_unit d.step) d.at.start d.at.issue t u (λ v. IsLeast
+    (can_start config older d.step v d.at.issue (cycle_of d.at.address)) d.at.start) up.timed.0.start up.issued.0 e
+    starts) in
     rw same refl
 
 -- so each place has its next station

@@ -1,8 +1,8 @@
 -- Where no operation starts, nothing changes.
-use Rattle.std.proofs.Common.{ℕ, zero, suc, ◌≡◌, ◌∙◌, false, refl, List, Option, None, ap, sym, length, slice_index_or}
+use Rattle.std.proofs.Common.{ℕ, zero, suc, ◌≡◌, ◌∙◌, false, refl, List, Option, None, ap, sym, length}
 use Rattle.tomex_cycle.proofs.Words.{nat_lt, ◌&&◌, and_right, Configuration, byte_in, Bytes, none_in, MakesStarts}
 use Rattle.tomex_cycle.proofs.Words.{HaveBegun, HaveStored, IsStarting, begun_if, stored_at, written_by, AreBusy, Pools}
-use Rattle.tomex_cycle.proofs.Words.{Station}
+use Rattle.tomex_cycle.proofs.Words.{Station, slot}
 use Rattle.tomex_cycle.proofs.StartsDone.{start_made}
 use Rattle.tomex_cycle.proofs.StartsStored.{stored_skip}
 
@@ -10,7 +10,7 @@ none_begun : (config : Configuration) (next : ℕ) (m : Bytes) (old : Pools) →
     → HaveBegun config next m 0 96 old old
 none_begun config next m old count = record {
   places = count;
-  slots = λ x l. sym (ap (λ b. begun_if config next m b (slice_index_or old.slots x None))
+  slots = λ x l. sym (ap (λ b. begun_if config next m b (slot old.slots x))
       (ap (λ b. nat_lt x 96 && b) (none_in x) ∙ and_right (nat_lt x 96) false refl));
   issue_numbers = refl;
 }
@@ -18,8 +18,8 @@ none_begun config next m old count = record {
 none_written : (slots : List (Option Station)) (byte : ℕ → ℕ) (a k : ℕ) → byte a ≡ written_by slots 0 byte k a
 none_written slots byte a zero = refl
 none_written slots byte a (suc k) = none_written slots byte a k ∙ sym (ap
-    (λ b. stored_at b (slice_index_or slots k None) a (written_by slots 0 byte k a)) (none_in k) ∙ stored_skip
-    (slice_index_or slots k None) a (written_by slots 0 byte k a))
+    (λ b. stored_at b (slot slots k) a (written_by slots 0 byte k a)) (none_in k) ∙ stored_skip
+    (slot slots k) a (written_by slots 0 byte k a))
 
 none_stored : (slots : List (Option Station)) (m : Bytes) → HaveStored slots 0 96 m m
 none_stored slots m = record { base = refl; size = refl; bytes = λ a from. none_written slots (byte_in m) a 96 }

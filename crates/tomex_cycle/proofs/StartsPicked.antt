@@ -1,7 +1,6 @@
 -- The pass over the order picks the stations that the recurrence starts.
-use Rattle.std.proofs.Common.{append-nil, length, slice_index, slice_index_or, append_assoc, ℕ, ◌+◌, ◌<◌, ◌≤◌, ◌≡◌, ◌∙◌}
-use Rattle.std.proofs.Common.{Bool, true, false, arith, refl, List, [], ◌∷◌, ◌++◌, Option, Some, None, ap, sym, inl}
-use Rattle.std.proofs.Common.{inr}
+use Rattle.std.proofs.Common.{append-nil, length, slice_index, append_assoc, ℕ, ◌+◌, ◌<◌, ◌≤◌, ◌≡◌, ◌∙◌, Bool, true}
+use Rattle.std.proofs.Common.{false, arith, refl, List, [], ◌∷◌, ◌++◌, Option, Some, None, ap, sym, inl, inr}
 use Rattle.tomex_cycle.proofs.Addresses.{order_here}
 use Rattle.tomex_cycle.proofs.Words.{nat_lt, if◌then◌else◌, ◌&&◌, ◌==◌, not, is_some, count_by, MatchOption, nat_tests}
 use Rattle.tomex_cycle.proofs.Words.{cases_Bool, ltb-true, ltb-false, lt-ltb, and_parts, and_right, ne_eqb, Loaded}
@@ -11,7 +10,7 @@ use Rattle.tomex_cycle.proofs.Words.{last_address, source_end, IsTimed, IsLeast,
 use Rattle.tomex_cycle.proofs.Words.{has_unit, tag_at, tag_of, wanted, kind_if, kind_of, IsStarting, is_clear}
 use Rattle.tomex_cycle.proofs.Words.{ShowsStations, clocks, holds_place, order_of, place_of, station_of, no_option}
 use Rattle.tomex_cycle.proofs.Words.{is_waiting, place_at, Pools, AreBusy, IsInIssueOrder, has, PoolId, is_free, ◌||◌}
-use Rattle.tomex_cycle.proofs.Words.{IsUpTo, onto_end}
+use Rattle.tomex_cycle.proofs.Words.{IsUpTo, onto_end, slot}
 use Rattle.tomex_cycle.specs.Starts.{is_among, AreStartableFor}
 use Rattle.tomex_cycle.proofs.AddressChosen.{address_rises}
 use Rattle.tomex_cycle.proofs.Totals.{reach}
@@ -56,9 +55,8 @@ start_least {config} d {older} unit timed e = least_from (step_unit d.step) unit
     (λ v. IsLeast (can_start config older d.step v d.at.issue (cycle_of d.at.address)) d.at.start) e timed.start
 
 clear_here : {i : Loaded} {config : Configuration} {t u : ℕ} {st : Pools} (d : Done) (older : List Done)
-    → IsUpTo i config t (d ∷ older) → u ≡ t + 1 → ShowsPart i (clocks t t t) st older → cycle_of d.at.address < u
-    → is_clear st.slots (order_of t older) (station_of i (clocks t t t) d older) u ≡ are_conflicts_finished older d.step
-    u
+    → IsUpTo i config t (d ∷ older) → u ≡ t + 1 → ShowsPart i (clocks t t t) st older → cycle_of d.at.address < u →
+    is_clear st.slots (order_of t older) (station_of i (clocks t t t) d older) u ≡ are_conflicts_finished older d.step u
 clear_here {i} {t = t} {u} {st} d older up f shown l =
     let bytes = bytes_are i t d older (λ m. omega arith) in
     elim (cases_Bool (is_memory d.step)) [
@@ -90,8 +88,8 @@ begins_is {i} {config} {t} {u} {st} d older unit up f shown some =
           let issue : nat_lt d.at.issue u ≡ true = lt-ltb d.at.issue u (let z : d.at.issue ≤ t = up.issued.0 in
           omega arith) in
           let clear : nat_lt (cycle_of d.at.address) u ≡ true → is_clear st.slots (order_of t older)
-          (station_of i (clocks t t t) d older) u ≡ are_conflicts_finished older d.step u =
-          λ a. clear_here d older up f shown (ltb-true _ _ a) in
+          (station_of i (clocks t t t) d older) u ≡ are_conflicts_finished older d.step u = λ a. clear_here d older up f
+          shown (ltb-true _ _ a) in
           rw (ready, l) (tests_same (nat_lt d.at.issue u) (nat_lt (cycle_of d.at.address) u)
           (nat_lt (source_end older (j_of d.step)) u) (nat_lt (source_end older (k_of d.step)) u) _ _
           (has_unit config older unit u) issue (λ a b c. clear a) ∙ test)
@@ -151,10 +149,9 @@ no_pool_unit d {older} timed e =
 
 -- one step of a kind is served by the recurrence
 one_serves : {i : Loaded} {config : Configuration} {t u set : ℕ} {st : Pools} (unit : UnitId) (d : Done)
-    (older : List Done) → IsUpTo i config t (d ∷ older) → u ≡ t + 1 → ShowsPart i (clocks t t t) st (d ∷ older)
-    → ((x : ℕ) → x < 128 → holds_place t x d ≡ true
-    → has set x ≡ is_number (wanted st.slots (order_of t older) u (slice_index_or st.slots x None)) (place_of_unit unit))
-    → Serves t (option_of config unit).units set (starts_of unit u) d older
+    (older : List Done) → IsUpTo i config t (d ∷ older) → u ≡ t + 1 → ShowsPart i (clocks t t t) st (d ∷ older) →
+    ((x : ℕ) → x < 128 → holds_place t x d ≡ true → has set x ≡ is_number (wanted st.slots (order_of t older) u
+    (slot st.slots x)) (place_of_unit unit)) → Serves t (option_of config unit).units set (starts_of unit u) d older
 one_serves {i} {config} {t} {u} {st = st} unit d older up f shown wants = record {
   idle = λ l.
       let k : d.at.end ≤ t = ltb-false _ _ l in
@@ -184,11 +181,11 @@ all_serve : {i : Loaded} {config : Configuration} {t u set : ℕ} {st : Pools} (
 all_serve unit [] younger up f shown by ready = tt
 all_serve {t = t} {st = st} unit (d ∷ older) younger up f shown by ready = (
   one_serves unit d older up f shown (λ x l held. ready.wants x l (order_of t older) younger (rw (after x held) at by)),
-  all_serve unit older (younger_of t d younger) (older_up_to up) f (older_shown shown) (rw (order_on t d older younger) at by) ready,
+  all_serve unit older (younger_of t d younger) (older_up_to up) f (older_shown shown)
+      (rw (order_on t d older younger) at by) ready,
 )
   where
-    after : (x : ℕ) → holds_place t x d ≡ true
-        → order_of t (d ∷ older) ++ younger ≡ order_of t older ++ (x ∷ younger)
+    after : (x : ℕ) → holds_place t x d ≡ true → order_of t (d ∷ older) ++ younger ≡ order_of t older ++ (x ∷ younger)
     after x held =
         let late = (and_parts (is_number (place_of d) x) (nat_lt t d.at.end) held).1 in
         ap (λ xs. xs ++ younger) (order_here t x d older (held_place t x d held) late)
@@ -213,20 +210,19 @@ all_alone t goes (d ∷ older) up l = (
 )
 
 -- of all kinds together
-kinds_at : (t u : ℕ) (h : List Done) (x : ℕ)
-    → (goes_at t (starts_of units.Alu u) h x || (goes_at t (starts_of units.Mul u) h x || (goes_at t (starts_of
-    units.Div u) h x || (goes_at t (starts_of units.Mem u) h x || (goes_at t (starts_of units.Bru u) h x || false))))) ≡
-    starts_at t u h x
+kinds_at : (t u : ℕ) (h : List Done) (x : ℕ) → (goes_at t (starts_of units.Alu u) h x
+    || (goes_at t (starts_of units.Mul u) h x || (goes_at t (starts_of units.Div u) h x
+    || (goes_at t (starts_of units.Mem u) h x || (goes_at t (starts_of units.Bru u) h x || false))))) ≡ starts_at t u h
+    x
 kinds_at t u [] x = refl
 kinds_at t u (d ∷ older) x = elim (cases_Bool (holds_place t x d)) [
   | inr h ↦ rw h (kinds_at t u older x)
   | inl h ↦ rw h (one_kind (step_unit d.step) (d.at.start == u))
 ]
   where
-    one_kind : (o : Option UnitId) (b : Bool)
-        → ((is_of units.Alu o && b) || ((is_of units.Mul o && b) ||
-        ((is_of units.Div o && b) || ((is_of units.Mem o && b) || ((is_of units.Bru o && b) || false)))))
-        ≡ (is_some o && b)
+    one_kind : (o : Option UnitId) (b : Bool) → ((is_of units.Alu o && b)
+        || ((is_of units.Mul o && b) || ((is_of units.Div o && b) || ((is_of units.Mem o && b)
+        || ((is_of units.Bru o && b) || false))))) ≡ (is_some o && b)
     one_kind o b = grind (arith, nat_tests)
 
 pub five : (xs : List ℕ) (x : ℕ) → length xs ≡ 5

@@ -1,10 +1,10 @@
 -- What a store leaves in memory.
-use Rattle.std.proofs.Common.{length, slice_index_or, zero, suc, Option, Some, None, ℕ, ◌+◌, ◌<◌, ◌≤◌, ◌≡◌, ◌∙◌, Bool}
-use Rattle.std.proofs.Common.{true, false, arith, refl, List, ap, sym}
+use Rattle.std.proofs.Common.{length, zero, suc, Option, Some, None, ℕ, ◌+◌, ◌<◌, ◌≤◌, ◌≡◌, ◌∙◌, Bool, true, false}
+use Rattle.std.proofs.Common.{arith, refl, List, ap, sym}
 use Rattle.tomex_cycle.proofs.Words.{if◌then◌else◌, ◌&&◌, IfSome, and_parts, ByteRange, IsInside, byte_in, covers}
 use Rattle.tomex_cycle.proofs.Words.{nat_tests, overwrites, stored_byte, Bytes, bytes_of, AllInside, HaveStored}
 use Rattle.tomex_cycle.proofs.Words.{stored_at, written_by, AreLow, step_in, IsSetOf, Station, has, AreFrom, all_left}
-use Rattle.tomex_cycle.proofs.Words.{none_after, skip_to}
+use Rattle.tomex_cycle.proofs.Words.{none_after, skip_to, slot}
 use Rattle.tomex_steps.specs.Access.{HasStored}
 use Rattle.tomex_tags.specs.WaitSets.{holds_store}
 use Rattle.tomex_cycle.proofs.Turns.{IsTaken, turn_at}
@@ -18,9 +18,8 @@ inside_as o a b m n e f inside = rw (e, f) inside
 pub none_stored : (slots : List (Option Station)) (picked : ℕ) (m : Bytes) → HaveStored slots picked 0 m m
 none_stored slots picked m = record { base = refl; size = refl; bytes = λ a l. refl }
 
-written_more : (slots : List (Option Station)) (picked : ℕ) (byte : ℕ → ℕ) (k a : ℕ)
-    → written_by slots picked byte (k + 1) a ≡ stored_at (has picked k) (slice_index_or slots k None) a
-    (written_by slots picked byte k a)
+written_more : (slots : List (Option Station)) (picked : ℕ) (byte : ℕ → ℕ) (k a : ℕ) → written_by slots picked byte
+    (k + 1) a ≡ stored_at (has picked k) (slot slots k) a (written_by slots picked byte k a)
 written_more slots picked byte k a = let e : k + 1 ≡ suc k = omega arith in rw e refl
 
 pub stored_skip : (o : Option Station) (a before : ℕ) → stored_at false o a before ≡ before
@@ -33,14 +32,13 @@ skip_stored {slots} {picked} {k} {old} e before = record {
   base = before.base;
   size = before.size;
   bytes = λ a l. before.bytes a l ∙ sym (written_more slots picked (byte_in old) k a ∙ rw e
-      (stored_skip (slice_index_or slots k None) a (written_by slots picked (byte_in old) k a)));
+      (stored_skip (slot slots k) a (written_by slots picked (byte_in old) k a)));
 }
 
 stored_by : {slots : List (Option Station)} {picked k : ℕ} {old now : Bytes} (new : Bytes) (o : Option Station)
-    → slice_index_or slots k None ≡ o → has picked k ≡ true
-    → ((s : Station) → o ≡ Some s → HasStored (step_in s) now new) → (o ≡ None → new ≡ now)
-    → ((s : Station) → o ≡ Some s → IsInside old (step_in s)) → HaveStored slots picked k old now
-    → HaveStored slots picked (k + 1) old new
+    → slot slots k ≡ o → has picked k ≡ true → ((s : Station) → o ≡ Some s → HasStored (step_in s) now new)
+    → (o ≡ None → new ≡ now) → ((s : Station) → o ≡ Some s → IsInside old (step_in s))
+    → HaveStored slots picked k old now → HaveStored slots picked (k + 1) old new
 stored_by {slots} {picked} {k} {old} {now} new None e pick some none inside before =
     let same : new ≡ now = none refl in
     record {
@@ -61,11 +59,11 @@ stored_by {slots} {picked} {k} {old} {now} new (Some s) e pick some none inside 
     }
 
 pub more_stored : {slots : List (Option Station)} {picked k : ℕ} {old now : Bytes} (new : Bytes) → k < 96
-    → has picked k ≡ true → ((s : Station) → slice_index_or slots k None ≡ Some s → HasStored (step_in s) now new)
-    → (slice_index_or slots k None ≡ None → new ≡ now) → AllInside old picked slots → HaveStored slots picked k old now
+    → has picked k ≡ true → ((s : Station) → slot slots k ≡ Some s → HasStored (step_in s) now new)
+    → (slot slots k ≡ None → new ≡ now) → AllInside old picked slots → HaveStored slots picked k old now
     → HaveStored slots picked (k + 1) old new
 more_stored {slots} {k} new l pick some none inside before =
-    stored_by new (slice_index_or slots k None) refl pick some none (inside k l pick) before
+    stored_by new (slot slots k) refl pick some none (inside k l pick) before
 
 -- The loop over the picked places, the least first.
 
@@ -85,8 +83,8 @@ first_stored slots picked m = record {
 
 pub member_stored : {slots : List (Option Station)} {picked rest left x : ℕ} {old now : Bytes} (new : Bytes)
     → AreLow picked → AllInside old picked slots → IsTaken rest x left
-    → ((s : Station) → slice_index_or slots x None ≡ Some s → HasStored (step_in s) now new)
-    → (slice_index_or slots x None ≡ None → new ≡ now) → IsStored slots picked rest old now
+    → ((s : Station) → slot slots x ≡ Some s → HasStored (step_in s) now new)
+    → (slot slots x ≡ None → new ≡ now) → IsStored slots picked rest old now
     → IsStored slots picked left old new
 member_stored {slots} {picked} {x = x} {old} {now} new low inside out some none so =
     let turn = turn_at so.from out in
@@ -118,8 +116,8 @@ stores_not (Some s) picked a before none =
     and_false b = grind (arith, nat_tests)
 
 same_stored : (o : Option Station) (picked kept : Bool) (a before : ℕ)
-    → (kept ≡ false → stored_at picked o a before ≡ before) → stored_at (picked && kept) o a before ≡ stored_at picked o
-    a before
+    → (kept ≡ false → stored_at picked o a before ≡ before)
+    → stored_at (picked && kept) o a before ≡ stored_at picked o a before
 same_stored o picked kept a before h5 = grind (arith, nat_tests)
 
 -- so the stores among the picked places write what all of them do
@@ -128,10 +126,10 @@ same_written : (slots : List (Option Station)) (picked found stores : ℕ) (byte
     → written_by slots found byte k a ≡ written_by slots picked byte k a
 same_written slots picked found stores byte zero a l are both = refl
 same_written slots picked found stores byte (suc k) a l are both =
-    ap (stored_at (has found k) (slice_index_or slots k None) a)
+    ap (stored_at (has found k) (slot slots k) a)
     (same_written slots picked found stores byte k a (omega arith) are both) ∙ rw (both k) (same_stored
-    (slice_index_or slots k None) (has picked k) (has stores k) a (written_by slots picked byte k a) (λ none. stores_not
-    (slice_index_or slots k None) (has picked k) a (written_by slots picked byte k a)
+    (slot slots k) (has picked k) (has stores k) a (written_by slots picked byte k a) (λ none. stores_not
+    (slot slots k) (has picked k) a (written_by slots picked byte k a)
     (sym (are k (omega arith)) ∙ none)))
 
 pub stores_stored : {slots : List (Option Station)} (picked : ℕ) {found : ℕ} (stores : ℕ) {old now : Bytes}

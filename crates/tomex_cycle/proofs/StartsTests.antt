@@ -1,7 +1,7 @@
 -- The tests that an operation passes as it starts are those of the recurrence: operands, address, older accesses.
 use Rattle.tomex_cycle.proofs.Addresses.{order_here}
-use Rattle.std.proofs.Common.{slice_index_or, ℕ, ◌+◌, ◌<◌, ◌≤◌, ◌≡◌, ◌∙◌, Bool, true, false, arith, refl, List, [], ◌∷◌}
-use Rattle.std.proofs.Common.{◌++◌, Option, Some, None, ap, sym, inl, inr}
+use Rattle.std.proofs.Common.{ℕ, ◌+◌, ◌<◌, ◌≤◌, ◌≡◌, ◌∙◌, Bool, true, false, arith, refl, List, [], ◌∷◌, ◌++◌, Option}
+use Rattle.std.proofs.Common.{Some, None, ap, sym, inl, inr}
 use Rattle.std.proofs.lemmas.Bool.{MatchBool-at_false}
 use Rattle.tomex_cycle.proofs.Words.{nat_lt, nat_le, if◌then◌else◌, ◌&&◌, not, is_some, cases_Bool, nat_tests}
 use Rattle.tomex_cycle.proofs.Words.{ltb-false, lt-ltb, or_right, Loaded, Configuration, Step, address_of, bytes_of}
@@ -9,6 +9,7 @@ use Rattle.tomex_cycle.proofs.Words.{is_store, j_of, k_of, Tag, Done, cycle_of, 
 use Rattle.tomex_cycle.proofs.Words.{IsTimed, IsLeast, are_conflicts_finished, can_address, conflicts, field_from}
 use Rattle.tomex_cycle.proofs.Words.{is_clear, clocks, order_of, station_of, no_option, is_finished_before, lets_pass}
 use Rattle.tomex_cycle.proofs.Words.{bytes_in, is_waiting, step_in, is_there, value_in, Pools, Station, ◌||◌, IsUpTo}
+use Rattle.tomex_cycle.proofs.Words.{slot}
 use Rattle.tomex_steps.proofs.Fields.{bytes_of_memory}
 use Rattle.tomex_cycle.proofs.AddressChosen.{address_rises}
 use Rattle.tomex_cycle.proofs.Totals.{reach}
@@ -24,16 +25,15 @@ and_turn : (a b : Bool) → (a && b) ≡ (b && a)
 and_turn a b = grind (arith, nat_tests)
 
 clear-append : (slots : List (Option Station)) (xs : List ℕ) (x : ℕ) (s : Station) (next : ℕ)
-    → is_clear slots (xs ++ (x ∷ [])) s next
-    ≡ (lets_pass (slice_index_or slots x None) s next && is_clear slots xs s next)
+    → is_clear slots (xs ++ (x ∷ [])) s next ≡ (lets_pass (slot slots x) s next && is_clear slots xs s next)
 clear-append slots [] x s next = refl
 clear-append slots (y ∷ xs) x s next =
     let before = clear-append slots xs x s next in
-    ap (λ b. lets_pass (slice_index_or slots y None) s next && b) before ∙ (and_swap
-    (lets_pass (slice_index_or slots y None) s next) (lets_pass (slice_index_or slots x None) s next)
+    ap (λ b. lets_pass (slot slots y) s next && b) before ∙ (and_swap
+    (lets_pass (slot slots y) s next) (lets_pass (slot slots x) s next)
     (is_clear slots xs s next) ∙ (ap (λ b. b && is_clear slots xs s next)
-    (and_turn (lets_pass (slice_index_or slots y None) s next) (lets_pass (slice_index_or slots x None) s next)) ∙ sym
-    (and_swap (lets_pass (slice_index_or slots x None) s next) (lets_pass (slice_index_or slots y None) s next)
+    (and_turn (lets_pass (slot slots y) s next) (lets_pass (slot slots x) s next)) ∙ sym
+    (and_swap (lets_pass (slot slots x) s next) (lets_pass (slot slots y) s next)
     (is_clear slots xs s next))))
 
 -- Readiness.
@@ -45,8 +45,8 @@ addressed_is memory a t u address e none = grind (arith, nat_tests)
 pub no_address : {config : Configuration} (d : Done) {older : List Done} → IsTimed config older d.step d.at
     → is_memory d.step ≡ false → cycle_of d.at.address ≡ 0
 no_address d {older} timed e =
-    let z : d.at.address ≡ None = MatchBool-at_false
-    (IsLeast (can_address older d.step d.at.issue) (cycle_of d.at.address)) _ e timed.address in
+    let z : d.at.address ≡ None = MatchBool-at_false (IsLeast (can_address older d.step d.at.issue)
+    (cycle_of d.at.address)) _ e timed.address in
     rw z refl
 
 -- the operands are there, the address is, and it hasn't started
@@ -57,8 +57,8 @@ pub ready_is : {i : Loaded} {config : Configuration} (t u : ℕ) (d : Done) (old
 ready_is t u d older up e =
     let j = there_test t older (j_of d.step) (older_up_to up) in
     let k = there_test t older (k_of d.step) (older_up_to up) in
-    let a = addressed_is (is_memory d.step) (cycle_of d.at.address) t u (address_of d.step) e
-    (no_address d up.timed.0) in
+    let a = addressed_is (is_memory d.step) (cycle_of d.at.address) t u (address_of d.step) e (no_address d up.timed.0)
+    in
     grind (arith, nat_tests)
 
 -- Older accesses.
@@ -89,8 +89,8 @@ conflicts_none (d ∷ older) x u e =
 
 lets_is : {i : Loaded} {config : Configuration} (t u : ℕ) (d : Done) (older : List Done) (s : Station) (x : Step)
     → IsUpTo i config t (d ∷ older) → u ≡ t + 1 → (is_memory d.step ≡ true → cycle_of d.at.address ≤ t)
-    → bytes_in s ≡ bytes_of x → is_store (step_in s) ≡ is_store x
-    → lets_pass (Some (station_of i (clocks t t t) d older)) s u ≡ (not (conflicts d.step x) || nat_lt d.at.finish u)
+    → bytes_in s ≡ bytes_of x → is_store (step_in s) ≡ is_store x → lets_pass (Some (station_of i (clocks t t t) d
+    older)) s u ≡ (not (conflicts d.step x) || nat_lt d.at.finish u)
 lets_is {i} t u d older s x up e l bytes store =
     let order : d.at.start ≤ d.at.finish = (reach d older up.lawful up.timed).order in
     rw (bytes_are i t d older l, bytes, store, before_is d.at.start d.at.finish t u e order) refl
@@ -116,7 +116,8 @@ clear_is {t = t} {u} {st} (d ∷ older) s x up f shown last bytes store =
           rw (l, lt-ltb d.at.finish u (omega arith), or_right (not (conflicts d.step x)) true refl) rest
       | inl l ↦
           let (y, place, held) = busy_at d up l in
-          let one = ap (λ o. lets_pass o s u) (held_here shown y held).slot ∙ lets_is t u d older s x up f made bytes store in
+          let one = ap (λ o. lets_pass o s u) (held_here shown y held).slot ∙ lets_is t u d older s x up f made bytes
+          store in
           ap (λ xs. is_clear st.slots xs s u) (order_here t y d older place l)
           ∙ (clear-append st.slots (order_of t older) y s u ∙ rw (one, rest) refl)
     ]

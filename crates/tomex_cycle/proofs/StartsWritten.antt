@@ -1,13 +1,13 @@
 -- Memory after the stores that start in a cycle.
 use Rattle.tomex_cycle.proofs.Places.{low, place_low, is_vacant, vacant}
-use Rattle.std.proofs.Common.{slice_index_or, suc, zero, ℕ, ◌+◌, ◌<◌, ◌≤◌, ◌≡◌, ◌∙◌, Bool, true, false, arith, refl}
-use Rattle.std.proofs.Common.{List, [], ◌∷◌, Option, Some, None, ap, sym, inl, inr}
+use Rattle.std.proofs.Common.{suc, zero, ℕ, ◌+◌, ◌<◌, ◌≤◌, ◌≡◌, ◌∙◌, Bool, true, false, arith, refl, List, [], ◌∷◌}
+use Rattle.std.proofs.Common.{Option, Some, None, ap, sym, inl, inr}
 use Rattle.tomex_cycle.proofs.Words.{nat_lt, nat_le, if◌then◌else◌, ◌&&◌, ◌==◌, not, is_some, cases_Bool, nat_tests}
 use Rattle.tomex_cycle.proofs.Words.{ltb-true, lt-ltb, le-leb, lt-leb, and_parts, or_left, eqb-true, eqb-false, ne_eqb}
 use Rattle.tomex_cycle.proofs.Words.{Loaded, Configuration, Step, covers, overwrites, stored_byte, is_number, is_store}
 use Rattle.tomex_cycle.proofs.Words.{step_pool, step_unit, Done, are_conflicts_finished, conflicts, byte_at, stored_at}
 use Rattle.tomex_cycle.proofs.Words.{written_by, clocks, holds_place, place_of, station_at, step_in, Station, has, ◌||◌}
-use Rattle.tomex_cycle.proofs.Words.{IsTimed, IsUpTo}
+use Rattle.tomex_cycle.proofs.Words.{IsTimed, IsUpTo, slot}
 use Rattle.tomex_cycle.proofs.Accesses.{conflict_at, starts_clear, store_unit}
 use Rattle.tomex_cycle.proofs.StartsMade.{step_is}
 use Rattle.tomex_cycle.proofs.StartsPicked.{starts_at, starts_in}
@@ -58,8 +58,8 @@ none_not x e = cc
 
 -- a step that leaves no byte changes none in later cycles
 made_same : (t u a : ℕ) (d : Done) {older : List Done} {config : Configuration} → IsTimed config older d.step d.at
-    → d.at.issue ≤ t → u ≡ t + 1 → (starts_in u d && overwrites d.step a)
-    ≡ false → (overwrites d.step a && nat_le d.at.start u) ≡ (overwrites d.step a && nat_le d.at.start t)
+    → d.at.issue ≤ t → u ≡ t + 1 → (starts_in u d && overwrites d.step a) ≡ false
+    → (overwrites d.step a && nat_le d.at.start u) ≡ (overwrites d.step a && nat_le d.at.start t)
 made_same t u a d timed issued e quiet = grind (arith, nat_tests)
 
 -- a step on top that leaves a byte
@@ -96,8 +96,8 @@ left_on t u a d older up e quiet (one y v small here others byte later) =
     let free : holds_place t y d ≡ false = elim (cases_Bool (holds_place t y d)) [
       | inr h ↦ h
       | inl h ↦
-          let vacant_there = vacant d older t y up (omega arith)
-          (and_parts (is_number (place_of d) y) (nat_lt t d.at.end) h).0 in
+          let vacant_there = vacant d older t y up (omega arith) (and_parts (is_number (place_of d) y)
+          (nat_lt t d.at.end) h).0 in
           absurd (none_not v (sym (left_free t u a y older vacant_there) ∙ here))
     ] in
     let unmade : (overwrites d.step a && nat_le d.at.start u) ≡ false = elim (cases_Bool (overwrites d.step a)) [
@@ -146,36 +146,35 @@ stored_is : (picked : Bool) (o : Option Station) (a before : ℕ) (left : Option
 stored_is picked o a before left h5 = grind (arith, nat_tests)
 
 written_none : (slots : List (Option Station)) (picked : ℕ) (byte : ℕ → ℕ) (k a : ℕ) → k ≤ 96
-    → ((x : ℕ) → x < 96 → left_in (has picked x) (slice_index_or slots x None) a ≡ None)
-    → written_by slots picked byte k a ≡ byte a
+    → ((x : ℕ) → x < 96 → left_in (has picked x) (slot slots x) a ≡ None) → written_by slots picked byte k a ≡ byte a
 written_none slots picked byte zero a l none_left = refl
 written_none slots picked byte (suc k) a l none_left =
-    stored_is (has picked k) (slice_index_or slots k None) a (written_by slots picked byte k a) None
+    stored_is (has picked k) (slot slots k) a (written_by slots picked byte k a) None
     (none_left k (omega arith)) ∙ written_none slots picked byte k a (omega arith) none_left
 
 less_one : (k y : ℕ) → (k ≡ y → ⊥) → y < suc k → y < k
 less_one k y other l = grind (arith, nat_tests)
 
 written_one : (slots : List (Option Station)) (picked : ℕ) (byte : ℕ → ℕ) (k a y v : ℕ) → k ≤ 96 → y < k
-    → left_in (has picked y) (slice_index_or slots y None) a ≡ Some v
-    → ((x : ℕ) → x < 96 → (x ≡ y → ⊥) → left_in (has picked x) (slice_index_or slots x None) a ≡ None)
+    → left_in (has picked y) (slot slots y) a ≡ Some v
+    → ((x : ℕ) → x < 96 → (x ≡ y → ⊥) → left_in (has picked x) (slot slots x) a ≡ None)
     → written_by slots picked byte k a ≡ v
 written_one slots picked byte zero a y v l below here others = absurd (omega arith)
 written_one slots picked byte (suc k) a y v l below here others = elim (cases_Bool (k == y)) [
   | inl e ↦
       let same : k ≡ y = eqb-true _ _ e in
-      stored_is (has picked k) (slice_index_or slots k None) a (written_by slots picked byte k a) (Some v)
+      stored_is (has picked k) (slot slots k) a (written_by slots picked byte k a) (Some v)
       (rw same here)
   | inr e ↦
       let other : k ≡ y → ⊥ = eqb-false _ _ e in
-      stored_is (has picked k) (slice_index_or slots k None) a (written_by slots picked byte k a) None
+      stored_is (has picked k) (slot slots k) a (written_by slots picked byte k a) None
       (others k (omega arith) other) ∙ written_one slots picked byte k a y v (omega arith)
       (less_one k y other below) here others
 ]
 
 written_left : (i : Loaded) (t u a : ℕ) (h : List Done) (slots : List (Option Station)) (picked : ℕ) (byte : ℕ → ℕ)
-    → ((x : ℕ) → x < 96 → left_in (has picked x) (slice_index_or slots x None) a ≡ left_at t u a h x)
-    → byte a ≡ byte_at i t h a → Left i t u a h → written_by slots picked byte 96 a ≡ byte_at i u h a
+    → ((x : ℕ) → x < 96 → left_in (has picked x) (slot slots x) a ≡ left_at t u a h x) → byte a ≡ byte_at i t h a
+    → Left i t u a h → written_by slots picked byte 96 a ≡ byte_at i u h a
 written_left i t u a h slots picked byte same before (none others made) =
     written_none slots picked byte 96 a (omega arith) (λ x l. same x l ∙ others x) ∙ (before ∙ sym made)
 written_left i t u a h slots picked byte same before (one y v small here others made later) = written_one slots picked
@@ -185,7 +184,7 @@ written_left i t u a h slots picked byte same before (one y v small here others 
 pub written_is : {i : Loaded} {config : Configuration} {t u : ℕ} (a : ℕ) (h : List Done) (slots : List (Option Station))
     (picked : ℕ) (byte : ℕ → ℕ) → IsUpTo i config t h → u ≡ t + 1
     → ((x : ℕ) → x < 96 → has picked x ≡ starts_at t u h x)
-    → ((x : ℕ) → x < 96 → slice_index_or slots x None ≡ station_at i (clocks u t t) h x) → byte a ≡ byte_at i t h a
+    → ((x : ℕ) → x < 96 → slot slots x ≡ station_at i (clocks u t t) h x) → byte a ≡ byte_at i t h a
     → written_by slots picked byte 96 a ≡ byte_at i u h a
 written_is {i} {t = t} {u} a h slots picked byte up e picks shows before = written_left i t u a h slots picked byte
     (λ x l. rw (picks x l, shows x l) (left_slot t u a x h up e)) before (left_is t u a h up e)

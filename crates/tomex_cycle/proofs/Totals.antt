@@ -89,8 +89,8 @@ pub more_left : {config : Configuration} {i : Loaded} {n : ℕ} (k t : ℕ) → 
     → (k ≤ n → IsYetToIssue i config k t) → t < greatest_end (first_timed config i (n + 1))
 more_left {config} {i} {n} k t run l next =
     let rest = rest_to k (n + 1) t run next (omega arith) (omega arith) in
-    let timed : AreTimed config (rest.0 ++ first_timed config i k) =
-    rw (← rest.1.same) (run_timed i (n + 1) run.lawful) in
+    let timed : AreTimed config (rest.0 ++ first_timed config i k) = rw (← rest.1.same) (run_timed i (n + 1) run.lawful)
+    in
     rw rest.1.same (later_end rest.0 (first_timed config i k) t run.lawful timed rest.1.later (omega arith))
 
 -- the run is over exactly if fetch has stopped and no station is busy
@@ -149,8 +149,8 @@ done_is {config} {i} {n} {t} {count} {stations} (Stopped end pc) run shown fille
           rw (e, le-ltb t (greatest_end (first_timed config i (n + 1))) l) refl
       | inr e ↦
           let l : t < greatest_end (first_timed config i (n + 1)) = still_busy run shown (λ z.
-          let by : IsInIssueOrder stations.busy stations.issue_numbers [] =
-          rw z at (order_is up (omega arith) shown.shown.slots filled) in
+          let by : IsInIssueOrder stations.busy stations.issue_numbers [] = rw z at (order_is up (omega arith)
+          shown.shown.slots filled) in
           eqb-false _ _ e (empty_set stations.busy stations.issue_numbers filled.small by)) in
           rw (e, lt-ltb t (greatest_end (first_timed config i (n + 1))) l) refl
     ]

@@ -71,7 +71,7 @@ pub use Rattle.tomex_bus.specs.Picks.{IsInIssueOrder, IsPicked, Rises, is_listed
 pub use Rattle.tomex_bus.specs.Wheel.{is_due}
 pub use Rattle.tomex_tags.specs.Contents.{bytes_in, hears, is_memory_op, is_waiting, lacks_address, new_station}
 pub use Rattle.tomex_tags.specs.Contents.{step_in}
-pub use Rattle.tomex_tags.specs.Contents.{with_address, with_start}
+pub use Rattle.tomex_tags.specs.Contents.{slot, with_address, with_start}
 pub use Rattle.tomex_tags.specs.Operands.{field_after, is_there, only, value_in, value_or_tag}
 pub use Rattle.tomex_tags.specs.Places.{is_served, place_at, place_of_tag}
 pub use Rattle.tomex_tags.specs.Pools.{AreBusy, Pools, is_open}

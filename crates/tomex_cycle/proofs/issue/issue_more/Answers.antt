@@ -14,8 +14,8 @@ issues-init g c = record {
 
 pub issues-preserved : goal.issues-preserved
 issues-preserved g c =
-    let less : c.issues.made < c.args.config.now.width =
-    omega (arith, c.width-width.ensures.count, c.issues-test.true) in
+    let less : c.issues.made < c.args.config.now.width = omega (arith, c.width-width.ensures.count, c.issues-test.true)
+    in
     let made = one_is c.issue_next.result (sym c.unwrap_or-more.ensures ∙ c.if-not-more.false) in
     record {
       on = on_more c.args.fetcher.now c.args.config.now c.args.count.now c.issues.made c.issues.count
@@ -26,8 +26,8 @@ issues-preserved g c =
 
 pub returns-then-not-more-clause-issues : goal.returns-then-not-more-clause-issues
 returns-then-not-more-clause-issues g c =
-    let less : c.issues.made < c.args.config.now.width =
-    omega (arith, c.width-width.ensures.count, c.issues-test.true) in
+    let less : c.issues.made < c.args.config.now.width = omega (arith, c.width-width.ensures.count, c.issues-test.true)
+    in
     on_wait c.args.fetcher.now c.args.config.now c.args.count.now c.issues.made c.issue_next.result
     c.issues.invariant.on less
     (rw c.issues.invariant.same at c.issue_next.ensures.issues) (sym c.unwrap_or-more.ensures ∙ c.if-not-more.true)
@@ -38,7 +38,7 @@ returns-then-not-more-clause-timetable g c =
 
 pub returns-clause-issues : goal.returns-clause-issues
 returns-clause-issues g c =
-    let most : c.args.config.now.width ≤ c.issues.made =
-    omega (arith, c.width-width.ensures.count, c.issues-test.false) in
+    let most : c.args.config.now.width ≤ c.issues.made = omega (arith, c.width-width.ensures.count, c.issues-test.false)
+    in
     on_full c.args.fetcher.now c.args.config.now c.args.count.now c.issues.made c.issues.count
     c.issues.invariant.on most

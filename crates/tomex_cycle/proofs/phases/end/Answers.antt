@@ -56,9 +56,9 @@ returns-clause-any c = λ some i h t e up shown. end_happens c.choose_ending-cho
 
 pub returns-clause-timetable : goal.returns-clause-timetable
 returns-clause-timetable c =
-    let low : AreLow c.choose_ending-chosen.result.ending =
-    λ x l e. ending_low c.args.pools.now c.args.config.now.buses c.args.cycle c.choose_ending-chosen.result.ending
-    (rw c.buses.ensures.count at c.choose_ending-chosen.ensures.ending) c.choose_ending-chosen.ensures.busy x l e in
+    let low : AreLow c.choose_ending-chosen.result.ending = λ x l e. ending_low c.args.pools.now c.args.config.now.buses
+    c.args.cycle c.choose_ending-chosen.result.ending (rw c.buses.ensures.count at
+    c.choose_ending-chosen.ensures.ending) c.choose_ending-chosen.ensures.busy x l e in
     let after = c.apply.ensures.stations low c.choose_ending-chosen.ensures.busy.places in
     c.choose_ending-chosen.ensures.timetable c.apply.new.pools.slots
     (sent_below c.args.pools.now.slots c.choose_ending-chosen.result.ending 96) after.places after.slots

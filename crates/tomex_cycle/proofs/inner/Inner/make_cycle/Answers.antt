@@ -41,8 +41,8 @@ returns-clause-makes g c = λ how n t at before.
     } in
     let on = under_way made at before in
     let low : c.args.self.now.issued ≤ c.issue.new.count = on.low in
-    let some : nat_lt c.args.self.now.issued c.issue.new.count ≡ c.in-Ok.made =
-    ok_same c.issue.result _ _ on.some c.in-Ok.is in
+    let some : nat_lt c.args.self.now.issued c.issue.new.count ≡ c.in-Ok.made = ok_same c.issue.result _ _ on.some
+    c.in-Ok.is in
     let after = cycle_made at on c.end-ended.ensures.ends in (
       after,
       cycle_answer at.run after c.keeps_places.ensures.busy c.is_over.ensures c.after.ensures.progress,

@@ -21,8 +21,12 @@ invariant_of-self-in-Settled g c =
     let running : c.self.inside.status ≡ Running = ap (λ x. x.status) c.self.view_is ∙ c.requires.running in
     let low : c.make_cycle.new.self.cycles_made ≤ c.self.inside.cycle + 1 =
     omega (arith, c.make_cycle.ensures.cycles_made, c.self.invariant.1) in (
-      rw (c.skip_quiet-self-inside.ensures.inner, c.skip_quiet-self-inside.ensures.same, c.make_cycle.ensures.same,
-          running) (sound_counted c.skip_quiet-self-inside.new.inner.cycles_made (sound_passed
+      rw (
+        c.skip_quiet-self-inside.ensures.inner,
+        c.skip_quiet-self-inside.ensures.same,
+        c.make_cycle.ensures.same,
+        running,
+      ) (sound_counted c.skip_quiet-self-inside.new.inner.cycles_made (sound_passed
           (has_made c.make_cycle.new.self running c.self.invariant.0
           (rw c.in-Settled.is at (c.make_cycle.ensures.makes refl)))
           (omega (arith, c.requires.low)) c.skip_quiet-self-inside.ensures.skipped)),

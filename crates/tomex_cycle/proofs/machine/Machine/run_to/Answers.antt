@@ -55,8 +55,12 @@ returns-in_default g c =
 pub returns : goal.returns
 returns g c =
     let at = ap (λ x. x.cycle) c.self-in-loop-self.view_is in
-    let there : c.loop-self.self.cycle ≡ max c.args.self.now.cycle c.args.to =
-    omega (arith, c.loop-self-test.false, c.loop-self.invariant.low, c.loop-self.invariant.high) in
+    let there : c.loop-self.self.cycle ≡ max c.args.self.now.cycle c.args.to = omega (
+      arith,
+      c.loop-self-test.false,
+      c.loop-self.invariant.low,
+      c.loop-self.invariant.high,
+    ) in
     record {
       image = c.loop-self.invariant.image;
       config = c.loop-self.invariant.config;

@@ -11,8 +11,8 @@ invariant-loop-self g l = record {
   high : l.self.cycle ≤ max l.initial.self.cycle l.to;
   running : l.self.status ≡ Running;
   none : l.to ≤ l.initial.self.cycle → l.self ≡ l.initial.self;
-  ends : EndsWithinLimit l.initial.self.image → seen l.self ≡ seen_after l.initial.self.image l.initial.self.config
-      l.self.cycle;
+  ends : EndsWithinLimit l.initial.self.image
+      → seen l.self ≡ seen_after l.initial.self.image l.initial.self.config l.self.cycle;
   paid : EndsWithinLimit l.initial.self.image → IsPaid (run_of l.initial.self.config l.initial.self.image) l.to
       l.initial.self.cycle l.self.cycle l.initial.self.cycles_made l.self.cycles_made;
 }
