@@ -7,8 +7,7 @@ use Rattle.tomex_cycle.proofs.Words.{cycle_of, greatest_end, AreTimed, IsTimed, 
 use Rattle.tomex_cycle.proofs.Words.{byte_at, clocks, ShowsMemory, IsIssuedTo, IsSnapshot, IsYetToIssue, MakesStarts}
 use Rattle.tomex_cycle.proofs.Words.{MakesAddress, MakesIssue, MakesEnds, is_done, Progress, Running, Ended, AreBusy}
 use Rattle.tomex_cycle.proofs.Words.{Pools, Core, Front, IsNextCycle, IsUpTo, core, front}
-use Rattle.tomex_cycle.proofs.Totals.{done_is}
-use Rattle.tomex_cycle.proofs.Runs.{rest_to, run_timed, AreLater, issued_up_to}
+use Rattle.tomex_cycle.proofs.Runs.{done_is, rest_to, run_timed, AreLater, issued_up_to}
 
 pub can_start_later : (config : Configuration) (d : Done) (older : List Done) (u : UnitId) (t : ℕ)
     → can_start config older d.step u d.at.issue (cycle_of d.at.address) t ≡ true → d.at.issue < t

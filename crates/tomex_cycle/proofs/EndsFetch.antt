@@ -1,7 +1,8 @@
 -- A branch that is done in the cycle is the youngest step, and its station gives the next pc.
-use Rattle.tomex_cycle.proofs.Places.{AreLow as AreLowNumbers, low, held_place, number_is_some, place_there}
+use Rattle.tomex_cycle.proofs.Places.{AreLow as AreLowNumbers, low, held_place, number_is_some, place_there, ShowsPart}
+use Rattle.tomex_cycle.proofs.Places.{shows_part, held_here, older_shown, older_up_to}
 use Rattle.std.proofs.Common.{ℕ, ◌+◌, ◌<◌, ◌≤◌, ◌≡◌, ◌∙◌, Bool, true, false, arith, refl, List, [], ◌∷◌, Option, Some}
-use Rattle.std.proofs.Common.{None, ap, sym, inl, inr, ◌⊎◌, slice_index_or, IsSome, length, slice_index}
+use Rattle.std.proofs.Common.{None, ap, sym, inl, inr, ◌⊎◌, slice_index_or, IsSome, length, slice_index, option_map}
 use Rattle.tomex_cycle.proofs.Words.{nat_lt, nat_le, if◌then◌else◌, ◌&&◌, ◌==◌, not, is_some, cases_Bool, nat_tests}
 use Rattle.tomex_cycle.proofs.Words.{ltb-true, lt-ltb, le-ltb, and_parts, eqb-true, eqb-false, Loaded, Configuration}
 use Rattle.tomex_cycle.proofs.Words.{PoolId, UnitId, unit_with_pool, unread_j, unread_k, EndKind, Operand, Step, end_of}
@@ -12,21 +13,22 @@ use Rattle.tomex_cycle.proofs.Words.{steps_in, clocks, fetch_after, fetch_of, ho
 use Rattle.tomex_cycle.proofs.Words.{station_at, station_of, ShowsRegisters, ShowsStations, EndsIn, Hears, IsDoneBranch}
 use Rattle.tomex_cycle.proofs.Words.{finishes, sent_below, AreEnding, AreNamed, step_in, value_in, place_at}
 use Rattle.tomex_cycle.proofs.Words.{place_of_tag, Pools, AreBusy, RegStatus, Station, has, AreLow, dest_of, Tag, Front}
-use Rattle.tomex_cycle.proofs.Words.{front, ◌||◌, IsUpTo, eq-eqb, slot}
+use Rattle.tomex_cycle.proofs.Words.{front, ◌||◌, IsUpTo, eq-eqb, slot, and_right, field_from, Field, Value, Unread}
+use Rattle.tomex_cycle.proofs.Words.{none_in, AreDone, after_ends, sends_of, IsTimetableOf, LeavesTimetable, Finishes}
+use Rattle.tomex_cycle.proofs.Words.{hears, field_after, value_or_tag}
 use Rattle.tomex_rvexec.specs.History.{Follows as Reads}
 use Rattle.tomex_cycle.specs.Ends.{Follows, after_branch, target_in}
-use Rattle.tomex_cycle.proofs.Accesses.{start_clear}
-use Rattle.tomex_cycle.proofs.AddressChosen.{some_none_of}
+use Rattle.tomex_cycle.proofs.StartsMade.{start_clear}
+use Rattle.tomex_cycle.proofs.Addresses.{some_none_of}
 use Rattle.tomex_cycle.proofs.Cycles.{can_start_later}
-use Rattle.tomex_cycle.proofs.EndsInTurn.{ends_same}
-use Rattle.tomex_cycle.proofs.EndsPass.{ends_in, option_cases, ending_is}
-use Rattle.tomex_cycle.proofs.EndsState.{j_cases, k_cases, later, registers_at, sent_all, stations_at}
+use Rattle.tomex_cycle.proofs.EndsLoops.{ends_same}
+use Rattle.tomex_cycle.proofs.EndsState.{ends_in, option_cases, ending_is, j_cases, k_cases, later, registers_at}
+use Rattle.tomex_cycle.proofs.EndsState.{sent_all, stations_at}
 use Rattle.tomex_cycle.proofs.Fields.{unit_later}
-use Rattle.tomex_cycle.proofs.Totals.{reach}
+use Rattle.tomex_cycle.proofs.Runs.{reach}
 use Rattle.tomex_cycle.proofs.StartsDone.{low_of}
 use Rattle.tomex_cycle.proofs.Truth.{or_cases}
-use Rattle.tomex_cycle.proofs.Held.{ShowsPart, shows_part, held_here, older_shown}
-use Rattle.tomex_cycle.proofs.Parts.{older_up_to}
+use Rattle.tomex_timing.specs.declared.tables.Field.TheVariants.{Waits}
 use Rattle.tomex_rvdec.specs.declared.pool.PoolId.TheVariants as pools
 use Rattle.tomex_cycle.specs.declared.fetch.Fetch.TheVariants as from
 
@@ -268,3 +270,51 @@ made_ends config {next} old picked ends filled follows made heard_ i h t e up s 
           (heard_ shown.places low (names_are up e shown regs) regs.count regs.status);
       from = follow_is h up e shown (rw s.from at follows);
     }
+
+-- Where nothing ends, nothing changes.
+
+heard_none : (sent : ℕ → Option ℕ) (f : Field) → ((y : ℕ) → sent y ≡ None) → f ≡ field_after sent f
+heard_none sent (Value v) none = refl
+heard_none sent Unread none = refl
+heard_none sent (Waits tag) none = sym (ap (λ (o : Option ℕ). value_or_tag o tag) (none (place_of_tag tag)))
+
+hears_none : (sent : ℕ → Option ℕ) (o : Option Station) → ((y : ℕ) → sent y ≡ None) → o ≡ option_map (hears sent) o
+hears_none sent o h2 = grind (arith, nat_tests)
+
+none_sent : (slots : List (Option Station)) (n y : ℕ) → sent_below slots 0 n y ≡ None
+none_sent slots n y = ap (λ b. if b then sends_of (slot slots y) else None)
+    (ap (λ b. nat_lt y n && b) (none_in y) ∙ and_right (nat_lt y n) false refl)
+
+none_ended : (old : Pools) → EndsIn (λ x. has 0 x) (sent_below old.slots 0 96) old old
+none_ended old count = record {
+  places = count;
+  slots = λ x l. sym (ap (λ b. after_ends b (sent_below old.slots 0 96) (slot old.slots x)) (none_in x)
+      ∙ sym (hears_none (sent_below old.slots 0 96) (slot old.slots x) (none_sent old.slots 96)));
+  issue_numbers = refl;
+}
+
+none_received : (slots : List (Option Station)) (registers : RegStatus)
+    → Hears (sent_below slots 0 96) registers registers
+none_received slots registers count status = record {
+  count = count;
+  status = status;
+  fields = λ r l. heard_none (sent_below slots 0 96)
+      (field_from (slice_index registers.values r) (slice_index_or registers.tags r None)) (none_sent slots 96);
+}
+
+pub ends_none : (config : Configuration) {next : ℕ} (ending : ℕ) (old : Front) {fetch : Fetch}
+    → AreEnding old.pools config.buses next ending → AreBusy old.pools.slots old.pools.busy old.pools.issue_numbers
+    → Follows next old.pools.slots old.fetch fetch → ending ≡ 0
+    → MakesEnds config next old (front old.pools old.registers fetch)
+ends_none config ending old ends filled follows e = made_ends config old 0 (rw e at ends) filled follows
+    (λ low. none_ended old.pools) (λ count low named. none_received old.pools.slots old.registers)
+
+pub none_over : (slots : List (Option Station)) (next ending : ℕ) (f : Finishes) → length slots ≡ 96
+    → LeavesTimetable slots next ending f → ending ≡ 0 → IsTimetableOf slots (next + 1) f
+none_over slots next ending f count leaves e = leaves slots (λ y. None) count
+    (λ x l. rw (e, none_in x) (hears_none (λ y. None) (slot slots x) (λ y. refl)))
+
+-- if nothing finishes, no branch is followed
+pub none_followed : (next due : ℕ) (slots : List (Option Station)) (fetch : Fetch) → AreDone slots next due → due ≡ 0
+    → Follows next slots fetch fetch
+none_followed next due slots fetch h4 h5 = grind (arith, nat_tests)

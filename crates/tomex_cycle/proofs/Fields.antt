@@ -10,10 +10,8 @@ use Rattle.tomex_cycle.proofs.Words.{field_of, field_from, producer, tag_of, uns
 use Rattle.tomex_cycle.proofs.Words.{place_of, sent_at, field_after, is_there, place_at, place_of_tag, IsUpTo}
 use Rattle.tomex_cycle.proofs.Cycles.{can_start_later}
 use Rattle.tomex_timing.specs.declared.tables.Field.TheVariants.{Waits}
-use Rattle.tomex_cycle.proofs.Places.{is_vacant, vacant, place_there}
-use Rattle.tomex_cycle.proofs.Totals.{reach}
-use Rattle.tomex_cycle.proofs.Held.{not_vacant}
-use Rattle.tomex_cycle.proofs.Parts.{older_up_to, part_up_to}
+use Rattle.tomex_cycle.proofs.Places.{is_vacant, vacant, place_there, not_vacant, older_up_to, part_up_to}
+use Rattle.tomex_cycle.proofs.Runs.{reach}
 
 -- the tag of a step that hasn't ended
 tag_from : (tag : Option Tag) → is_some (place_at tag) ≡ true → (t : Tag) × (tag ≡ Some t)

@@ -16,19 +16,17 @@ use Rattle.tomex_cycle.specs.Events.{events_of}
 use Rattle.tomex_cycle.specs.Phases.{AddressHappens, EndsHappen, StartsHappen}
 use Rattle.tomex_cycle.proofs.Shifting.{run_split}
 use Rattle.tomex_cycle.proofs.Orders.{order_is}
-use Rattle.tomex_cycle.proofs.Addresses.{waiting_is}
+use Rattle.tomex_cycle.proofs.Addresses.{waiting_is, chosen, holds_by, none_waits, not_le, or_else, test_is}
+use Rattle.tomex_cycle.proofs.Addresses.{waits_for_address}
 use Rattle.tomex_cycle.proofs.IssueOrder.{next_address, where_base_is_there}
-use Rattle.tomex_cycle.proofs.AddressChosen.{chosen, holds_by, none_waits, not_le, or_else, test_is, waits_for_address}
 use Rattle.tomex_cycle.proofs.EndsFetch.{ending_low}
-use Rattle.tomex_cycle.proofs.EndsPass.{ending_is, ends_in}
-use Rattle.tomex_cycle.proofs.Places.{low}
+use Rattle.tomex_cycle.proofs.EndsState.{ending_is, ends_in}
+use Rattle.tomex_cycle.proofs.Places.{low, ShowsPart, shows_part, held_here, older_shown, older_up_to}
 use Rattle.tomex_cycle.proofs.Quiet.{AllQuiet}
 use Rattle.tomex_cycle.proofs.Runs.{rest_to, issued_up_to}
 use Rattle.tomex_cycle.proofs.StartsPicked.{starting_is, starts_at}
 use Rattle.tomex_cycle.proofs.Cycles.{AreMade, under_way}
 use Rattle.tomex_cycle.specs.Views.{front}
-use Rattle.tomex_cycle.proofs.Held.{ShowsPart, shows_part, held_here, older_shown}
-use Rattle.tomex_cycle.proofs.Parts.{older_up_to}
 
 -- One event.
 

@@ -13,9 +13,9 @@ use Rattle.tomex_cycle.proofs.Words.{steps_in, Clocks, ShowsRegisters, ShowsStat
 use Rattle.tomex_cycle.proofs.Words.{place_of, station_at, station_of, issue_number_at, place_at, new_station, Pools}
 use Rattle.tomex_cycle.proofs.Words.{operand_in, tags_with, RegStatus, Station}
 use Rattle.tomex_rvexec.specs.History.{Follows}
-use Rattle.tomex_cycle.proofs.AddressChosen.{address_is}
+use Rattle.tomex_cycle.proofs.Addresses.{address_is}
 use Rattle.tomex_cycle.proofs.Cycles.{can_start_later}
-use Rattle.tomex_cycle.proofs.Totals.{reach}
+use Rattle.tomex_cycle.proofs.Runs.{reach}
 use Rattle.tomex_rvdec.specs.declared.pool.PoolId.TheVariants as pools
 
 -- The times of what issues lie after the cycle.

@@ -13,10 +13,9 @@ use Rattle.tomex_cycle.proofs.Words.{ShowsFront, Tag, front, place_of_tag, stati
 use Rattle.tomex_rvexec.specs.declared.outcome.FaultKind.{FaultKind}
 use Rattle.tomex_cycle.specs.declared.fetch.Fetch.TheVariants.{Waits}
 use Rattle.tomex_cycle.proofs.Places.{pool_low, low}
-use Rattle.tomex_cycle.proofs.Runs.{run_count, next_done, run_next, run_timed, issued_up_to}
-use Rattle.tomex_cycle.proofs.Totals.{reach, stopped_is}
-use Rattle.tomex_cycle.proofs.IssuesNumbers.{free_is, room}
-use Rattle.tomex_cycle.proofs.IssuesTest.{IsComing, can_is, coming, issues_at, waits_is, yet_more, CanNotIssue}
+use Rattle.tomex_cycle.proofs.Runs.{run_count, next_done, run_next, run_timed, issued_up_to, reach, stopped_is}
+use Rattle.tomex_cycle.proofs.IssuesTest.{free_is, room, IsComing, can_is, coming, issues_at, waits_is, yet_more}
+use Rattle.tomex_cycle.proofs.IssuesTest.{CanNotIssue}
 use Rattle.tomex_cycle.proofs.Issues.{fetch_made, read_j, read_k, registers_same, registers_with, station_made}
 use Rattle.tomex_cycle.proofs.Issues.{stations_same, stations_with, tag_made, yet_after}
 use Rattle.tomex_cycle.proofs.Truth.{ok_not_err, ok_same}

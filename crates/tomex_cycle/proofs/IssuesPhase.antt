@@ -13,7 +13,7 @@ use Rattle.tomex_cycle.specs.Issue.{HaveIssued, IssuesMore, count_after, issued_
 use Rattle.tomex_cycle.proofs.Runs.{next_done, run_next, run_timed, step_is}
 use Rattle.tomex_cycle.proofs.IssuesTest.{yet_more}
 use Rattle.tomex_cycle.proofs.Truth.{ok_not_err, ok_same}
-use Rattle.tomex_cycle.proofs.Parts.{issued_more}
+use Rattle.tomex_cycle.proofs.Places.{issued_more}
 
 last_by : (t : ℕ) (h : List Done) → AreIssuedBy t h → last_issue h ≤ t
 last_by t [] issued = omega arith

@@ -1,30 +1,133 @@
--- The first snapshot, the end and the tables.
-use Rattle.std.proofs.Common.{ℕ, ◌+◌, ◌<◌, ◌≤◌, ◌≡◌, ◌∙◌, false, arith, refl, List, [], ◌∷◌, ◌++◌, Option, Some, None}
-use Rattle.std.proofs.Common.{ap, sym, inl, inr, length, replicate, slice_index_or, subst}
-use Rattle.tomex_cycle.proofs.Words.{slice_index, map, filter_map, range_with_len, cases_Bool, cases_order, lt-ltb}
-use Rattle.tomex_cycle.proofs.Words.{le-ltb, lt-leb, le-leb, get_or-replicate, Loaded, Configuration, IsWithinLimits}
-use Rattle.tomex_cycle.proofs.Words.{EndKind, Step, step_after, byte_after, register_after, Bytes, EndsWithin}
-use Rattle.tomex_cycle.proofs.Words.{is_number, step_dest, is_store, Busy, Tag, Done, greatest_end, Tables, tables_of}
-use Rattle.tomex_cycle.proofs.Words.{shown, qi_of, all_tags, producer, Inner, IsAt, At, Stopped, Progress, Running}
-use Rattle.tomex_cycle.proofs.Words.{RunEndsAfter, first_timed, run_of, steps_in, byte_at, clocks, ShowsRegisters}
-use Rattle.tomex_cycle.proofs.Words.{ShowsStations, IsSnapshot, IsYetToIssue, Seen, overwrites, step_ends_it}
-use Rattle.tomex_cycle.proofs.Words.{step_follows, step_joins, timed_by, IsSound, Pools, Station, Core, Front, IsUpTo}
-use Rattle.tomex_cycle.proofs.Words.{core, core_of, slot}
+-- What contracts see of a machine follows from what holds of each one.
+use Rattle.std.proofs.Common.{ℕ, ◌+◌, ◌<◌, ◌≤◌, ◌≡◌, ◌∙◌, ◌^◌, true, arith, refl, ap, inl, inr, min, subst, false, List}
+use Rattle.std.proofs.Common.{[], ◌∷◌, ◌++◌, Option, Some, None, sym, length, replicate, slice_index_or}
+use Rattle.tomex_cycle.proofs.Words.{nat_lt, if◌then◌else◌, cases_Bool, ltb-true, ltb-false, le-ltb, Loaded}
+use Rattle.tomex_cycle.proofs.Words.{Configuration, EndsWithin, greatest_end, Inner, Progress, Running, Ended, IsAt}
+use Rattle.tomex_cycle.proofs.Words.{RunEndsAfter, first_timed, Seen, seen_after, IsSound, IsNextCycle, slice_index}
+use Rattle.tomex_cycle.proofs.Words.{map, filter_map, range_with_len, cases_order, lt-ltb, lt-leb, le-leb}
+use Rattle.tomex_cycle.proofs.Words.{get_or-replicate, IsWithinLimits, EndKind, Step, step_after, byte_after}
+use Rattle.tomex_cycle.proofs.Words.{register_after, Bytes, is_number, step_dest, is_store, Busy, Tag, Done, Tables}
+use Rattle.tomex_cycle.proofs.Words.{tables_of, shown, qi_of, all_tags, producer, At, Stopped, run_of, steps_in}
+use Rattle.tomex_cycle.proofs.Words.{byte_at, clocks, ShowsRegisters, ShowsStations, IsSnapshot, IsYetToIssue}
+use Rattle.tomex_cycle.proofs.Words.{overwrites, step_ends_it, step_follows, step_joins, timed_by, Pools, Station, Core}
+use Rattle.tomex_cycle.proofs.Words.{Front, IsUpTo, core, core_of, slot}
+use Rattle.tomex_cycle.specs.Run.{total}
+use Rattle.tomex_cycle.specs.Seen.{is_end}
+use Rattle.tomex_cycle.proofs.Runs.{run_whole, run_timed, steps_are, run_none, rest_to, AreLater, issued_up_to}
+use Rattle.tomex_cycle.proofs.Runs.{more_left, stops}
 use Rattle.tomex_image.specs.Image.{IsLoaded}
 use Rattle.tomex_rvexec.specs.History.{Leaves, history as first_steps}
 use Rattle.tomex_rvexec.specs.Machine.{State}
 use Rattle.tomex_rvexec.specs.Run.{start_of}
 use Rattle.tomex_cycle.specs.Inner.{IsFresh}
-use Rattle.tomex_cycle.proofs.Ticks.{sound_run}
 use Rattle.tomex_rvexec.specs.Flow.{IsState}
 use Rattle.tomex_rvexec.proofs.FlowEnds.{end_is}
 use Rattle.tomex_rvexec.proofs.FlowHistories.{same_registers, same_memory}
 use Rattle.tomex_rvexec.proofs.FlowRuns.{run_state}
 use Rattle.tomex_rvexec.proofs.FlowStates.{end_writes_no_register, end_writes_no_byte}
 use Rattle.tomex_timing.proofs.Settled.{AllBy}
-use Rattle.tomex_cycle.proofs.Runs.{run_timed, steps_are, run_none, run_whole, rest_to, AreLater, issued_up_to}
-use Rattle.tomex_cycle.proofs.Totals.{more_left, stops}
 use Rattle.tomex_cycle.specs.Views.{front}
+
+-- while the answer is Running the total lies ahead
+pub running_low : (cycle all : ℕ) (last : Progress) → last ≡ (if nat_lt cycle all then Running else Ended)
+    → last ≡ Running → cycle < all
+running_low cycle all last e f = elim (cases_Bool (nat_lt cycle all)) [
+  | inl l ↦ ltb-true _ _ l
+  | inr l ↦ let g : last ≡ Ended = rw l at e in absurd (cc)
+]
+
+other_high : (cycle all : ℕ) (last : Progress) → last ≡ (if nat_lt cycle all then Running else Ended)
+    → (last ≡ Running → ⊥) → all ≤ cycle
+other_high cycle all last e f = elim (cases_Bool (nat_lt cycle all)) [
+  | inl l ↦ let g : last ≡ Running = rw l at e in absurd (f g)
+  | inr l ↦ ltb-false _ _ l
+]
+
+same_seen : (i : Loaded) (config : Configuration) (a b : ℕ) (x y : Progress) → a ≡ b → x ≡ y
+    → ◌≡◌ {A = Seen} (record { image = i; config = config; cycle = a; status = x })
+    (record { image = i; config = config; cycle = b; status = y })
+same_seen i config a b x y e f =
+    let g : ℕ → Seen = λ k. record { image = i; config = config; cycle = k; status = x } in
+    let h : Progress → Seen = λ k. record { image = i; config = config; cycle = b; status = k } in
+    ap g e ∙ ap h f
+
+-- the run of a sound machine whose program ends
+pub sound_run : {A : Type 0} {i : Loaded} {config : Configuration} {cycle : ℕ} {last : Progress} {inner : Inner A}
+    → IsSound i config cycle last inner → (ends : EndsWithin i 262144) → RunEndsAfter i config ends.0
+sound_run sound ends = record {
+  lawful = sound.lawful;
+  loaded = sound.loaded;
+  few = ends.3;
+  state = ends.1;
+  kind = ends.2;
+  ends = ends.4;
+}
+
+-- the machine is as it is after as many ticks as its cycle says
+pub seen_is : {A : Type 0} {i : Loaded} {config : Configuration} {cycle : ℕ} {last : Progress} {inner : Inner A}
+    → IsSound i config cycle last inner → EndsWithin i 262144
+    → ◌≡◌ {A = Seen} (record { image = i; config = config; cycle = cycle; status = last }) (seen_after i config cycle)
+seen_is {i} {config} {cycle} {last} sound ends =
+    let run : RunEndsAfter i config ends.0 = sound_run sound ends in
+    let after = sound.after ends.0 run in
+    let e : total config i ≡ greatest_end (first_timed config i (ends.0 + 1)) = ap greatest_end (run_whole run) in
+    same_seen i config cycle (min cycle (total config i)) last
+    (if nat_lt cycle (total config i) then Running else Ended) (omega arith) (rw e after.answer)
+
+-- a cycle keeps what holds
+pub sound_next : {A : Type 0} {i : Loaded} {config : Configuration} {cycle : ℕ} {old : Inner A} (now : Progress)
+    (new : Inner A) → IsSound i config cycle Running old → cycle < 2 ^ 40
+    → ((n t : ℕ) → IsNextCycle i config n t (cycle + 1) → IsAt i config n t old → IsAt i config n (cycle + 1) new
+    × (now ≡ (if nat_lt (cycle + 1) (greatest_end (first_timed config i (n + 1))) then Running else Ended)))
+    → IsSound i config (cycle + 1) now new
+sound_next {i} {config} {cycle} now new sound low made = record {
+  lawful = sound.lawful;
+  loaded = sound.loaded;
+  low = omega arith;
+  after = λ n run.
+      let before = sound.after n run in
+      let k : cycle < greatest_end (first_timed config i (n + 1)) = running_low cycle _ Running before.answer refl in
+      let next = made n cycle (record { run = run; next = refl }) before.snapshot in
+      record { high = omega arith; answer = next.1; snapshot = next.0 };
+}
+
+-- the same, of a value that is seen
+pub now_seen : {A : Type 0} {i : Loaded} {config : Configuration} {cycle : ℕ} {last : Progress} {inner : Inner A}
+    {seen : Seen} → ◌≡◌ {A = Seen} (record { image = i; config = config; cycle = cycle; status = last }) seen
+    → IsSound i config cycle last inner → EndsWithin seen.image 262144
+    → seen ≡ seen_after seen.image seen.config seen.cycle
+now_seen e sound =
+    let P : Seen → Type 0 = λ x. EndsWithin x.image 262144 → x ≡ seen_after x.image x.config x.cycle in
+    subst P e (λ ends. seen_is sound ends)
+
+-- a machine that has ended is as it is after any more ticks
+pub over_seen : (i : Loaded) (config : Configuration) (k to : ℕ) (seen : Seen) → seen ≡ seen_after i config k
+    → (seen.status ≡ Running → ⊥) → k ≤ to → seen ≡ seen_after i config to
+over_seen i config k to seen e over l =
+    let last : seen.status ≡ (if nat_lt k (total config i) then Running else Ended) = ap (λ (x : Seen). x.status) e in
+    let low : total config i ≤ k = other_high k (total config i) seen.status last over in
+    e ∙ same_seen i config (min k (total config i)) (min to (total config i))
+    (if nat_lt k (total config i) then Running else Ended) (if nat_lt to (total config i) then Running else Ended)
+    (omega arith) (rw (le-ltb k (total config i) low, le-ltb to (total config i) (omega arith)) refl)
+
+end_is_not_running : (last : Progress) → is_end last ≡ true → last ≡ Running → ⊥
+end_is_not_running last e f = let g : is_end Running ≡ true = rw f at e in absurd (cc)
+
+-- a machine that has ended hands out the end of the run
+pub finish_seen : {A : Type 0} {i : Loaded} {config : Configuration} {cycle : ℕ} {last : Progress} {inner : Inner A}
+    {seen : Seen} (P : Loaded → Type 0)
+    → ◌≡◌ {A = Seen} (record { image = i; config = config; cycle = cycle; status = last }) seen
+    → ((i : Loaded) (config : Configuration) (n t : ℕ) → RunEndsAfter i config n → IsAt i config n t inner
+    → greatest_end (first_timed config i (n + 1)) ≤ t → P i)
+    → IsSound i config cycle last inner → is_end seen.status ≡ true → EndsWithin seen.image 262144 → P seen.image
+finish_seen {i} {config} {cycle} {last} P e made sound =
+    let Q : Seen → Type 0 = λ x. is_end x.status ≡ true → EndsWithin x.image 262144 → P x.image in
+    subst Q e (λ over ends.
+    let after = sound.after ends.0 (sound_run sound ends) in
+    made i config ends.0 cycle (sound_run sound ends) after.snapshot
+    (other_high cycle _ last after.answer (end_is_not_running last over)))
+
+-- The first snapshot, the end and the tables.
 
 none_issued : (config : Configuration) (i : Loaded) → IsYetToIssue i config 0 0
 none_issued config i x e s l =

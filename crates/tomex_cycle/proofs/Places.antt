@@ -1,14 +1,35 @@
--- A place is held by one step at a time, and the order of the busy places is that of the history.
-use Rattle.std.proofs.Common.{ℕ, ◌+◌, ◌*◌, ◌<◌, ◌≤◌, ◌≡◌, ◌∙◌, Bool, true, false, arith, refl, List, [], ◌∷◌, ◌++◌}
-use Rattle.std.proofs.Common.{Option, Some, None, sym, inl, inr}
-use Rattle.tomex_cycle.proofs.Words.{nat_lt, nat_le, ◌&&◌, ◌==◌, not, MatchOption, ⊤, list_all, cases_Bool, nat_tests}
-use Rattle.tomex_cycle.proofs.Words.{ltb-true, le-leb, and_parts, eqb-true, eq-eqb, and_right, Loaded, Configuration}
-use Rattle.tomex_cycle.proofs.Words.{IsWithinLimits, stations_of, PoolId, place_of_pool, is_in, is_number, step_pool}
-use Rattle.tomex_cycle.proofs.Words.{Done, IsLeast, least, has_station, is_free, is_held, tag_at, least_same}
-use Rattle.tomex_cycle.proofs.Words.{stations_high, issue_station, number_is, Clocks, holds_place, place_of, station_at}
-use Rattle.tomex_cycle.proofs.Words.{station_of, place_at, IsTimed, IsUpTo, is_some}
+-- What is known of the steps that have issued by a cycle is known of the older ones, and by later cycles.
+use Rattle.std.proofs.Common.{ℕ, ◌≤◌, arith, List, [], ◌∷◌, ◌++◌, ◌+◌, ◌*◌, ◌<◌, ◌≡◌, ◌∙◌, Bool, true, false, refl}
+use Rattle.std.proofs.Common.{Option, Some, None, sym, inl, inr, ap, length}
+use Rattle.tomex_cycle.proofs.Words.{Loaded, Configuration, Done, AreIssuedBy, IsUpTo, nat_lt, nat_le, ◌&&◌, ◌==◌, not}
+use Rattle.tomex_cycle.proofs.Words.{MatchOption, ⊤, list_all, cases_Bool, nat_tests, ltb-true, le-leb, and_parts}
+use Rattle.tomex_cycle.proofs.Words.{eqb-true, eq-eqb, and_right, IsWithinLimits, stations_of, PoolId, place_of_pool}
+use Rattle.tomex_cycle.proofs.Words.{is_in, is_number, step_pool, IsLeast, least, has_station, is_free, is_held, tag_at}
+use Rattle.tomex_cycle.proofs.Words.{least_same, stations_high, issue_station, number_is, Clocks, holds_place, place_of}
+use Rattle.tomex_cycle.proofs.Words.{station_at, station_of, place_at, IsTimed, is_some, Pools, ShowsStations}
+use Rattle.tomex_cycle.proofs.Words.{issue_number_at, slice_index, slot}
 use Rattle.tomex_cycle.proofs.Truth.{some_not_none}
-use Rattle.tomex_cycle.proofs.Parts.{older_up_to}
+
+pub older_up_to : {i : Loaded} {config : Configuration} {t : ℕ} {d : Done} {older : List Done}
+    → IsUpTo i config t (d ∷ older) → IsUpTo i config t older
+older_up_to up = record { lawful = up.lawful; timed = up.timed.1; past = up.past.2; issued = up.issued.1 }
+
+pub part_up_to : {i : Loaded} {config : Configuration} {t : ℕ} (newer : List Done) {h : List Done}
+    → IsUpTo i config t (newer ++ h) → IsUpTo i config t h
+part_up_to [] up = up
+part_up_to (d ∷ newer) up = part_up_to newer (older_up_to up)
+
+pub issued_more : (t u : ℕ) (h : List Done) → t ≤ u → AreIssuedBy t h → AreIssuedBy u h
+issued_more t u [] l issued = tt
+issued_more t u (d ∷ older) l issued =
+    ((let k : d.at.issue ≤ t = issued.0 in omega arith), issued_more t u older l issued.1)
+
+pub later_up_to : {i : Loaded} {config : Configuration} {t : ℕ} (u : ℕ) {h : List Done} → t ≤ u → IsUpTo i config t h
+    → IsUpTo i config u h
+later_up_to {t} u {h} l up =
+    record { lawful = up.lawful; timed = up.timed; past = up.past; issued = issued_more t u h l up.issued }
+
+-- A place is held by one step at a time, and the order of the busy places is that of the history.
 
 -- a step's place, taken apart
 pub record IsPlace (pool : Option PoolId) (station : Option ℕ) (x : ℕ) : Type 0 where
@@ -173,3 +194,70 @@ same_place p m (Some q) (Some n) a b = same_tag p q m n a (b n refl)
 
 pub turn_and : (a b c : Bool) → ((true && a) && b && c) ≡ ((b && c) && a)
 turn_and a b c = grind (arith, nat_tests)
+
+-- What the stations show of a part of a history: each busy step of it is in the place that it holds.
+
+-- no place that a step holds is vacant
+pub not_vacant : (t x : ℕ) (newer : List Done) (w : Done) (older : List Done) → holds_place t x w ≡ true
+    → is_vacant t x (newer ++ (w ∷ older)) ≡ true → ⊥
+not_vacant t x [] w older held free = cc
+not_vacant t x (n ∷ newer) w older held free = not_vacant t x newer w older held
+    (and_parts (not (holds_place t x n)) (is_vacant t x (newer ++ (w ∷ older))) free).1
+
+-- the issue number of a busy step's place is the number of its elders
+number_here : {i : Loaded} {config : Configuration} {s : ℕ} (end x : ℕ) (newer : List Done) (d : Done)
+    (older : List Done) → IsUpTo i config s (newer ++ (d ∷ older)) → s ≤ end + 1 → holds_place end x d ≡ true
+    → issue_number_at (newer ++ (d ∷ older)) x ≡ length older
+number_here end x [] d older up l held =
+    rw (and_parts (is_number (place_of d) x) (nat_lt end d.at.end) held).0 refl
+number_here end x (n ∷ newer) d older up l held = elim (cases_Bool (is_number (place_of n) x)) [
+  | inr e ↦ rw e (number_here end x newer d older (older_up_to up) l held)
+  | inl e ↦ absurd (not_vacant end x newer d older held (vacant n (newer ++ (d ∷ older)) end x up l e))
+]
+
+pub record IsHeld (i : Loaded) (c : Clocks) (st : Pools) (d : Done) (older : List Done) (x : ℕ) : Type 0 where
+  pub small : x < 96
+  pub slot : slot st.slots x ≡ Some (station_of i c d older)
+  pub number : slice_index st.issue_numbers x ≡ length older
+
+-- each busy step of the part is so held
+pub record ShowsPart (i : Loaded) (c : Clocks) (st : Pools) (part : List Done) : Type 0 where
+  pub each : (newer : List Done) (d : Done) (older : List Done) → part ≡ newer ++ (d ∷ older) → (x : ℕ)
+      → holds_place c.end x d ≡ true → IsHeld i c st d older x
+
+pub older_shown : {i : Loaded} {c : Clocks} {st : Pools} {d : Done} {older : List Done} → ShowsPart i c st (d ∷ older)
+    → ShowsPart i c st older
+older_shown {d = d} shown =
+    record { each = λ newer e rest same. shown.each (d ∷ newer) e rest (ap (λ xs. d ∷ xs) same) }
+
+pub held_here : {i : Loaded} {c : Clocks} {st : Pools} {d : Done} {older : List Done} → ShowsPart i c st (d ∷ older)
+    → (x : ℕ) → holds_place c.end x d ≡ true → IsHeld i c st d older x
+held_here {d = d} {older} shown x held = shown.each [] d older refl x held
+
+pub shows_part : {i : Loaded} {config : Configuration} {c : Clocks} {s : ℕ} {st : Pools} {h : List Done}
+    → IsUpTo i config s h → s ≤ c.end + 1 → ShowsStations i c h st → ShowsPart i c st h
+shows_part {c = c} up l shown = record {
+  each = λ newer d older same x held.
+      let here = rw same at up in
+      let few = (low (d ∷ older) (part_up_to newer here)).0 in
+      let small : x < 96 = place_low (step_pool d.step) d.at.station x few (held_place c.end x d held) in
+      record {
+        small = small;
+        slot = shown.slots x small ∙ rw same (station_here c newer d older x here l held);
+        number = shown.issue_numbers x small ∙ rw same (number_here c.end x newer d older here l held);
+      };
+}
+
+-- the place of a busy step
+pub busy_at : {i : Loaded} {config : Configuration} {t : ℕ} (d : Done) {older : List Done}
+    → IsUpTo i config t (d ∷ older) → nat_lt t d.at.end ≡ true
+    → (x : ℕ) × (place_of d ≡ Some x) × (holds_place t x d ≡ true)
+busy_at {t = t} d up l = of (place_of d) refl
+  where
+    of : (o : Option ℕ) → place_of d ≡ o → (x : ℕ) × (place_of d ≡ Some x) × (holds_place t x d ≡ true)
+    of None e =
+        let late : t < d.at.end = ltb-true t d.at.end l in
+        let issued : d.at.issue ≤ t = up.issued.0 in
+        let z : true ≡ false = sym (place_there d up.timed.0 (omega arith)) ∙ ap is_some e in
+        absurd (cc)
+    of (Some x) e = (x, e, rw (e, l, eq-eqb x x refl) refl)

@@ -14,7 +14,7 @@ use Rattle.tomex_cycle.proofs.Words.{IsSettled, ◌||◌}
 use Rattle.tomex_timing.specs.Recurrence.{has_bus}
 use Rattle.tomex_timing.proofs.Limits.{buses_low}
 use Rattle.tomex_timing.proofs.Settled.{count_none}
-use Rattle.tomex_cycle.proofs.Totals.{reach}
+use Rattle.tomex_cycle.proofs.Runs.{reach}
 
 -- nothing of the step falls in the cycle but perhaps its start
 pub record IsAtRest (v : ℕ) (d : Done) : Type 0 where

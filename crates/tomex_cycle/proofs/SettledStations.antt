@@ -2,8 +2,10 @@
 -- it;
 -- if operations start, and leave none that waits for a unit, it is settled.
 use Rattle.tomex_cycle.proofs.Quiet.{IsAtRest, AllDue, AllFree, AllQuiet, HasResult, IsQuiet, settled_rests}
-use Rattle.tomex_cycle.proofs.Quiet.{issue_quiet, last_issue_settled, not_least}
+use Rattle.tomex_cycle.proofs.Quiet.{issue_quiet, last_issue_settled, not_least, quiet_settles}
 use Rattle.tomex_cycle.proofs.Places.{low, place_low, station_here, is_vacant, vacant, vacant_none, held_place}
+use Rattle.tomex_cycle.proofs.Places.{ShowsPart, busy_at, not_vacant, shows_part, held_here, older_shown, later_up_to}
+use Rattle.tomex_cycle.proofs.Places.{older_up_to, part_up_to}
 use Rattle.tomex_timing.proofs.Tests.{can_start_is}
 use Rattle.std.proofs.Common.{ℕ, ◌+◌, ◌<◌, ◌≤◌, ◌≡◌, ◌∙◌, Bool, true, false, arith, refl, List, [], ◌∷◌, ◌++◌, Option}
 use Rattle.std.proofs.Common.{Some, None, ap, sym, inl, inr, slice_index_or}
@@ -13,14 +15,14 @@ use Rattle.tomex_cycle.proofs.Words.{eq-eqb, Loaded, Configuration, IsWithinLimi
 use Rattle.tomex_cycle.proofs.Words.{step_unit, Done, cycle_of, is_memory, AreTimed, IsTimed, IsLeast, can_issue}
 use Rattle.tomex_cycle.proofs.Words.{can_start, AllSettled, finishes, AreResults, NoneWaits, clocks, holds_place}
 use Rattle.tomex_cycle.proofs.Words.{place_of, station_at, station_of, ShowsStations, is_waiting, Pools, waits, Station}
-use Rattle.tomex_cycle.proofs.Words.{IsUpTo, step_pool, slot}
+use Rattle.tomex_cycle.proofs.Words.{IsUpTo, step_pool, slot, ◌⊎◌, IsTimetableOf, IsSnapshot, first_timed, Finishes}
+use Rattle.tomex_cycle.proofs.Words.{Core, IsNextCycle}
 use Rattle.tomex_cycle.proofs.Cycles.{can_start_later}
-use Rattle.tomex_cycle.proofs.Runs.{AreLater}
-use Rattle.tomex_cycle.proofs.StartsTests.{ready_is, no_address}
-use Rattle.tomex_cycle.proofs.Totals.{reach}
+use Rattle.tomex_cycle.proofs.Runs.{AreLater, reach, issued_up_to}
+use Rattle.tomex_cycle.proofs.StartsPicked.{ready_is, no_address}
 use Rattle.tomex_cycle.proofs.Truth.{some_not_none}
-use Rattle.tomex_cycle.proofs.Held.{ShowsPart, busy_at, not_vacant, shows_part, held_here, older_shown}
-use Rattle.tomex_cycle.proofs.Parts.{later_up_to, older_up_to, part_up_to}
+use Rattle.tomex_cycle.proofs.Known.{free_to}
+use Rattle.tomex_cycle.specs.Views.{front}
 
 same_some : {A : Type 0} (x y : A) → Some x ≡ Some y → x ≡ y
 same_some x y e = cc
@@ -293,3 +295,32 @@ issued_results {w = w} {st} {h} up l shown results =
     of : (d : Done) (x : ℕ) (s : Station) → x < 96 → place_of d ≡ Some x → slot st.slots x ≡ Some s
         → s.instr ≡ d.step.instr → finishes w (Some s) ≡ true → HasResult d
     of d x s e f g h k = grind (arith, nat_tests)
+
+-- A cycle that issues nothing, computes no address and ends nothing, and leaves nothing that waits for a unit, is
+-- settled.
+
+-- a cycle leaves the stations as its starts left them, which is as they were or with none that waits for a unit
+pub record IsIdle (next : ℕ) (old started new : Pools) : Type 0 where
+  pub same : new.slots ≡ started.slots
+  pub none : (started.slots ≡ old.slots) ⊎ NoneWaits new.slots
+  pub free : (x : ℕ) → x < 96 → finishes next (slot new.slots x) ≡ false
+
+-- no operation finishes in the cycle, as is known after it
+pub none_finishes : {slots : List (Option Station)} (next : ℕ) {f : Finishes} → IsTimetableOf slots (next + 1) f
+    → f.unsent ≡ 0 → (x : ℕ) → x < 96 → finishes next (slot slots x) ≡ false
+none_finishes next known unsent x l =
+    free_to next 0 known unsent (λ a y k. absurd (omega arith)) x next l (omega arith) (omega arith)
+
+pub cycle_settles : {i : Loaded} {config : Configuration} {n t next : ℕ} {old new : Core} {started : Pools}
+    → IsNextCycle i config n t next → IsSnapshot i config n t old → IsSnapshot i config n next new
+    → new.issued ≡ old.issued → ShowsStations i (clocks next t t) (first_timed config i old.issued) started
+    → IsIdle next old.front.pools started new.front.pools → AllSettled next (first_timed config i new.issued)
+cycle_settles {i} {config} {t = t} {next} {old} {new} at before after count shown idle =
+    let h : List Done = first_timed config i old.issued in
+    let up : IsUpTo i config t h = issued_up_to at.run before.issue in
+    let now : ShowsStations i (clocks next next next) h new.front.pools = rw count at after.issue.shown.slots in
+    rw count (elim idle.none [
+      | inl quiet ↦ quiet_settles next h up.lawful up.timed (let e : next ≡ t + 1 = at.next in omega arith)
+          (issued_quiet h up at.next (are_kept up at.next before.issue.shown.slots now (idle.same ∙ quiet)) idle.free)
+      | inr rests ↦ issued_settles h up at.next (are_kept up at.next shown now idle.same) idle.free rests
+    ])

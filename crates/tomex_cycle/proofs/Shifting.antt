@@ -9,7 +9,7 @@ use Rattle.tomex_cycle.proofs.Words.{place_of, station_at, station_of, Core, Sho
 use Rattle.tomex_cycle.proofs.Quiet.{AllSteady, AllQuiet}
 use Rattle.tomex_cycle.proofs.Runs.{next_done, not_by, run_next, run_timed, step_is}
 use Rattle.tomex_cycle.specs.Views.{front}
-use Rattle.tomex_cycle.proofs.Parts.{issued_more}
+use Rattle.tomex_cycle.proofs.Places.{issued_more}
 
 -- both cycles compare alike with the times of the step
 pub record IsAlike (u w : ℕ) (d : Done) : Type 0 where

@@ -1,7 +1,6 @@
 use Rattle.std.proofs.lemmas.Option.{IfSome_then}
 use Rattle.tomex_cycle.proofs.Happens.{start_happens}
-use Rattle.tomex_cycle.proofs.StartsDone.{start_made}
-use Rattle.tomex_cycle.proofs.StartsNone.{start_none}
+use Rattle.tomex_cycle.proofs.StartsDone.{start_made, start_none}
 use Rattle.std.proofs.Common.{true, false}
 use Rattle.tomex_cycle.proofs.phases.start.Goals as goal
 

@@ -1,5 +1,5 @@
 use Rattle.std.proofs.Common.{refl, true, false}
-use Rattle.tomex_cycle.proofs.KnownResults.{are_results, known_results, others_finish, apart_is}
+use Rattle.tomex_cycle.proofs.KnownEnds.{are_results, known_results, others_finish, apart_is}
 use Rattle.tomex_cycle.proofs.skipping.take_results.Goals as goal
 
 pub returns-clause-results : goal.returns-clause-results

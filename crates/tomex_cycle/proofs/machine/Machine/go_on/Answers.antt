@@ -1,8 +1,8 @@
 use Rattle.std.proofs.Common.{◌≡◌, ◌≤◌, ◌+◌, ◌∙◌, ap, arith, inl, refl, sym, subst}
 use Rattle.tomex_cycle.proofs.Words.{GoesOn, progress_of, EndsWithinLimit, run_of, seen, Running}
 use Rattle.tomex_cycle.specs.Seen.{Machine}
-use Rattle.tomex_cycle.proofs.Moves.{go_passes, active_not_settled, passed_low, settled_goes}
-use Rattle.tomex_cycle.proofs.Skips.{later_seen, sound_counted, sound_passed, has_made, sound_made}
+use Rattle.tomex_cycle.proofs.Skips.{go_passes, active_not_settled, passed_low, settled_goes, later_seen, sound_counted}
+use Rattle.tomex_cycle.proofs.Skips.{sound_passed, has_made, sound_made}
 use Rattle.tomex_cycle.proofs.machine.Machine.go_on.Goals as goal
 
 pub invariant_of-self : goal.invariant_of-self

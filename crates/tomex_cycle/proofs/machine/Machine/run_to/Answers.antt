@@ -1,7 +1,7 @@
 use Rattle.std.proofs.Common.{◌≡◌, ◌<◌, arith, refl, ap, sym, max, ◌∙◌, true, false}
 use Rattle.tomex_cycle.specs.Seen.{seen}
-use Rattle.tomex_cycle.proofs.Counts.{paid_counts, paid_first, paid_on}
-use Rattle.tomex_cycle.proofs.Ticks.{over_seen}
+use Rattle.tomex_cycle.proofs.Skips.{paid_counts, paid_first, paid_on}
+use Rattle.tomex_cycle.proofs.Outer.{over_seen}
 use Rattle.tomex_cycle.proofs.machine.Machine.run_to.Goals as goal
 
 pub loop-self-init : goal.loop-self-init

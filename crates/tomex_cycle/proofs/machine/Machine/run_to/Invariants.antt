@@ -1,6 +1,6 @@
 use Rattle.std.proofs.Common.{◌≡◌, ◌≤◌, ◌-◌, max}
 use Rattle.tomex_cycle.proofs.Words.{seen, seen_after, Running, EndsWithinLimit, run_of}
-use Rattle.tomex_cycle.proofs.Counts.{IsPaid}
+use Rattle.tomex_cycle.proofs.Skips.{IsPaid}
 use Rattle.tomex_cycle.proofs.machine.Machine.run_to.Given as goal
 
 abbrev pub invariant-loop-self : goal.invariant-loop-self
