@@ -1,25 +1,12 @@
 -- The phases, one after the other, make a cycle.
 use Rattle.std.proofs.Common.{ℕ, ◌+◌, ◌<◌, ◌≤◌, ◌≡◌, ◌∙◌, Bool, true, false, arith, refl, List, [], ◌∷◌, ◌++◌, Option}
 use Rattle.std.proofs.Common.{None, sym, inl, inr}
-use Rattle.tomex_cycle.proofs.Words.{nat_lt, if◌then◌else◌, Result, Ok, not, cases_Bool, ltb-true, lt-leb, nat_tests}
-use Rattle.tomex_cycle.proofs.Words.{and_parts, Loaded, Configuration, UnitId, Fault, overwrites, Bytes, is_store, Done}
-use Rattle.tomex_cycle.proofs.Words.{cycle_of, greatest_end, AreTimed, IsTimed, can_start, RunEndsAfter, first_timed}
-use Rattle.tomex_cycle.proofs.Words.{byte_at, clocks, ShowsMemory, IsIssuedTo, IsSnapshot, IsYetToIssue, MakesStarts}
-use Rattle.tomex_cycle.proofs.Words.{MakesAddress, MakesIssue, MakesEnds, is_done, Progress, Running, Ended, AreBusy}
-use Rattle.tomex_cycle.proofs.Words.{Pools, Core, Front, IsNextCycle, IsUpTo, core, front}
-use Rattle.tomex_cycle.proofs.Runs.{done_is, rest_to, run_timed, AreLater, issued_up_to}
-
-pub can_start_later : (config : Configuration) (d : Done) (older : List Done) (u : UnitId) (t : ℕ)
-    → can_start config older d.step u d.at.issue (cycle_of d.at.address) t ≡ true → d.at.issue < t
-can_start_later config d older u t h =
-    let two = and_parts (nat_lt d.at.issue t) (nat_lt (cycle_of d.at.address) t) (and_parts _ _ (and_parts _ _
-    (and_parts _ _ h).0).0).0 in
-    ltb-true d.at.issue t two.0
-
--- a store starts after its issue
-pub store_later : {config : Configuration} (d : Done) {older : List Done} → IsTimed config older d.step d.at
-    → is_store d.step ≡ true → d.at.issue < d.at.start
-store_later {config} d {older} timed store = grind (arith, nat_tests, can_start_later config d older)
+use Rattle.tomex_cycle.proofs.Words.{nat_lt, if◌then◌else◌, Result, Ok, not, cases_Bool, lt-leb, and_parts, Loaded}
+use Rattle.tomex_cycle.proofs.Words.{Configuration, Fault, overwrites, Bytes, Done, greatest_end, AreTimed}
+use Rattle.tomex_cycle.proofs.Words.{RunEndsAfter, first_timed, byte_at, clocks, ShowsMemory, IsIssuedTo, IsSnapshot}
+use Rattle.tomex_cycle.proofs.Words.{IsYetToIssue, MakesStarts, MakesAddress, MakesIssue, MakesEnds, is_done, Progress}
+use Rattle.tomex_cycle.proofs.Words.{Running, Ended, AreBusy, Pools, Core, Front, IsNextCycle, IsUpTo, core, front}
+use Rattle.tomex_cycle.proofs.Runs.{done_is, rest_to, run_timed, AreLater, issued_up_to, starts_after, store_unit}
 
 -- what issues later hasn't written memory yet
 bytes_later : (config : Configuration) (i : Loaded) (newer h : List Done) (t u a : ℕ) → AreTimed config (newer ++ h)
@@ -29,8 +16,7 @@ bytes_later config i (d ∷ newer) h t u a timed later e =
     let rest : byte_at i u (newer ++ h) a ≡ byte_at i u h a = bytes_later config i newer h t u a timed.1 later.1 e in
     elim (cases_Bool (overwrites d.step a)) [
       | inl o ↦
-          let store : is_store d.step ≡ true = (and_parts _ _ o).0 in
-          let l : d.at.issue < d.at.start = store_later d timed.0 store in
+          let l : d.at.issue < d.at.start = starts_after d timed.0 (store_unit d.step (and_parts _ _ o).0) in
           rw (o, lt-leb d.at.start u (omega arith)) rest
       | inr o ↦ rw o rest
     ]

@@ -5,29 +5,26 @@ use Rattle.std.proofs.Common.{ℕ, ◌+◌, ◌<◌, ◌≤◌, ◌≡◌, ◌�
 use Rattle.std.proofs.Common.{None, ap, sym, inl, inr, ◌⊎◌, slice_index_or, IsSome, length, slice_index, option_map}
 use Rattle.tomex_cycle.proofs.Words.{nat_lt, nat_le, if◌then◌else◌, ◌&&◌, ◌==◌, not, is_some, cases_Bool, nat_tests}
 use Rattle.tomex_cycle.proofs.Words.{ltb-true, lt-ltb, le-ltb, and_parts, eqb-true, eqb-false, Loaded, Configuration}
-use Rattle.tomex_cycle.proofs.Words.{PoolId, UnitId, unit_with_pool, unread_j, unread_k, EndKind, Operand, Step, end_of}
+use Rattle.tomex_cycle.proofs.Words.{PoolId, unit_with_pool, unread_j, unread_k, EndKind, Operand, Step, end_of}
 use Rattle.tomex_cycle.proofs.Words.{next_pc_of, is_branch, is_in, is_number, j_of, k_of, operand, step_pool, step_unit}
-use Rattle.tomex_cycle.proofs.Words.{step_dest, Done, cycle_of, source_end, writer_end, IsTimed, are_branches_finished}
-use Rattle.tomex_cycle.proofs.Words.{can_start, has_operands, field_of, producer, tag_at, tag_of, Fetch, MakesEnds}
-use Rattle.tomex_cycle.proofs.Words.{steps_in, clocks, fetch_after, fetch_of, holds_place, place_of, sent_at}
-use Rattle.tomex_cycle.proofs.Words.{station_at, station_of, ShowsRegisters, ShowsStations, EndsIn, Hears, IsDoneBranch}
-use Rattle.tomex_cycle.proofs.Words.{finishes, sent_below, AreEnding, AreNamed, step_in, value_in, place_at}
-use Rattle.tomex_cycle.proofs.Words.{place_of_tag, Pools, AreBusy, RegStatus, Station, has, AreLow, dest_of, Tag, Front}
-use Rattle.tomex_cycle.proofs.Words.{front, ◌||◌, IsUpTo, eq-eqb, slot, and_right, field_from, Field, Value, Unread}
-use Rattle.tomex_cycle.proofs.Words.{none_in, AreDone, after_ends, sends_of, IsTimetableOf, LeavesTimetable, Finishes}
-use Rattle.tomex_cycle.proofs.Words.{hears, field_after, value_or_tag}
+use Rattle.tomex_cycle.proofs.Words.{step_dest, Done, source_end, writer_end, IsTimed, are_branches_finished, field_of}
+use Rattle.tomex_cycle.proofs.Words.{producer, tag_at, tag_of, Fetch, MakesEnds, steps_in, clocks, fetch_after}
+use Rattle.tomex_cycle.proofs.Words.{fetch_of, holds_place, place_of, sent_at, station_at, station_of, ShowsRegisters}
+use Rattle.tomex_cycle.proofs.Words.{ShowsStations, EndsIn, Hears, IsDoneBranch, finishes, sent_below, AreEnding}
+use Rattle.tomex_cycle.proofs.Words.{AreNamed, step_in, value_in, place_at, place_of_tag, Pools, AreBusy, RegStatus}
+use Rattle.tomex_cycle.proofs.Words.{Station, has, AreLow, dest_of, Tag, Front, front, ◌||◌, IsUpTo, eq-eqb, slot}
+use Rattle.tomex_cycle.proofs.Words.{and_right, field_from, Field, Value, Unread, none_in, AreDone, after_ends}
+use Rattle.tomex_cycle.proofs.Words.{sends_of, IsTimetableOf, LeavesTimetable, Finishes, hears, field_after}
+use Rattle.tomex_cycle.proofs.Words.{value_or_tag}
 use Rattle.tomex_rvexec.specs.History.{Follows as Reads}
 use Rattle.tomex_cycle.specs.Ends.{Follows, after_branch, target_in}
-use Rattle.tomex_cycle.proofs.StartsMade.{start_clear}
 use Rattle.tomex_cycle.proofs.Addresses.{some_none_of}
-use Rattle.tomex_cycle.proofs.Cycles.{can_start_later}
 use Rattle.tomex_cycle.proofs.EndsLoops.{ends_same}
 use Rattle.tomex_cycle.proofs.EndsState.{ends_in, option_cases, ending_is, j_cases, k_cases, later, registers_at}
 use Rattle.tomex_cycle.proofs.EndsState.{sent_all, stations_at}
-use Rattle.tomex_cycle.proofs.Fields.{unit_later}
-use Rattle.tomex_cycle.proofs.Runs.{reach}
+use Rattle.tomex_cycle.proofs.Runs.{reach, can_start_then, starts_after}
 use Rattle.tomex_cycle.proofs.StartsDone.{low_of}
-use Rattle.tomex_cycle.proofs.Truth.{or_cases}
+use Rattle.tomex_cycle.proofs.Truth.{or_cases, pool_in}
 use Rattle.tomex_timing.specs.declared.tables.Field.TheVariants.{Waits}
 use Rattle.tomex_rvdec.specs.declared.pool.PoolId.TheVariants as pools
 use Rattle.tomex_cycle.specs.declared.fetch.Fetch.TheVariants as from
@@ -41,10 +38,6 @@ branch_from pool station x h3 h4 h5 = grind (arith, nat_tests)
 pub place_high : (pool : Option PoolId) (station : Option ℕ) (x : ℕ) → is_in pools.Bru pool ≡ true
     → place_at (tag_at pool station) ≡ Some x → 80 ≤ x
 place_high pool station x h3 h4 = grind (arith, nat_tests)
-
-pool_some : (pool : Option PoolId) → is_in pools.Bru pool ≡ true → is_some pool ≡ true
-pool_some None e = absurd (cc)
-pool_some (Some p) e = refl
 
 pool_IsSome : (pool : Option PoolId) → is_in pools.Bru pool ≡ true → IsSome pool
 pool_IsSome None e = absurd (cc)
@@ -82,18 +75,6 @@ can_issue_branches d {older} timed =
 
 -- The step of a station that has started.
 
-can_start_operands : (config : Configuration) (d : Done) (older : List Done) (u : UnitId) (t : ℕ)
-    → can_start config older d.step u d.at.issue (cycle_of d.at.address) t ≡ true → has_operands older d.step t ≡ true
-can_start_operands config d older u t h =
-    (and_parts _ (has_operands older d.step t) (and_parts _ _ (and_parts _ _ h).0).0).1
-
--- what starts has both operands
-pub starts_with : {config : Configuration} (d : Done) {older : List Done} → IsTimed config older d.step d.at
-    → is_some (step_unit d.step) ≡ true → has_operands older d.step d.at.start ≡ true
-starts_with {config} d {older} timed some = start_clear (step_unit d.step) d.at.start (λ x. has_operands older d.step x)
-    (λ u. can_start config older d.step u d.at.issue (cycle_of d.at.address)) d.at.issue some
-    (can_start_operands config d older) timed.start
-
 producer_none : (t r : ℕ) (h : List Done) → writer_end h r ≤ t → producer t h r ≡ None
 producer_none t r [] l = refl
 producer_none t r (d ∷ older) l = elim (cases_Bool (is_number (Rattle.tomex_steps.specs.Steps.step_dest d.step) r)) [
@@ -113,10 +94,9 @@ pub step_back : (i : Loaded) {config : Configuration} (c : Rattle.tomex_cycle.sp
     {older : List Done} → IsTimed config older d.step d.at → Reads i (steps_in older) d.step → IsSome (step_pool d.step)
     → is_some (step_unit d.step) ≡ true → d.at.start ≤ c.end + 1 → step_in (station_of i c d older) ≡ d.step
 step_back i c d {older} timed reads pool some l =
-    let two = and_parts (nat_lt (source_end older (j_of d.step)) d.at.start) (nat_lt (source_end older (k_of d.step))
-    d.at.start) (starts_with d timed some) in
-    let a : source_end older (j_of d.step) < d.at.start = ltb-true _ _ two.0 in
-    let b : source_end older (k_of d.step) < d.at.start = ltb-true _ _ two.1 in
+    let (unit, can) = can_start_then d timed some in
+    let a : source_end older (j_of d.step) < d.at.start = can.after_j in
+    let b : source_end older (k_of d.step) < d.at.start = can.after_k in
     let j : value_in (field_of c.end older (j_of d.step)) ≡ d.step.vj = value_there c.end d.step.vj d.step.instr.rs1
     older (j_of d.step) (omega arith) (unread_j i (steps_in older) d.step reads pool) (j_cases d.step) in
     let k : value_in (field_of c.end older (k_of d.step)) ≡ d.step.vk = value_there c.end d.step.vk d.step.instr.rs2
@@ -139,9 +119,8 @@ waits_for : {i : Loaded} {config : Configuration} {t u : ℕ} (d : Done) (older 
 waits_for {i} {config} {t} {u} d older {st} None up e shown branch late done =
     let r = reach d older up.lawful up.timed in
     let order : d.at.start ≤ d.at.finish = r.order in
-    let begins : d.at.issue < d.at.start = unit_later (step_pool d.step) d.at.issue d.at.start (λ x. can_start config
-    older d.step x d.at.issue (cycle_of d.at.address)) (can_start_later config d older) (pool_some (step_pool d.step)
-    branch) up.timed.0.start in
+    let unit = unit_with_pool d.step ∙ pool_in (step_pool d.step) pools.Bru branch in
+    let begins : d.at.issue < d.at.start = starts_after d up.timed.0 unit in
     elim (option_cases (place_of d)) [
       | inl none ↦ absurd (some_none_of 0 (place_of d) (place_there d up.timed.0 (omega arith)) none)
       | inr place ↦
@@ -172,7 +151,7 @@ waits_for {i} {t = t} {u} d older {st} (Some x) up e shown branch late done =
           in
           let order : d.at.start ≤ d.at.finish = (reach d older up.lawful up.timed).order in
           let back = step_back i (clocks u u t) d up.timed.0 up.past.0 (pool_IsSome (step_pool d.step) branch)
-          (unit_with_pool d.step ∙ pool_some (step_pool d.step) branch) (omega arith) in
+          (unit_with_pool d.step ∙ pool_in (step_pool d.step) pools.Bru branch) (omega arith) in
           rw (branch, le-ltb u d.at.finish (omega arith)) (ap (λ (o : Option Station). from.At (target_in o)) slot
           ∙ ap (λ (s : Step). from.At (next_pc_of s)) back)
     ]

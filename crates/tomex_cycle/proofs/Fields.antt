@@ -1,17 +1,16 @@
 -- Operands: which are there, and what a broadcast makes of those that wait.
-use Rattle.std.proofs.Common.{ℕ, ◌+◌, ◌<◌, ◌≤◌, ◌≡◌, ◌∙◌, Bool, true, false, arith, refl, List, [], ◌∷◌, ◌++◌, Option}
-use Rattle.std.proofs.Common.{Some, None, ap, sym, inl, inr, append_assoc, ◌⊎◌}
-use Rattle.tomex_cycle.proofs.Words.{nat_lt, if◌then◌else◌, ◌&&◌, ◌==◌, not, is_some, is_none, MatchOption, cases_Bool}
-use Rattle.tomex_cycle.proofs.Words.{nat_tests, ltb-true, ltb-false, lt-ltb, le-ltb, and_parts, eqb-true, eqb-false}
-use Rattle.tomex_cycle.proofs.Words.{eq-eqb, Loaded, Configuration, PoolId, UnitId, unit_at, dest_needs_pool, cycle_of}
-use Rattle.tomex_cycle.proofs.Words.{source_end, writer_end, IsLeast, can_start, IsTimed, Operand, result_of}
-use Rattle.tomex_cycle.proofs.Words.{byte_after, register_after, is_number, step_dest, step_pool, Value, Tag, Done}
-use Rattle.tomex_cycle.proofs.Words.{field_of, field_from, producer, tag_of, unsent_tag, steps_in, holds_place}
-use Rattle.tomex_cycle.proofs.Words.{place_of, sent_at, field_after, is_there, place_at, place_of_tag, IsUpTo}
-use Rattle.tomex_cycle.proofs.Cycles.{can_start_later}
+use Rattle.std.proofs.Common.{ℕ, ◌+◌, ◌<◌, ◌≤◌, ◌≡◌, ◌∙◌, true, false, arith, refl, List, [], ◌∷◌, ◌++◌, Option, Some}
+use Rattle.std.proofs.Common.{None, ap, sym, inl, inr, append_assoc}
+use Rattle.tomex_cycle.proofs.Words.{nat_lt, if◌then◌else◌, ◌&&◌, ◌==◌, not, is_some, is_none, cases_Bool, nat_tests}
+use Rattle.tomex_cycle.proofs.Words.{ltb-true, ltb-false, lt-ltb, le-ltb, and_parts, eqb-true, eqb-false, eq-eqb}
+use Rattle.tomex_cycle.proofs.Words.{Loaded, Configuration, PoolId, dest_needs_pool, source_end, writer_end, IsTimed}
+use Rattle.tomex_cycle.proofs.Words.{Operand, result_of, byte_after, register_after, is_number, step_dest, step_pool}
+use Rattle.tomex_cycle.proofs.Words.{Value, Tag, Done, field_of, field_from, producer, tag_of, unsent_tag, steps_in}
+use Rattle.tomex_cycle.proofs.Words.{holds_place, place_of, sent_at, field_after, is_there, place_at, place_of_tag}
+use Rattle.tomex_cycle.proofs.Words.{IsUpTo, unit_with_pool}
 use Rattle.tomex_timing.specs.declared.tables.Field.TheVariants.{Waits}
 use Rattle.tomex_cycle.proofs.Places.{is_vacant, vacant, place_there, not_vacant, older_up_to, part_up_to}
-use Rattle.tomex_cycle.proofs.Runs.{reach}
+use Rattle.tomex_cycle.proofs.Runs.{reach, starts_after}
 
 -- the tag of a step that hasn't ended
 tag_from : (tag : Option Tag) → is_some (place_at tag) ≡ true → (t : Tag) × (tag ≡ Some t)
@@ -86,30 +85,18 @@ sent_newer t u x (n ∷ newer) h up e held = elim (cases_Bool (is_number (place_
   | inr at ↦ rw at (sent_newer t u x newer h (older_up_to up) e held)
 ]
 
-pub unit_later : (pool : Option PoolId) (issue start : ℕ) (P : UnitId → ℕ → Bool)
-    → ((u : UnitId) (x : ℕ) → P u x ≡ true → issue < x) → is_some pool ≡ true
-    → MatchOption (unit_at pool) (start ≡ issue) (λ u. IsLeast (P u) start) → issue < start
-unit_later None issue start P later some timed = absurd (cc)
-unit_later (Some pool) issue start P later some timed = later _ start timed.0
-
-pool_cases : (pool : Option PoolId) → (pool ≡ None) ⊎ (is_some pool ≡ true)
-pool_cases None = inl refl
-pool_cases (Some p) = inr refl
-
 -- what writes a register ends after its issue
 pub dest_later : {i : Loaded} {config : Configuration} {s : ℕ} (d : Done) (older : List Done)
     → IsUpTo i config s (d ∷ older) → is_some (step_dest d.step) ≡ true → d.at.issue < d.at.end
-dest_later {config = config} d older up dest = elim (pool_cases (step_pool d.step)) [
-  | inl e ↦
-      let z : step_dest d.step ≡ None = dest_needs_pool d.step e in
-      let f : is_some {T = ℕ} None ≡ true = rw z at dest in
-      absurd (cc)
-  | inr e ↦
-      let r = reach d older up.lawful up.timed in
-      let l : d.at.issue < d.at.start = unit_later (step_pool d.step) d.at.issue d.at.start (λ u. can_start config older
-      d.step u d.at.issue (cycle_of d.at.address)) (can_start_later config d older) e up.timed.0.start in
-      omega arith
-]
+dest_later d older up dest =
+    let pool : is_some (step_pool d.step) ≡ true = of (step_pool d.step) refl in
+    let r = reach d older up.lawful up.timed in
+    let l : d.at.issue < d.at.start = starts_after d up.timed.0 (unit_with_pool d.step ∙ pool) in
+    omega arith
+  where
+    of : (o : Option PoolId) → step_pool d.step ≡ o → is_some o ≡ true
+    of None e = let z : true ≡ false = sym dest ∙ ap is_some (dest_needs_pool d.step e) in absurd (cc)
+    of (Some p) e = refl
 
 -- the youngest writer of a register, if any
 pub data Writer (i : Loaded) (r : ℕ) (h : List Done) : Type 0 where

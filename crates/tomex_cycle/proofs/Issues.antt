@@ -5,24 +5,20 @@ use Rattle.tomex_cycle.proofs.Words.{nat_lt, nat_le, ◌&&◌, ◌==◌, if◌th
 use Rattle.tomex_cycle.proofs.Words.{nat_tests, MatchOption, cases_Bool, ltb-true, lt-ltb, lt-leb, and_parts, eqb-true}
 use Rattle.tomex_cycle.proofs.Words.{eqb-false, get_or-set_same, get_or-set_other, length-set, Loaded, Configuration}
 use Rattle.tomex_cycle.proofs.Words.{IsWithinLimits, Form, PoolId, Instruction, form_of, sources_at, sources_of, Step}
-use Rattle.tomex_cycle.proofs.Words.{end_of, result_of, byte_after, register_after, address_of, is_branch, is_in}
-use Rattle.tomex_cycle.proofs.Words.{is_number, j_of, k_of, operand, step_dest, step_pool, dest_needs_pool, Field, Tag}
-use Rattle.tomex_cycle.proofs.Words.{Done, cycle_of, is_memory, AreTimed, IsTimed, IsLeast, can_issue, is_free}
-use Rattle.tomex_cycle.proofs.Words.{field_of, tag_at, tag_of, unsent_tag, issue_from, Fetch, IsYetToIssue, first_timed}
-use Rattle.tomex_cycle.proofs.Words.{steps_in, Clocks, ShowsRegisters, ShowsStations, clocks, fetch_after, fetch_of}
-use Rattle.tomex_cycle.proofs.Words.{place_of, station_at, station_of, issue_number_at, place_at, new_station, Pools}
-use Rattle.tomex_cycle.proofs.Words.{operand_in, tags_with, RegStatus, Station}
+use Rattle.tomex_cycle.proofs.Words.{end_of, result_of, byte_after, register_after, address_of, is_branch, is_number}
+use Rattle.tomex_cycle.proofs.Words.{j_of, k_of, operand, step_dest, step_pool, dest_needs_pool, Field, Tag, Done}
+use Rattle.tomex_cycle.proofs.Words.{cycle_of, is_memory, AreTimed, IsTimed, IsLeast, can_issue, is_free, field_of}
+use Rattle.tomex_cycle.proofs.Words.{tag_at, tag_of, unsent_tag, issue_from, Fetch, IsYetToIssue, first_timed, steps_in}
+use Rattle.tomex_cycle.proofs.Words.{Clocks, ShowsRegisters, ShowsStations, clocks, fetch_after, fetch_of, place_of}
+use Rattle.tomex_cycle.proofs.Words.{station_at, station_of, issue_number_at, place_at, new_station, Pools, operand_in}
+use Rattle.tomex_cycle.proofs.Words.{tags_with, RegStatus, Station, is_some, unit_with_pool}
 use Rattle.tomex_rvexec.specs.History.{Follows}
 use Rattle.tomex_cycle.proofs.Addresses.{address_is}
-use Rattle.tomex_cycle.proofs.Cycles.{can_start_later}
-use Rattle.tomex_cycle.proofs.Runs.{reach}
+use Rattle.tomex_cycle.proofs.Runs.{reach, starts_after}
+use Rattle.tomex_cycle.proofs.Truth.{pool_in}
 use Rattle.tomex_rvdec.specs.declared.pool.PoolId.TheVariants as pools
 
 -- The times of what issues lie after the cycle.
-
-starts_after : {config : Configuration} (d : Done) {older : List Done} (p : PoolId) → IsTimed config older d.step d.at
-    → step_pool d.step ≡ Some p → d.at.issue < d.at.start
-starts_after {config} d {older} p timed e = grind (arith, nat_tests, can_start_later config d older)
 
 address_after : {config : Configuration} (d : Done) {older : List Done} → IsTimed config older d.step d.at
     → is_memory d.step ≡ true → d.at.issue < cycle_of d.at.address
@@ -76,12 +72,10 @@ made_from : (instr : Instruction) (pc : ℕ) (j k : Field) (start u finish value
 made_from instr pc j k start u finish value address l e = rw (lt-leb start u l, e) refl
 
 pub station_made : (i : Loaded) {config : Configuration} (t u : ℕ) (d : Done) {h : List Done} (p : PoolId)
-    → IsTimed config h d.step d.at → d.at.issue ≡ u → step_pool d.step ≡ Some p
-    → station_of i (clocks u u t) d h ≡ new_station d.step.instr d.step.pc (field_of t h (j_of d.step))
-    (field_of t h (k_of
-    d.step))
+    → IsTimed config h d.step d.at → d.at.issue ≡ u → step_pool d.step ≡ Some p → station_of i (clocks u u t) d h
+    ≡ new_station d.step.instr d.step.pc (field_of t h (j_of d.step)) (field_of t h (k_of d.step))
 station_made i t u d {h} p timed at pool =
-    let after : d.at.issue < d.at.start = starts_after d p timed pool in
+    let after : d.at.issue < d.at.start = starts_after d timed (unit_with_pool d.step ∙ ap is_some pool) in
     made_from d.step.instr d.step.pc (field_of t h (j_of d.step)) (field_of t h (k_of d.step)) d.at.start u d.at.finish
     (result_of d.step (byte_after i (steps_in h)))
     (if is_memory d.step && nat_le (cycle_of d.at.address) u then Some (address_of d.step) else None) (omega arith)
@@ -203,10 +197,6 @@ registers_same d shown none =
 
 -- Fetch.
 
-branch_pool : (pool : Option PoolId) (p : PoolId) → is_in p pool ≡ true → (q : PoolId) × (pool ≡ Some q)
-branch_pool None p e = absurd (cc)
-branch_pool (Some q) p e = (q, refl)
-
 branch_late : (b : Bool) (t finish : ℕ) → (b ≡ true → t < finish) → b ≡ (b && nat_lt t finish)
 branch_late b t finish l = grind (arith, nat_tests)
 
@@ -215,8 +205,8 @@ pub fetch_made : (i : Loaded) {config : Configuration} (t u : ℕ) (d : Done) (h
     → ft ≡ fetch_after d.step (is_branch d.step) (end_of d.step) → ft ≡ fetch_of i t (d ∷ h)
 fetch_made i t u d h ft good timed at e is =
     let late : is_branch d.step ≡ true → t < d.at.finish = λ b. (
-    let q = branch_pool (step_pool d.step) pools.Bru b in
-    let after : d.at.issue < d.at.start = starts_after d q.0 timed.0 q.1 in
+    let after : d.at.issue < d.at.start =
+    starts_after d timed.0 (unit_with_pool d.step ∙ pool_in (step_pool d.step) pools.Bru b) in
     let r : d.at.start ≤ d.at.finish = (reach d h good timed).order in
     omega arith) in
     is ∙ ap (λ (w : Bool). fetch_after d.step w (end_of d.step)) (branch_late (is_branch d.step) t d.at.finish late)

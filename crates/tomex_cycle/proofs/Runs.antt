@@ -10,7 +10,8 @@ use Rattle.tomex_cycle.proofs.Words.{Front, IsIssuedTo, IsUpTo, nat_lt, is_some,
 use Rattle.tomex_cycle.proofs.Words.{ltb-false, lt-ltb, le-ltb, eqb-true, eqb-false, length-append, next_pc_of}
 use Rattle.tomex_cycle.proofs.Words.{is_branch, greatest_end, timed_by, Fetch, At, Stopped, first_timed, clocks}
 use Rattle.tomex_cycle.proofs.Words.{order_of, onto_end, fetch_of, fetch_after, is_done, IsInIssueOrder, AreBusy, Pools}
-use Rattle.tomex_cycle.proofs.Words.{RegStatus, front}
+use Rattle.tomex_cycle.proofs.Words.{RegStatus, front, IsLeast, IsTimed, MatchOption, UnitId, can_start, cycle_of}
+use Rattle.tomex_cycle.proofs.Words.{is_store, step_pool, step_unit, unit_with_pool}
 use Rattle.tomex_rvexec.specs.History.{history as first_steps}
 use Rattle.tomex_rvexec.proofs.FlowEnds.{step_comes, steps_to_end}
 use Rattle.tomex_timing.specs.Search.{timed_of, history}
@@ -20,6 +21,10 @@ use Rattle.tomex_cycle.proofs.Places.{busy_at, older_up_to}
 use Rattle.tomex_timing.proofs.Bound.{InReach, in_reach}
 use Rattle.tomex_cycle.specs.declared.fetch.Fetch.TheVariants.{Waits}
 use Rattle.tomex_cycle.proofs.Orders.{empty_order, empty_set, order_is}
+use Rattle.tomex_timing.proofs.Tests.{can_start_is}
+use Rattle.tomex_timing.specs.Tests.{CanStart}
+use Rattle.tomex_cycle.proofs.Truth.{pool_in, some_of}
+use Rattle.tomex_rvdec.specs.declared.pool.PoolId.TheVariants as pools
 
 -- the next step with its times
 abbrev pub next_done : Configuration → List Done → Step → Done
@@ -179,6 +184,33 @@ pub reach : {config : Configuration} (d : Done) (older : List Done) → IsWithin
     → AreTimed config (d ∷ older) → InReach (greatest_end older) d.at
 reach {config} d older good timed =
     in_reach config older d.step d.at (greatest_end older) good (timed_by config older good timed.1) timed.0
+
+-- what starts had passed the test for it
+pub start_least : {config : Configuration} (d : Done) {older : List Done} (unit : UnitId)
+    → IsTimed config older d.step d.at → step_unit d.step ≡ Some unit
+    → IsLeast (can_start config older d.step unit d.at.issue (cycle_of d.at.address)) d.at.start
+start_least {config} d {older} unit timed e = of (step_unit d.step) e timed.start
+  where
+    of : (o : Option UnitId) → o ≡ Some unit → MatchOption o (d.at.start ≡ d.at.issue)
+        (λ u. IsLeast (can_start config older d.step u d.at.issue (cycle_of d.at.address)) d.at.start)
+        → IsLeast (can_start config older d.step unit d.at.issue (cycle_of d.at.address)) d.at.start
+    of None e h = absurd (cc)
+    of (Some v) e h = let f : v ≡ unit = cc in rw (← f) h
+
+pub can_start_then : {config : Configuration} (d : Done) {older : List Done} → IsTimed config older d.step d.at
+    → is_some (step_unit d.step) ≡ true
+    → (u : UnitId) × CanStart config older d.step u d.at.issue (cycle_of d.at.address) d.at.start
+can_start_then {config} d {older} timed some =
+    let (u, e) = some_of (step_unit d.step) some in
+    (u, can_start_is config older d.step u d.at.issue (cycle_of d.at.address) d.at.start (start_least d u timed e).0)
+
+-- so it starts after its issue
+pub starts_after : {config : Configuration} (d : Done) {older : List Done} → IsTimed config older d.step d.at
+    → is_some (step_unit d.step) ≡ true → d.at.issue < d.at.start
+starts_after d timed some = (can_start_then d timed some).1.after_issue
+
+pub store_unit : (x : Step) → is_store x ≡ true → is_some (step_unit x) ≡ true
+store_unit x e = unit_with_pool x ∙ pool_in (step_pool x) pools.Store e
 
 onto_end-some : (xs : List ℕ) (o : Option ℕ) → is_some o ≡ true → 0 < length (onto_end xs o)
 onto_end-some xs None h = absurd (cc)

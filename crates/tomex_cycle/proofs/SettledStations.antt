@@ -16,9 +16,8 @@ use Rattle.tomex_cycle.proofs.Words.{step_unit, Done, cycle_of, is_memory, AreTi
 use Rattle.tomex_cycle.proofs.Words.{can_start, AllSettled, finishes, AreResults, NoneWaits, clocks, holds_place}
 use Rattle.tomex_cycle.proofs.Words.{place_of, station_at, station_of, ShowsStations, is_waiting, Pools, waits, Station}
 use Rattle.tomex_cycle.proofs.Words.{IsUpTo, step_pool, slot, ◌⊎◌, IsTimetableOf, IsSnapshot, first_timed, Finishes}
-use Rattle.tomex_cycle.proofs.Words.{Core, IsNextCycle}
-use Rattle.tomex_cycle.proofs.Cycles.{can_start_later}
-use Rattle.tomex_cycle.proofs.Runs.{AreLater, reach, issued_up_to}
+use Rattle.tomex_cycle.proofs.Words.{Core, IsNextCycle, is_some}
+use Rattle.tomex_cycle.proofs.Runs.{AreLater, reach, issued_up_to, starts_after}
 use Rattle.tomex_cycle.proofs.StartsPicked.{ready_is, no_address}
 use Rattle.tomex_cycle.proofs.Truth.{some_not_none}
 use Rattle.tomex_cycle.proofs.Known.{free_to}
@@ -204,25 +203,19 @@ issued_settles {t = t} {u} (d ∷ older) up e kept free idle = (
   issued_settles older (older_up_to up) e (older_kept kept) free idle,
 )
 
-start_after : (config : Configuration) (d : Done) (older : List Done) (unit : Option UnitId) → MatchOption unit
-    (d.at.start ≡ d.at.issue)
-    (λ u. IsLeast (can_start config older d.step u d.at.issue (cycle_of d.at.address)) d.at.start)
-    → d.at.issue ≤ d.at.start
-start_after config d older None timed = let e : d.at.start ≡ d.at.issue = timed in omega arith
-start_after config d older (Some u) timed = let l : d.at.issue < d.at.start =
-    can_start_later config d older u d.at.start timed.0 in omega arith
+start_after : {config : Configuration} (d : Done) {older : List Done} → IsTimed config older d.step d.at
+    → (d.at.start ≡ d.at.issue) ⊎ (d.at.issue < d.at.start)
+start_after {config} d {older} timed = of (step_unit d.step) refl timed.start
+  where
+    of : (o : Option UnitId) → step_unit d.step ≡ o → MatchOption o (d.at.start ≡ d.at.issue)
+        (λ u. IsLeast (can_start config older d.step u d.at.issue (cycle_of d.at.address)) d.at.start)
+        → (d.at.start ≡ d.at.issue) ⊎ (d.at.issue < d.at.start)
+    of None e same = inl same
+    of (Some u) e least = inr (starts_after d timed (ap is_some e))
 
 address_after : {config : Configuration} (d : Done) {older : List Done} (u : ℕ) → IsTimed config older d.step d.at
     → u < d.at.issue → cycle_of d.at.address ≡ u → 0 < u → ⊥
 address_after d {older} u timed l e low = grind (arith, nat_tests)
-
-start_apart : (config : Configuration) (d : Done) (older : List Done) (u : ℕ) (unit : Option UnitId) → MatchOption unit
-    (d.at.start ≡ d.at.issue)
-    (λ k. IsLeast (can_start config older d.step k d.at.issue (cycle_of d.at.address)) d.at.start) → u < d.at.issue
-    → d.at.issue ≢ u + 1 → d.at.start ≢ u + 1
-start_apart config d older u None timed late apart e = let same : d.at.start ≡ d.at.issue = timed in apart (omega arith)
-start_apart config d older u (Some k) timed late apart e = let l : d.at.issue < d.at.start =
-    can_start_later config d older k d.at.start timed.0 in omega arith
 
 -- what issues later has nothing before, and doesn't issue in the next cycle
 pub later_settled : {config : Configuration} (u : ℕ) (newer h : List Done) → IsWithinLimits config
@@ -231,18 +224,18 @@ later_settled u [] h good timed later low settled = settled
 later_settled {config} u (d ∷ newer) h good timed later low settled =
     let older : AllSettled u (newer ++ h) = later_settled u newer h good timed.1 later.1 low settled in
     let l : u < d.at.issue = later.0 in
-    let apart = not_least (can_issue config (newer ++ h) d.step) d.at.issue u (issue_quiet u (newer ++ h) d.step low
-    good timed.1 (settled_rests u (newer ++ h) older) (last_issue_settled u (newer ++ h) older)) timed.0.issue in
-    let s : d.at.issue ≤ d.at.start = start_after config d (newer ++ h) (step_unit d.step) timed.0.start in
-    let r = reach d (newer ++ h) good timed in
-    let end : d.at.finish ≤ d.at.end = r.finish in (
+    let apart : d.at.issue ≢ u + 1 = not_least (can_issue config (newer ++ h) d.step) d.at.issue u (issue_quiet u
+    (newer ++ h) d.step low good timed.1 (settled_rests u (newer ++ h) older) (last_issue_settled u (newer ++ h) older))
+    timed.0.issue in
+    let s : (d.at.start ≡ d.at.issue) ⊎ (d.at.issue < d.at.start) = start_after d timed.0 in
+    let r = reach d (newer ++ h) good timed in (
       record {
         issue = λ z. omega arith;
         address = λ z. address_after d u timed.0 l z low;
-        finish = λ z. omega arith;
+        finish = λ z. elim s [ inl same ↦ omega arith | inr more ↦ omega arith ];
         end = λ z. omega arith;
         no_issue_next = apart;
-        no_start_next = start_apart config d (newer ++ h) u (step_unit d.step) timed.0.start l apart;
+        no_start_next = λ z. elim s [ inl same ↦ apart (omega arith) | inr more ↦ omega arith ];
       },
       older,
     )
@@ -252,8 +245,7 @@ pub later_due : (P : Done → Type 0) (config : Configuration) (u w : ℕ) (newe
 later_due P config u w [] h timed later due = due
 later_due P config u w (d ∷ newer) h timed later due = (
   (λ started _. let l : u < d.at.issue = later.0 in
-      let s : d.at.issue ≤ d.at.start = start_after config d (newer ++ h) (step_unit d.step) timed.0.start in
-      absurd (omega arith)),
+      absurd (elim (start_after d timed.0) [ inl same ↦ omega arith | inr more ↦ omega arith ])),
   later_due P config u w newer h timed.1 later.1 due,
 )
 

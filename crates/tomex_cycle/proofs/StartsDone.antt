@@ -11,9 +11,9 @@ use Rattle.tomex_cycle.proofs.Words.{IsTimed, IsUpTo, slot, ltb-false, both_ways
 use Rattle.tomex_cycle.proofs.Words.{IsInside, AllCanBegin, AllInside, CanBegin, HaveBegun, HaveStored, begun}
 use Rattle.tomex_cycle.proofs.Words.{IsStarting, AreLow, ShowsMemory, station_of, Pools, AreBusy, get_or_past}
 use Rattle.tomex_cycle.proofs.Words.{place_of_unit, UnitId, and_right, none_in, begun_if}
-use Rattle.tomex_cycle.proofs.StartsMade.{conflict_at, starts_clear, store_unit, step_is, begins_at, inside_is, some_is}
+use Rattle.tomex_cycle.proofs.StartsMade.{conflict_at, starts_clear, step_is, begins_at, inside_is, some_is}
 use Rattle.tomex_cycle.proofs.StartsPicked.{starts_at, starts_in, starting_is, five}
-use Rattle.tomex_cycle.proofs.Runs.{reach}
+use Rattle.tomex_cycle.proofs.Runs.{reach, store_unit}
 use Rattle.tomex_cycle.proofs.Truth.{or_cases}
 use Rattle.tomex_cycle.proofs.StartsBegun.{stored_skip}
 use Rattle.tomex_rvdec.specs.declared.pool.UnitId.TheVariants as units

@@ -1,27 +1,27 @@
 -- In the cycle in which it starts an access finds in memory the bytes that the run has before it.
-use Rattle.std.proofs.Common.{ℕ, ◌+◌, ◌<◌, ◌≤◌, ◌≡◌, ◌∙◌, Bool, true, arith, refl, List, [], ◌∷◌, ◌++◌, Option, Some}
-use Rattle.std.proofs.Common.{None, inl, inr, length, append_assoc, ◌-◌, false, ap, sym}
+use Rattle.std.proofs.Common.{ℕ, ◌+◌, ◌<◌, ◌≤◌, ◌≡◌, ◌∙◌, true, arith, refl, List, [], ◌∷◌, ◌++◌, Option, Some, None}
+use Rattle.std.proofs.Common.{inl, inr, length, append_assoc, ◌-◌, false, ap, sym}
 use Rattle.tomex_cycle.proofs.Words.{nat_lt, not, is_some, MatchOption, cases_Bool, ltb-true, nat_tests, lt-leb, le-leb}
-use Rattle.tomex_cycle.proofs.Words.{and_parts, or_right, or_left, Loaded, Configuration, IsWithinLimits, PoolId}
-use Rattle.tomex_cycle.proofs.Words.{UnitId, ByteRange, Step, covers, overwrites, byte_after, bytes_of, is_in, is_store}
-use Rattle.tomex_cycle.proofs.Words.{step_pool, step_unit, unit_with_pool, Done, cycle_of, AreTimed, IsTimed, IsLeast}
-use Rattle.tomex_cycle.proofs.Words.{can_start, conflicts, are_conflicts_finished, byte_at, steps_in, ◌||◌, IsUpTo}
-use Rattle.tomex_cycle.proofs.Words.{nat_le, ◌&&◌, ◌==◌, option_map, IfSome, IsSome, eqb-true, eqb-false, option_of, Op}
-use Rattle.tomex_cycle.proofs.Words.{sources_of, unit_of, IsAllowed, byte_in, result_of, Bytes, j_of, k_of, operand}
-use Rattle.tomex_cycle.proofs.Words.{unread_j, unread_k, source_end, field_of, producer, ArePast, IsInside, begun}
-use Rattle.tomex_cycle.proofs.Words.{begun_if, ShowsMemory, clocks, holds_place, station_at, station_of, step_in}
-use Rattle.tomex_cycle.proofs.Words.{is_there, value_in, Station, lt-ltb}
+use Rattle.tomex_cycle.proofs.Words.{and_parts, or_right, or_left, Loaded, Configuration, IsWithinLimits, UnitId}
+use Rattle.tomex_cycle.proofs.Words.{ByteRange, Step, covers, overwrites, byte_after, bytes_of, is_store, step_pool}
+use Rattle.tomex_cycle.proofs.Words.{step_unit, unit_with_pool, Done, cycle_of, AreTimed, IsTimed, IsLeast, can_start}
+use Rattle.tomex_cycle.proofs.Words.{conflicts, are_conflicts_finished, byte_at, steps_in, ◌||◌, IsUpTo, nat_le, ◌&&◌}
+use Rattle.tomex_cycle.proofs.Words.{◌==◌, option_map, IfSome, IsSome, eqb-true, eqb-false, option_of, Op, sources_of}
+use Rattle.tomex_cycle.proofs.Words.{unit_of, IsAllowed, byte_in, result_of, Bytes, j_of, k_of, operand, unread_j}
+use Rattle.tomex_cycle.proofs.Words.{unread_k, source_end, field_of, producer, ArePast, IsInside, begun, begun_if}
+use Rattle.tomex_cycle.proofs.Words.{ShowsMemory, clocks, holds_place, station_at, station_of, step_in, is_there}
+use Rattle.tomex_cycle.proofs.Words.{value_in, Station, lt-ltb}
 use Rattle.tomex_steps.specs.Results.{is_among}
 use Rattle.tomex_timing.specs.Recurrence.{shares_byte}
-use Rattle.tomex_cycle.proofs.Runs.{reach}
+use Rattle.tomex_cycle.proofs.Runs.{reach, can_start_then, start_least, store_unit}
 use Rattle.tomex_cycle.proofs.Places.{older_up_to, part_up_to}
-use Rattle.tomex_timing.proofs.Tests.{can_start_is}
 use Rattle.tomex_rvexec.specs.Flow.{end_at}
 use Rattle.tomex_rvexec.proofs.FlowRuns.{same_result}
 use Rattle.tomex_cycle.specs.Starts.{finish_from}
 use Rattle.tomex_cycle.proofs.Fields.{there_test}
 use Rattle.tomex_cycle.proofs.StartsBegun.{inside_as}
-use Rattle.tomex_cycle.proofs.StartsPicked.{there_value, start_least, starts_at, starts_in}
+use Rattle.tomex_cycle.proofs.StartsPicked.{there_value, starts_at, starts_in}
+use Rattle.tomex_cycle.proofs.Truth.{some_of}
 use Rattle.tomex_rvdec.specs.declared.pool.PoolId.TheVariants as pools
 use Rattle.tomex_rvdec.specs.declared.op.Op.TheVariants as ops
 
@@ -33,24 +33,12 @@ pub conflict_at : (x y : Step) (a : ℕ) → covers x a ≡ true → covers y a 
     → conflicts x y ≡ true
 conflict_at x y a e f s = rw (share_from (bytes_of x) (bytes_of y) a e f, s) refl
 
-pub start_clear : (unit : Option UnitId) (start : ℕ) (clear : ℕ → Bool) (P : UnitId → ℕ → Bool) (issue : ℕ)
-    → is_some unit ≡ true → ((u : UnitId) (x : ℕ) → P u x ≡ true → clear x ≡ true)
-    → MatchOption unit (start ≡ issue) (λ u. IsLeast (P u) start) → clear start ≡ true
-start_clear None start clear P issue some out timed = absurd (cc)
-start_clear (Some u) start clear P issue some out timed = out u start timed.0
-
-can_start_clear : (config : Configuration) (d : Done) (older : List Done) (u : UnitId) (t : ℕ)
-    → can_start config older d.step u d.at.issue (cycle_of d.at.address) t ≡ true
-    → are_conflicts_finished older d.step t ≡ true
-can_start_clear config d older u t h = (and_parts _ (are_conflicts_finished older d.step t) (and_parts _ _ h).0).1
-
 -- what starts waits for each older access to its bytes
 pub starts_clear : {config : Configuration} (d : Done) {older : List Done} → IsTimed config older d.step d.at
     → is_some (step_unit d.step) ≡ true → are_conflicts_finished older d.step d.at.start ≡ true
-starts_clear {config} d {older} timed some =
-    start_clear (step_unit d.step) d.at.start (λ x. are_conflicts_finished older d.step x)
-    (λ u. can_start config older d.step u d.at.issue (cycle_of d.at.address)) d.at.issue some
-    (can_start_clear config d older) timed.start
+starts_clear d {older} timed some =
+    let (u, e) = some_of (step_unit d.step) some in
+    (and_parts _ (are_conflicts_finished older d.step d.at.start) (and_parts _ _ (start_least d u timed e).0).0).1
 
 finished_one : (d e : Done) (a : ℕ) → covers e.step a ≡ true → covers d.step a ≡ true
     → (is_store e.step || is_store d.step) ≡ true
@@ -78,13 +66,6 @@ older_made i t a d (e ∷ older) good timed c at clear =
           let r : e.at.start ≤ e.at.finish = (reach e older good timed).order in
           rw (o, le-leb e.at.start t (omega arith)) refl
     ]
-
-store_pool : (pool : Option PoolId) → is_in pools.Store pool ≡ true → is_some pool ≡ true
-store_pool None e = absurd (cc)
-store_pool (Some p) e = refl
-
-pub store_unit : (x : Step) → is_store x ≡ true → is_some (step_unit x) ≡ true
-store_unit x e = unit_with_pool x ∙ store_pool (step_pool x) e
 
 clear_at : (newer : List Done) (d : Done) (older : List Done) (n : Done) (a : ℕ) → covers d.step a ≡ true
     → covers n.step a ≡ true → is_store n.step ≡ true
@@ -129,19 +110,13 @@ found_is {i} t a d newer older up some c at =
 
 -- What starts has its finish and its result.
 
-unit_some : {A : Type 0} (o : Option A) → is_some o ≡ true → (x : A) × (o ≡ Some x)
-unit_some None e = absurd (cc)
-unit_some (Some x) e = (x, refl)
-
 -- both operands of a step that starts in the next cycle are there
 operands_there : {i : Loaded} {config : Configuration} (t u : ℕ) (d : Done) (older : List Done)
     → IsUpTo i config t (d ∷ older) → u ≡ t + 1 → starts_in u d ≡ true
     → (is_there (field_of t older (j_of d.step)) ≡ true) × (is_there (field_of t older (k_of d.step)) ≡ true)
-operands_there {config = config} t u d older up e starts =
+operands_there t u d older up e starts =
     let two = and_parts (is_some (step_unit d.step)) (d.at.start == u) starts in
-    let unit = unit_some (step_unit d.step) two.0 in
-    let can = can_start_is config older d.step unit.0 d.at.issue (cycle_of d.at.address) d.at.start
-    (start_least d unit.0 up.timed.0 unit.1).0 in
+    let (unit, can) = can_start_then d up.timed.0 two.0 in
     let at : d.at.start ≡ u = eqb-true _ _ two.1 in
     let j : source_end older (j_of d.step) < d.at.start = can.after_j in
     let k : source_end older (k_of d.step) < d.at.start = can.after_k in (

@@ -15,7 +15,7 @@ use Rattle.tomex_cycle.proofs.Words.{is_of, can_start, has_unit, tag_at, tag_of,
 use Rattle.tomex_cycle.proofs.Words.{ShowsStations, holds_place, place_of, place_at, AreBusy, IsInIssueOrder, has}
 use Rattle.tomex_cycle.proofs.Words.{PoolId, is_free, onto_end}
 use Rattle.tomex_steps.proofs.Fields.{bytes_of_memory}
-use Rattle.tomex_cycle.proofs.Runs.{reach}
+use Rattle.tomex_cycle.proofs.Runs.{reach, start_least}
 use Rattle.tomex_cycle.proofs.Fields.{there_test}
 use Rattle.tomex_membuf.proofs.Older.{share_none}
 use Rattle.tomex_cycle.proofs.Places.{ShowsPart, busy_at, held_here, older_shown, older_up_to, is_vacant, vacant}
@@ -150,17 +150,6 @@ count_of unit u h = count_by (λ d. is_of unit (step_unit d.step) && (d.at.start
 tests_same : (i a j k c b w : Bool) → i ≡ true → (a ≡ true → j ≡ true → k ≡ true → c ≡ b)
     → ((((((true && j) && k) && a) && c) && w) ≡ ((((i && a) && (j && k)) && b) && w))
 tests_same i a j k c b w e f = grind (arith, nat_tests)
-
-least_from : (o : Option UnitId) (unit : UnitId) (P : Type 0) (Q : UnitId → Type 0) → o ≡ Some unit → MatchOption o P Q
-    → Q unit
-least_from None unit P Q e h = absurd (cc)
-least_from (Some v) unit P Q e h = let f : v ≡ unit = cc in rw (← f) h
-
-pub start_least : {config : Configuration} (d : Done) {older : List Done} (unit : UnitId)
-    → IsTimed config older d.step d.at → step_unit d.step ≡ Some unit
-    → IsLeast (can_start config older d.step unit d.at.issue (cycle_of d.at.address)) d.at.start
-start_least {config} d {older} unit timed e = least_from (step_unit d.step) unit (d.at.start ≡ d.at.issue)
-    (λ v. IsLeast (can_start config older d.step v d.at.issue (cycle_of d.at.address)) d.at.start) e timed.start
 
 clear_here : {i : Loaded} {config : Configuration} {t u : ℕ} {st : Pools} (d : Done) (older : List Done)
     → IsUpTo i config t (d ∷ older) → u ≡ t + 1 → ShowsPart i (clocks t t t) st older → cycle_of d.at.address < u →

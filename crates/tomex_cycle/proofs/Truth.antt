@@ -2,7 +2,7 @@
 use Rattle.std.proofs.Common.{◌≡◌, Bool, true, false, ◌&&◌, Option, Some, None, ◌⊎◌, arith, refl, inl, inr, ℕ, ◌+◌, ◌<◌}
 use Rattle.std.proofs.Common.{◌≤◌}
 use Rattle.tomex_cycle.proofs.Words.{Result, Ok, Err, nat_tests, ◌||◌, ◌≢◌, ◌⊎◌, if◌then◌else◌, AreFrom, IsWithout, has}
-use Rattle.tomex_cycle.proofs.Words.{least_from, least_in, left_from, none_between}
+use Rattle.tomex_cycle.proofs.Words.{least_from, least_in, left_from, none_between, PoolId, is_in, is_some}
 use Rattle.tomex_cycle.specs.declared.activity.Activity.{Activity}
 use Rattle.tomex_cycle.specs.declared.activity.Activity.TheVariants.{Nothing, Starts, More}
 
@@ -29,6 +29,14 @@ some_and_none o x e f = cc
 
 pub some_not_none : {A : Type 0} (x : A) → Some x ≡ None → ⊥
 some_not_none x e = cc
+
+pub some_of : {A : Type 0} (o : Option A) → is_some o ≡ true → (x : A) × (o ≡ Some x)
+some_of None e = absurd (cc)
+some_of (Some x) e = (x, refl)
+
+pub pool_in : (pool : Option PoolId) (p : PoolId) → is_in p pool ≡ true → is_some pool ≡ true
+pool_in None p e = absurd (cc)
+pool_in (Some q) p e = refl
 
 -- What is noted of a cycle as its phases change something.
 
