@@ -1,7 +1,4 @@
 -- Which load or store gets its address in a cycle, by the recurrence.
-use Rattle.tomex_cycle.proofs.Truth.{some_not_none}
-use Rattle.std.proofs.Common.{ℕ, ◌+◌, ◌<◌, ◌≤◌, ◌≡◌, Bool, true, false, arith, refl, List, [], ◌∷◌, Option, Some, None}
-use Rattle.std.proofs.Common.{ap, inl, inr, ◌∙◌, sym, length, slice_index_or, slice_set, ◌++◌, slice_index}
 use Rattle.tomex_cycle.proofs.Words.{nat_lt, nat_le, if◌then◌else◌, ◌&&◌, ◌==◌, not, is_some, MatchBool, cases_Bool}
 use Rattle.tomex_cycle.proofs.Words.{nat_tests, ltb-true, lt-ltb, leb-true, leb-false, lt-leb, and_parts, and_right}
 use Rattle.tomex_cycle.proofs.Words.{eq-eqb, Configuration, Done, cycle_of, is_memory, last_address, AreTimed, IsTimed}
@@ -9,7 +6,10 @@ use Rattle.tomex_cycle.proofs.Words.{IsLeast, can_address, place_of, holds_place
 use Rattle.tomex_cycle.proofs.Words.{address_of, j_of, field_of, with_address, is_there, Station, IsUpTo, eqb-true}
 use Rattle.tomex_cycle.proofs.Words.{eqb-false, ne_eqb, get_or-set_same, get_or-set_other, length-set, step_pool}
 use Rattle.tomex_cycle.proofs.Words.{is_number, MakesAddress, order_of, station_at, option_map, lacks_address, Pools}
-use Rattle.tomex_cycle.proofs.Words.{AreBusy, IsInIssueOrder, slot}
+use Rattle.tomex_cycle.proofs.Words.{AreBusy, IsInIssueOrder, slot, ℕ, ◌+◌, ◌<◌, ◌≤◌, ◌≡◌, Bool, true, false, arith}
+use Rattle.tomex_cycle.proofs.Words.{refl, List, [], ◌∷◌, Option, Some, None, ap, inl, inr, ◌∙◌, sym, length}
+use Rattle.tomex_cycle.proofs.Words.{slice_index_or, slice_set, ◌++◌, slice_index}
+use Rattle.tomex_cycle.proofs.Truth.{some_not_none}
 use Rattle.tomex_cycle.proofs.Fields.{there_test}
 use Rattle.tomex_cycle.proofs.Places.{is_vacant, least_test, busy_at, older_up_to, AreLow, IsLow, low, place_low}
 use Rattle.tomex_cycle.proofs.Places.{vacant, held_place, ShowsPart, shows_part, held_here, older_shown}

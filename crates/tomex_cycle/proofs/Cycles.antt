@@ -1,11 +1,11 @@
 -- The phases, one after the other, make a cycle.
-use Rattle.std.proofs.Common.{ℕ, ◌+◌, ◌<◌, ◌≤◌, ◌≡◌, ◌∙◌, Bool, true, false, arith, refl, List, [], ◌∷◌, ◌++◌, Option}
-use Rattle.std.proofs.Common.{None, sym, inl, inr}
 use Rattle.tomex_cycle.proofs.Words.{nat_lt, if◌then◌else◌, Result, Ok, not, cases_Bool, lt-leb, and_parts, Loaded}
 use Rattle.tomex_cycle.proofs.Words.{Configuration, Fault, overwrites, Bytes, Done, greatest_end, AreTimed}
 use Rattle.tomex_cycle.proofs.Words.{RunEndsAfter, first_timed, byte_at, clocks, ShowsMemory, IsIssuedTo, IsSnapshot}
 use Rattle.tomex_cycle.proofs.Words.{IsYetToIssue, MakesStarts, MakesAddress, MakesIssue, MakesEnds, is_done, Progress}
-use Rattle.tomex_cycle.proofs.Words.{Running, Ended, AreBusy, Pools, Core, Front, IsNextCycle, IsUpTo, core, front}
+use Rattle.tomex_cycle.proofs.Words.{Running, Ended, AreBusy, Pools, Core, Front, IsNextCycle, IsUpTo, core, front, ℕ}
+use Rattle.tomex_cycle.proofs.Words.{◌+◌, ◌<◌, ◌≤◌, ◌≡◌, ◌∙◌, Bool, true, false, arith, refl, List, [], ◌∷◌, ◌++◌}
+use Rattle.tomex_cycle.proofs.Words.{Option, None, sym, inl, inr}
 use Rattle.tomex_cycle.proofs.Runs.{done_is, rest_to, run_timed, AreLater, issued_up_to, starts_after, store_unit}
 
 -- what issues later hasn't written memory yet

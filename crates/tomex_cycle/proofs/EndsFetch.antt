@@ -1,8 +1,4 @@
 -- A branch that is done in the cycle is the youngest step, and its station gives the next pc.
-use Rattle.tomex_cycle.proofs.Places.{AreLow as AreLowNumbers, low, held_place, number_is_some, place_there, ShowsPart}
-use Rattle.tomex_cycle.proofs.Places.{shows_part, held_here, older_shown, older_up_to}
-use Rattle.std.proofs.Common.{ℕ, ◌+◌, ◌<◌, ◌≤◌, ◌≡◌, ◌∙◌, Bool, true, false, arith, refl, List, [], ◌∷◌, Option, Some}
-use Rattle.std.proofs.Common.{None, ap, sym, inl, inr, ◌⊎◌, slice_index_or, IsSome, length, slice_index, option_map}
 use Rattle.tomex_cycle.proofs.Words.{nat_lt, nat_le, if◌then◌else◌, ◌&&◌, ◌==◌, not, is_some, cases_Bool, nat_tests}
 use Rattle.tomex_cycle.proofs.Words.{ltb-true, lt-ltb, le-ltb, and_parts, eqb-true, eqb-false, Loaded, Configuration}
 use Rattle.tomex_cycle.proofs.Words.{PoolId, unit_with_pool, unread_j, unread_k, EndKind, Operand, Step, end_of}
@@ -15,9 +11,13 @@ use Rattle.tomex_cycle.proofs.Words.{AreNamed, step_in, value_in, place_at, plac
 use Rattle.tomex_cycle.proofs.Words.{Station, has, AreLow, dest_of, Tag, Front, front, ◌||◌, IsUpTo, eq-eqb, slot}
 use Rattle.tomex_cycle.proofs.Words.{and_right, field_from, Field, Value, Unread, none_in, AreDone, after_ends}
 use Rattle.tomex_cycle.proofs.Words.{sends_of, IsTimetableOf, LeavesTimetable, Finishes, hears, field_after}
-use Rattle.tomex_cycle.proofs.Words.{value_or_tag}
+use Rattle.tomex_cycle.proofs.Words.{value_or_tag, ℕ, ◌+◌, ◌<◌, ◌≤◌, ◌≡◌, ◌∙◌, Bool, true, false, arith, refl, List, []}
+use Rattle.tomex_cycle.proofs.Words.{◌∷◌, Option, Some, None, ap, sym, inl, inr, ◌⊎◌, slice_index_or, IsSome, length}
+use Rattle.tomex_cycle.proofs.Words.{slice_index, option_map, after_branch, target_in}
+use Rattle.tomex_cycle.proofs.Places.{AreLow as AreLowNumbers, low, held_place, number_is_some, place_there, ShowsPart}
+use Rattle.tomex_cycle.proofs.Places.{shows_part, held_here, older_shown, older_up_to}
 use Rattle.tomex_rvexec.specs.History.{Follows as Reads}
-use Rattle.tomex_cycle.specs.Ends.{Follows, after_branch, target_in}
+use Rattle.tomex_cycle.specs.Ends.{Follows}
 use Rattle.tomex_cycle.proofs.Addresses.{some_none_of}
 use Rattle.tomex_cycle.proofs.EndsLoops.{ends_same}
 use Rattle.tomex_cycle.proofs.EndsState.{ends_in, option_cases, ending_is, j_cases, k_cases, later, registers_at}

@@ -1,16 +1,15 @@
 -- What ends in one place after another, and what is sent by them together.
-use Rattle.std.proofs.Common.{ℕ, ◌+◌, ◌<◌, ◌≡◌, ◌∙◌, Bool, true, false, arith, refl, List, Option, Some, None, ap, sym}
-use Rattle.std.proofs.Common.{length, slice_index, slice_index_or, option_map, ◌≤◌, inl, inr, slice_set}
 use Rattle.tomex_cycle.proofs.Words.{nat_lt, ◌&&◌, ◌==◌, le-ltb, nat_tests, eqb-false, ne_eqb, field_from, Field, Value}
 use Rattle.tomex_cycle.proofs.Words.{Unread, Tag, is_number, EndsIn, Hears, after_ends, sends_of, sent_below, hears}
 use Rattle.tomex_cycle.proofs.Words.{field_after, only, value_or_tag, place_at, place_of_tag, Pools, RegStatus, Station}
 use Rattle.tomex_cycle.proofs.Words.{has, ◌||◌, slot, if◌then◌else◌, cases_Bool, lt-ltb, eqb-true, ltb-true, ltb-false}
 use Rattle.tomex_cycle.proofs.Words.{get_or-set_same, get_or-set_other, length-set, get_or_past, AreNamed, HaveReceived}
-use Rattle.tomex_cycle.proofs.Words.{AreFrom, all_left, none_after, skip_to, dest_of, AreLow}
+use Rattle.tomex_cycle.proofs.Words.{AreFrom, all_left, none_after, skip_to, dest_of, AreLow, ℕ, ◌+◌, ◌<◌, ◌≡◌, ◌∙◌}
+use Rattle.tomex_cycle.proofs.Words.{Bool, true, false, arith, refl, List, Option, Some, None, ap, sym, length}
+use Rattle.tomex_cycle.proofs.Words.{slice_index, slice_index_or, option_map, ◌≤◌, inl, inr, slice_set, AreEnded, names}
+use Rattle.tomex_cycle.proofs.Words.{registers_after}
 use Rattle.tomex_timing.specs.declared.tables.Field.TheVariants.{Waits}
 use Rattle.tomex_cycle.proofs.Addresses.{or_else}
-use Rattle.tomex_cycle.specs.Ends.{AreEnded}
-use Rattle.tomex_tags.specs.Registers.{names, registers_after}
 use Rattle.tomex_cycle.proofs.Truth.{IsTaken, turn_at}
 
 -- A broadcast to registers.

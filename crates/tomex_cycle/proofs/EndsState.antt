@@ -1,6 +1,4 @@
 -- What ends in a cycle: the recurrence's test, by the buses that are left.
-use Rattle.std.proofs.Common.{ℕ, ◌+◌, ◌<◌, ◌≤◌, ◌≡◌, ◌∙◌, Bool, true, false, arith, refl, List, [], ◌∷◌, Option, Some}
-use Rattle.std.proofs.Common.{None, ap, sym, inl, inr, ◌⊎◌, ◌++◌, append_assoc, slice_index, slice_index_or}
 use Rattle.tomex_cycle.proofs.Words.{nat_lt, nat_le, if◌then◌else◌, ◌&&◌, ◌==◌, is_some, count_by, MatchOption}
 use Rattle.tomex_cycle.proofs.Words.{nat_tests, not, MatchBool, cases_Bool, ltb-true, ltb-false, lt-ltb, and_parts}
 use Rattle.tomex_cycle.proofs.Words.{eqb-true, ne_eqb, both_ways, Loaded, Configuration, IsWithinLimits, PoolId}
@@ -10,7 +8,9 @@ use Rattle.tomex_cycle.proofs.Words.{is_finished_by, AreEnding, can_send, ends_a
 use Rattle.tomex_cycle.proofs.Words.{Pools, AreBusy, Station, has, IsInIssueOrder, ◌||◌, IsUpTo, slot, le-ltb, le-leb}
 use Rattle.tomex_cycle.proofs.Words.{eqb-false, Operand, Step, register_after, j_of, k_of, operand, Field, Tag}
 use Rattle.tomex_cycle.proofs.Words.{field_from, field_of, producer, steps_in, sent_at, ShowsRegisters, after_ends}
-use Rattle.tomex_cycle.proofs.Words.{sends_of, sent_below, HaveReceived, hears, field_after, RegStatus}
+use Rattle.tomex_cycle.proofs.Words.{sends_of, sent_below, HaveReceived, hears, field_after, RegStatus, ℕ, ◌+◌, ◌<◌}
+use Rattle.tomex_cycle.proofs.Words.{◌≤◌, ◌≡◌, ◌∙◌, Bool, true, false, arith, refl, List, [], ◌∷◌, Option, Some, None}
+use Rattle.tomex_cycle.proofs.Words.{ap, sym, inl, inr, ◌⊎◌, ◌++◌, append_assoc, slice_index, slice_index_or}
 use Rattle.tomex_cycle.proofs.Places.{is_vacant, vacant, least_test, held_place, ShowsPart, shows_part, held_here}
 use Rattle.tomex_cycle.proofs.Places.{older_shown, older_up_to, AreLow, low, place_low, vacant_none, number_is_some}
 use Rattle.tomex_cycle.proofs.Places.{part_up_to}

@@ -1,13 +1,12 @@
 -- Operands: which are there, and what a broadcast makes of those that wait.
-use Rattle.std.proofs.Common.{ℕ, ◌+◌, ◌<◌, ◌≤◌, ◌≡◌, ◌∙◌, true, false, arith, refl, List, [], ◌∷◌, ◌++◌, Option, Some}
-use Rattle.std.proofs.Common.{None, ap, sym, inl, inr, append_assoc}
 use Rattle.tomex_cycle.proofs.Words.{nat_lt, if◌then◌else◌, ◌&&◌, ◌==◌, not, is_some, is_none, cases_Bool, nat_tests}
 use Rattle.tomex_cycle.proofs.Words.{ltb-true, ltb-false, lt-ltb, le-ltb, and_parts, eqb-true, eqb-false, eq-eqb}
 use Rattle.tomex_cycle.proofs.Words.{Loaded, Configuration, PoolId, dest_needs_pool, source_end, writer_end, IsTimed}
 use Rattle.tomex_cycle.proofs.Words.{Operand, result_of, byte_after, register_after, is_number, step_dest, step_pool}
 use Rattle.tomex_cycle.proofs.Words.{Value, Tag, Done, field_of, field_from, producer, tag_of, unsent_tag, steps_in}
 use Rattle.tomex_cycle.proofs.Words.{holds_place, place_of, sent_at, field_after, is_there, place_at, place_of_tag}
-use Rattle.tomex_cycle.proofs.Words.{IsUpTo, unit_with_pool}
+use Rattle.tomex_cycle.proofs.Words.{IsUpTo, unit_with_pool, ℕ, ◌+◌, ◌<◌, ◌≤◌, ◌≡◌, ◌∙◌, true, false, arith, refl, List}
+use Rattle.tomex_cycle.proofs.Words.{[], ◌∷◌, ◌++◌, Option, Some, None, ap, sym, inl, inr, append_assoc}
 use Rattle.tomex_timing.specs.declared.tables.Field.TheVariants.{Waits}
 use Rattle.tomex_cycle.proofs.Places.{is_vacant, vacant, place_there, not_vacant, older_up_to, part_up_to}
 use Rattle.tomex_cycle.proofs.Runs.{reach, starts_after}

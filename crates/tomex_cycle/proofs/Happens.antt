@@ -1,7 +1,4 @@
 -- What a phase or a station shows is an event of the cycle.
-use Rattle.std.proofs.Common.{ℕ, ◌+◌, ◌^◌, ◌<◌, ◌≤◌, ◌≡◌, ◌∙◌, Bool, true, false, arith, refl, List, [], ◌∷◌, ◌++◌}
-use Rattle.std.proofs.Common.{Option, Some, None, ap, sym, inl, inr, ◌⊎◌, length, max}
-use Rattle.std.specs.Int.{trailing_zeros}
 use Rattle.tomex_cycle.proofs.Words.{◌≢◌, nat_lt, nat_le, ◌&&◌, ◌==◌, if◌then◌else◌, is_some, not, w128, nat_tests}
 use Rattle.tomex_cycle.proofs.Words.{bit_at-trailing_zeros, get_or_past, cases_Bool, both_ways, and_parts, eq-eqb}
 use Rattle.tomex_cycle.proofs.Words.{eqb-true, ne_eqb, ltb-true, ltb-false, Loaded, Configuration, is_number, j_of}
@@ -10,10 +7,11 @@ use Rattle.tomex_cycle.proofs.Words.{field_of, has, has_one, AreDone, AreEnding,
 use Rattle.tomex_cycle.proofs.Words.{IsYetToIssue, IsInIssueOrder, Fault, AreIssuedBy, first_timed, RunEndsAfter}
 use Rattle.tomex_cycle.proofs.Words.{IsStarting, Clocks, clocks, holds_place, order_of, place_of, station_at}
 use Rattle.tomex_cycle.proofs.Words.{station_of, ShowsStations, has_base, is_value, is_there, AreBusy, Pools, Station}
-use Rattle.tomex_cycle.proofs.Words.{Core, IsNextCycle, IsUpTo, Result, slot}
+use Rattle.tomex_cycle.proofs.Words.{Core, IsNextCycle, IsUpTo, Result, slot, ℕ, ◌+◌, ◌^◌, ◌<◌, ◌≤◌, ◌≡◌, ◌∙◌, Bool}
+use Rattle.tomex_cycle.proofs.Words.{true, false, arith, refl, List, [], ◌∷◌, ◌++◌, Option, Some, None, ap, sym, inl}
+use Rattle.tomex_cycle.proofs.Words.{inr, ◌⊎◌, length, max, trailing_zeros, events_of, AddressHappens, EndsHappen}
+use Rattle.tomex_cycle.proofs.Words.{StartsHappen}
 use Rattle.tomex_timing.specs.declared.tables.Field.TheVariants.{Waits}
-use Rattle.tomex_cycle.specs.Events.{events_of}
-use Rattle.tomex_cycle.specs.Phases.{AddressHappens, EndsHappen, StartsHappen}
 use Rattle.tomex_cycle.proofs.Shifting.{run_split}
 use Rattle.tomex_cycle.proofs.Orders.{order_is}
 use Rattle.tomex_cycle.proofs.Addresses.{waiting_is, chosen, holds_by, none_waits, not_le, or_else, test_is}

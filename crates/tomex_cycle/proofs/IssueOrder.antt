@@ -1,14 +1,10 @@
 -- A search by issue order finds what a pass over the busy places, the oldest first, finds.
-use Rattle.std.proofs.Common.{ℕ, ◌<◌, ◌≤◌, ◌≡◌, ◌∙◌, Bool, true, false, arith, refl, ap, sym, inl, inr, List, [], ◌∷◌}
-use Rattle.std.proofs.Common.{◌++◌, Option, Some, None, slice_index}
-use Rattle.std.specs.Prelude.{Decides}
 use Rattle.tomex_cycle.proofs.Words.{◌==◌, if◌then◌else◌, is_some, cases_Bool, both_ways, eqb-true, has, IsInIssueOrder}
 use Rattle.tomex_cycle.proofs.Words.{Rises, is_listed, Station, bytes_in, lacks_address, AreBusy, has_address, has_base}
-use Rattle.tomex_cycle.proofs.Words.{lets_pass, is_clear, slot}
-use Rattle.tomex_membuf.specs.Addresses.{IsNextAddress, IsOldestLacking}
-use Rattle.tomex_membuf.specs.Order.{HasAtMostOneAccess, IsClear}
-use Rattle.tomex_membuf.proofs.Older.{lets_no_address, lets_none}
-use Rattle.tomex_bus.proofs.Listings.{in_head, in_tail}
+use Rattle.tomex_cycle.proofs.Words.{lets_pass, is_clear, slot, ℕ, ◌<◌, ◌≤◌, ◌≡◌, ◌∙◌, Bool, true, false, arith, refl}
+use Rattle.tomex_cycle.proofs.Words.{ap, sym, inl, inr, List, [], ◌∷◌, ◌++◌, Option, Some, None, slice_index, Decides}
+use Rattle.tomex_cycle.proofs.Words.{IsNextAddress, IsOldestLacking, HasAtMostOneAccess, IsClear, lets_no_address}
+use Rattle.tomex_cycle.proofs.Words.{lets_none, in_head, in_tail}
 
 -- Lists that rise.
 

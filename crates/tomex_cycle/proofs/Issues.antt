@@ -1,6 +1,4 @@
 -- What the issue of a step makes of the stations, the register status and fetch.
-use Rattle.std.proofs.Common.{ℕ, ◌+◌, ◌<◌, ◌≤◌, ◌≡◌, ◌∙◌, Bool, true, arith, refl, List, ◌∷◌, Option, Some, None, ap}
-use Rattle.std.proofs.Common.{sym, inl, inr, length, slice_index_or, slice_set}
 use Rattle.tomex_cycle.proofs.Words.{nat_lt, nat_le, ◌&&◌, ◌==◌, if◌then◌else◌, slice_index, option_map, IfSome}
 use Rattle.tomex_cycle.proofs.Words.{nat_tests, MatchOption, cases_Bool, ltb-true, lt-ltb, lt-leb, and_parts, eqb-true}
 use Rattle.tomex_cycle.proofs.Words.{eqb-false, get_or-set_same, get_or-set_other, length-set, Loaded, Configuration}
@@ -11,7 +9,9 @@ use Rattle.tomex_cycle.proofs.Words.{cycle_of, is_memory, AreTimed, IsTimed, IsL
 use Rattle.tomex_cycle.proofs.Words.{tag_at, tag_of, unsent_tag, issue_from, Fetch, IsYetToIssue, first_timed, steps_in}
 use Rattle.tomex_cycle.proofs.Words.{Clocks, ShowsRegisters, ShowsStations, clocks, fetch_after, fetch_of, place_of}
 use Rattle.tomex_cycle.proofs.Words.{station_at, station_of, issue_number_at, place_at, new_station, Pools, operand_in}
-use Rattle.tomex_cycle.proofs.Words.{tags_with, RegStatus, Station, is_some, unit_with_pool}
+use Rattle.tomex_cycle.proofs.Words.{tags_with, RegStatus, Station, is_some, unit_with_pool, ℕ, ◌+◌, ◌<◌, ◌≤◌, ◌≡◌, ◌∙◌}
+use Rattle.tomex_cycle.proofs.Words.{Bool, true, arith, refl, List, ◌∷◌, Option, Some, None, ap, sym, inl, inr, length}
+use Rattle.tomex_cycle.proofs.Words.{slice_index_or, slice_set}
 use Rattle.tomex_rvexec.specs.History.{Follows}
 use Rattle.tomex_cycle.proofs.Addresses.{address_is}
 use Rattle.tomex_cycle.proofs.Runs.{reach, starts_after}

@@ -1,7 +1,5 @@
 -- The cases of an issue: fetch waits or has stopped, no station is left, a step without a station, and one with its
 -- station.
-use Rattle.std.proofs.Common.{ℕ, ◌+◌, ◌*◌, ◌<◌, ◌≤◌, ◌≡◌, ◌∙◌, true, false, arith, refl, List, ◌∷◌, Option, Some, None}
-use Rattle.std.proofs.Common.{ap, sym, inl, inr, slice_set}
 use Rattle.tomex_cycle.proofs.Words.{is_none, IfSome, Ok, Err, cases_Bool, lt-ltb, both_ways, Loaded, Configuration}
 use Rattle.tomex_cycle.proofs.Words.{stations_of, PoolId, Instruction, dest_of, pool_of, sources_of, place_of_pool}
 use Rattle.tomex_cycle.proofs.Words.{Fault, Step, instruction_at, end_of, step_after, is_branch, step_pool, Field, Done}
@@ -9,8 +7,9 @@ use Rattle.tomex_cycle.proofs.Words.{AreTimed, IsLeast, can_issue, can_issue_ano
 use Rattle.tomex_cycle.proofs.Words.{is_free, stations_high, number_is, Fetch, At, Stopped, IsIssuing, IssuesNext}
 use Rattle.tomex_cycle.proofs.Words.{AreIssuedBy, first_timed, ShowsStations, clocks, fetch_after, station_of, place_at}
 use Rattle.tomex_cycle.proofs.Words.{new_station, Pools, is_open, operand_in, tags_with, Front, IsNextCycle, IsUpTo}
-use Rattle.tomex_cycle.proofs.Words.{ShowsFront, Tag, front, place_of_tag, station_from, slot}
-use Rattle.tomex_rvexec.specs.declared.outcome.FaultKind.{FaultKind}
+use Rattle.tomex_cycle.proofs.Words.{ShowsFront, Tag, front, place_of_tag, station_from, slot, ℕ, ◌+◌, ◌*◌, ◌<◌, ◌≤◌}
+use Rattle.tomex_cycle.proofs.Words.{◌≡◌, ◌∙◌, true, false, arith, refl, List, ◌∷◌, Option, Some, None, ap, sym, inl}
+use Rattle.tomex_cycle.proofs.Words.{inr, slice_set, FaultKind}
 use Rattle.tomex_cycle.specs.declared.fetch.Fetch.TheVariants.{Waits}
 use Rattle.tomex_cycle.proofs.Places.{pool_low, low}
 use Rattle.tomex_cycle.proofs.Runs.{run_count, next_done, run_next, run_timed, issued_up_to, reach, stopped_is}

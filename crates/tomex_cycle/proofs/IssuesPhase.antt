@@ -1,15 +1,13 @@
 -- The issues of a cycle: the first, and those that the width leaves after it.
-use Rattle.std.proofs.Common.{ℕ, suc, ◌+◌, ◌%◌, ◌<◌, ◌≤◌, ◌≡◌, ◌∙◌, Bool, true, false, arith, refl, List, [], ◌∷◌, ap}
-use Rattle.std.proofs.Common.{inl, inr, subst}
-use Rattle.std.specs.Result.{result_unwrap_or}
 use Rattle.tomex_cycle.proofs.Words.{nat_lt, ◌&&◌, Result, Ok, Err, cases_Bool, ltb-true, ltb-false, lt-ltb, le-ltb}
 use Rattle.tomex_cycle.proofs.Words.{nat_tests, le-leb, both_ways, eq-eqb, sum_by-cons, Loaded, Configuration}
 use Rattle.tomex_cycle.proofs.Words.{IsWithinLimits, Fault, Step, step_pool, Done, last_issue, AreTimed}
 use Rattle.tomex_cycle.proofs.Words.{are_branches_finished, can_issue, can_issue_another, times_of, has_station}
 use Rattle.tomex_cycle.proofs.Words.{width_low, times_are, none_later, IsIssuing, IssuesNext, IssuesOn, IsIssuedTo}
 use Rattle.tomex_cycle.proofs.Words.{IsYetToIssue, MakesIssue, RunEndsAfter, AreIssuedBy, first_timed, clocks, Front}
-use Rattle.tomex_cycle.proofs.Words.{IsNextCycle}
-use Rattle.tomex_cycle.specs.Issue.{HaveIssued, IssuesMore, count_after, issued_in}
+use Rattle.tomex_cycle.proofs.Words.{IsNextCycle, ℕ, suc, ◌+◌, ◌%◌, ◌<◌, ◌≤◌, ◌≡◌, ◌∙◌, Bool, true, false, arith, refl}
+use Rattle.tomex_cycle.proofs.Words.{List, [], ◌∷◌, ap, inl, inr, subst, result_unwrap_or, HaveIssued, IssuesMore}
+use Rattle.tomex_cycle.proofs.Words.{count_after, issued_in}
 use Rattle.tomex_cycle.proofs.Runs.{next_done, run_next, run_timed, step_is}
 use Rattle.tomex_cycle.proofs.IssuesTest.{yet_more}
 use Rattle.tomex_cycle.proofs.Truth.{ok_not_err, ok_same}

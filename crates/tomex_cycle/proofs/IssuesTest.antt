@@ -1,6 +1,4 @@
 -- Whether the next step can issue in a cycle: fetch and the pool's stations say so.
-use Rattle.std.proofs.Common.{ℕ, ◌+◌, ◌<◌, ◌≤◌, ◌≡◌, ◌∙◌, Bool, true, false, arith, refl, List, [], ◌∷◌, Option, Some}
-use Rattle.std.proofs.Common.{None, sym, inl, inr, zero, suc, ◌*◌, ap}
 use Rattle.tomex_cycle.proofs.Words.{nat_lt, ◌&&◌, not, Ok, cases_order, lt-ltb, nat_tests, and_parts, Loaded}
 use Rattle.tomex_cycle.proofs.Words.{Configuration, IsWithinLimits, EndKind, Step, instruction_at, end_of, next_pc_of}
 use Rattle.tomex_cycle.proofs.Words.{step_after, is_branch, step_pool, step_follows, Done, AreTimed}
@@ -9,14 +7,14 @@ use Rattle.tomex_cycle.proofs.Words.{least_same, times_are, At, IsYetToIssue, Ar
 use Rattle.tomex_cycle.proofs.Words.{RunEndsAfter, fetch_after, fetch_of, IsUpTo, ◌||◌, slot, nat_le, count_by, is_none}
 use Rattle.tomex_cycle.proofs.Words.{MatchOption, list_all, cases_Bool, eqb-true, ◌==◌, sum_by-cons, stations_of}
 use Rattle.tomex_cycle.proofs.Words.{PoolId, place_of_pool, is_in, is_number, IsLeast, least, is_free, is_held}
-use Rattle.tomex_cycle.proofs.Words.{issue_station, number_is, clocks, holds_place, station_at}
-use Rattle.tomex_rvexec.specs.History.{Follows, pc_after}
+use Rattle.tomex_cycle.proofs.Words.{issue_station, number_is, clocks, holds_place, station_at, ℕ, ◌+◌, ◌<◌, ◌≤◌, ◌≡◌}
+use Rattle.tomex_cycle.proofs.Words.{◌∙◌, Bool, true, false, arith, refl, List, [], ◌∷◌, Option, Some, None, sym, inl}
+use Rattle.tomex_cycle.proofs.Words.{inr, zero, suc, ◌*◌, ap, pc_after, lower, one, split_count, pool_place}
+use Rattle.tomex_rvexec.specs.History.{Follows}
 use Rattle.tomex_cycle.specs.declared.fetch.Fetch.TheVariants.{Waits}
 use Rattle.tomex_cycle.proofs.Runs.{step_is, steps_are, stops}
-use Rattle.tomex_timing.proofs.Stations.{lower, one, split_count}
 use Rattle.tomex_cycle.proofs.Places.{AreLow, same_place}
 use Rattle.tomex_tags.specs.Places.{pool_at}
-use Rattle.tomex_tags.proofs.Serving.{pool_place}
 
 -- the youngest step is a branch that hasn't finished
 abbrev pub is_waiting : ℕ → List Done → Bool

@@ -1,17 +1,16 @@
 -- What is known of the finishes ahead, as stations come and their operations start. It follows from the stations and
 -- only the cycle.
-use Rattle.std.proofs.Common.{ℕ, ◌+◌, ◌-◌, ◌*◌, ◌<◌, ◌≤◌, ◌≡◌, ◌∙◌, Bool, true, false, arith, refl, ap, sym, inl, inr}
-use Rattle.std.proofs.Common.{List, Option, Some, None, length, slice_index_or, slice_set, option_map, replicate}
 use Rattle.tomex_cycle.proofs.Words.{nat_lt, ◌==◌, ◌&&◌, not, is_none, is_some, IsSome, and_right, both_ways, nat_tests}
 use Rattle.tomex_cycle.proofs.Words.{cases_Bool, eq-eqb, eqb-true, eqb-false, le-ltb, ltb-true, ltb-false, ne_eqb}
 use Rattle.tomex_cycle.proofs.Words.{get_or-replicate, get_or-set_same, get_or-set_other, get_or_past, length-set}
 use Rattle.tomex_cycle.proofs.Words.{dest_of, place_of_pool, PoolId, is_number, is_due, none_in, with_address, is_open}
 use Rattle.tomex_cycle.proofs.Words.{Station, Field, can_send, finishes, is_finished_before, IsTimetableOf, has_stayed}
-use Rattle.tomex_cycle.proofs.Words.{Finishes, ◌||◌, with_start, slot, ◌≢◌, IsFree}
-use Rattle.tomex_bus.specs.Wheel.{HasPut, IsEmpty, Lacks, HasPassed, IsClearTo, IsNext}
+use Rattle.tomex_cycle.proofs.Words.{Finishes, ◌||◌, with_start, slot, ◌≢◌, IsFree, ℕ, ◌+◌, ◌-◌, ◌*◌, ◌<◌, ◌≤◌, ◌≡◌}
+use Rattle.tomex_cycle.proofs.Words.{◌∙◌, Bool, true, false, arith, refl, ap, sym, inl, inr, List, Option, Some, None}
+use Rattle.tomex_cycle.proofs.Words.{length, slice_index_or, slice_set, option_map, replicate, HasPut, IsEmpty, Lacks}
+use Rattle.tomex_cycle.proofs.Words.{HasPassed, IsClearTo, IsNext, CanSkip}
 use Rattle.tomex_cycle.proofs.Places.{pool_low}
 use Rattle.tomex_cycle.proofs.Truth.{or_false}
-use Rattle.tomex_cycle.specs.Finishes.{CanSkip}
 
 -- A test of each place's content, after this is put into one.
 

@@ -1,20 +1,16 @@
 -- What is known of the finishes ahead once a cycle has ended: what was due is over or waits for a bus.
-use Rattle.std.proofs.Common.{ℕ, ◌+◌, ◌^◌, ◌<◌, ◌≤◌, ◌≡◌, ◌∙◌, Bool, true, false, arith, refl, ap, sym, inl, inr, List}
-use Rattle.std.proofs.Common.{Option, Some, None, length, option_map}
 use Rattle.tomex_cycle.proofs.Words.{nat_le, nat_lt, ◌==◌, ◌≢◌, ◌&&◌, not, is_some, and_parts, and_right, nat_tests}
 use Rattle.tomex_cycle.proofs.Words.{both_ways, cases_Bool, eqb-true, eqb-false, le-leb, leb-true, lt-leb, lt-ltb}
 use Rattle.tomex_cycle.proofs.Words.{ltb-true, ltb-false, get_or_past, dest_of, is_number, IsPicked, none_picked, has}
 use Rattle.tomex_cycle.proofs.Words.{is_due, none_in, hears, is_served, AreBusy, Pools, IsSetOf, writes, Station}
 use Rattle.tomex_cycle.proofs.Words.{AreDone, AreEnding, IsDoneBranch, after_ends, can_send, ends_alone, finishes}
 use Rattle.tomex_cycle.proofs.Words.{is_finished_by, is_finished_before, IsTimetableOf, HaveTurned, LeavesTimetable}
-use Rattle.tomex_cycle.proofs.Words.{has_stayed, Finishes, ◌||◌, slot, AreResults}
-use Rattle.tomex_sets.proofs.Bits.{agreed, member_some}
-use Rattle.tomex_tags.proofs.Entering.{of_busy}
+use Rattle.tomex_cycle.proofs.Words.{has_stayed, Finishes, ◌||◌, slot, AreResults, ℕ, ◌+◌, ◌^◌, ◌<◌, ◌≤◌, ◌≡◌, ◌∙◌}
+use Rattle.tomex_cycle.proofs.Words.{Bool, true, false, arith, refl, ap, sym, inl, inr, List, Option, Some, None}
+use Rattle.tomex_cycle.proofs.Words.{length, option_map, agreed, member_some, of_busy, AreTurned, AreDue}
 use Rattle.tomex_cycle.proofs.Happens.{member_of}
 use Rattle.tomex_cycle.proofs.Known.{all_ahead}
 use Rattle.tomex_cycle.proofs.Truth.{or_cases}
-use Rattle.tomex_cycle.specs.Finishes.{AreTurned}
-use Rattle.tomex_bus.specs.Wheel.{AreDue}
 use Rattle.tomex_cycle.proofs.EndsFetch.{none_over}
 use Rattle.tomex_rvdec.specs.declared.pool.UnitId.TheVariants as units
 

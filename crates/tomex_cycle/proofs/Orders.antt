@@ -1,19 +1,15 @@
 -- The busy places in issue order are those of the steps under way, the oldest first.
-use Rattle.std.proofs.Common.{ℕ, ◌+◌, ◌<◌, ◌≤◌, ◌≡◌, ◌∙◌, ◌^◌, true, false, arith, refl, List, [], ◌∷◌, ◌++◌, Option}
-use Rattle.std.proofs.Common.{Some, None, ap, sym, inl, inr, length, slice_index, zero, suc, Bool, append-nil, take}
-use Rattle.std.proofs.Common.{filter}
 use Rattle.tomex_cycle.proofs.Words.{nat_lt, ◌==◌, is_some, w128, bit_at-trailing_zeros, cases_Bool, nat_tests}
 use Rattle.tomex_cycle.proofs.Words.{cases_order, both_ways, ltb-true, ltb-false, eq-eqb, eqb-true, get_or_past, Loaded}
 use Rattle.tomex_cycle.proofs.Words.{Configuration, step_pool, Done, has, IsInIssueOrder, Rises, is_listed, has_one}
 use Rattle.tomex_cycle.proofs.Words.{none_in, AreBusy, Pools, Clocks, ShowsStations, order_of, place_of, station_at}
 use Rattle.tomex_cycle.proofs.Words.{◌||◌, IsUpTo, if◌then◌else◌, ⊤, ◌&&◌, count_by, lt-ltb, le-ltb, and_parts}
-use Rattle.tomex_cycle.proofs.Words.{length-append, sum_by-cons, IsPicked, holds_place}
+use Rattle.tomex_cycle.proofs.Words.{length-append, sum_by-cons, IsPicked, holds_place, ℕ, ◌+◌, ◌<◌, ◌≤◌, ◌≡◌, ◌∙◌, ◌^◌}
+use Rattle.tomex_cycle.proofs.Words.{true, false, arith, refl, List, [], ◌∷◌, ◌++◌, Option, Some, None, ap, sym, inl}
+use Rattle.tomex_cycle.proofs.Words.{inr, length, slice_index, zero, suc, Bool, append-nil, take, filter, min}
+use Rattle.tomex_cycle.proofs.Words.{take-append-le, take_all, filter-append, first_picked}
 use Rattle.tomex_cycle.proofs.Places.{low, place_low, AreLow, ShowsPart, shows_part, held_here, older_shown}
 use Rattle.tomex_cycle.proofs.Truth.{or_false, or_one}
-use Rattle.std.specs.Prelude.{min}
-use Rattle.std.proofs.lemmas.List.{take-append-le, take_all}
-use Rattle.std.proofs.lemmas.List.Elements.{filter-append}
-use Rattle.tomex_bus.proofs.Picking.{first_picked}
 
 pub in-append : (xs ys : List ℕ) (x : ℕ) → is_listed (xs ++ ys) x ≡ (is_listed xs x || is_listed ys x)
 in-append [] ys x = refl

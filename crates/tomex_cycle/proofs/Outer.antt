@@ -1,6 +1,4 @@
 -- What contracts see of a machine follows from what holds of each one.
-use Rattle.std.proofs.Common.{ℕ, ◌+◌, ◌<◌, ◌≤◌, ◌≡◌, ◌∙◌, ◌^◌, true, arith, refl, ap, inl, inr, min, subst, false, List}
-use Rattle.std.proofs.Common.{[], ◌∷◌, ◌++◌, Option, Some, None, sym, length, replicate, slice_index_or}
 use Rattle.tomex_cycle.proofs.Words.{nat_lt, if◌then◌else◌, cases_Bool, ltb-true, ltb-false, le-ltb, Loaded}
 use Rattle.tomex_cycle.proofs.Words.{Configuration, EndsWithin, greatest_end, Inner, Progress, Running, Ended, IsAt}
 use Rattle.tomex_cycle.proofs.Words.{RunEndsAfter, first_timed, Seen, seen_after, IsSound, IsNextCycle, slice_index}
@@ -10,22 +8,14 @@ use Rattle.tomex_cycle.proofs.Words.{register_after, Bytes, is_number, step_dest
 use Rattle.tomex_cycle.proofs.Words.{tables_of, shown, qi_of, all_tags, producer, At, Stopped, run_of, steps_in}
 use Rattle.tomex_cycle.proofs.Words.{byte_at, clocks, ShowsRegisters, ShowsStations, IsSnapshot, IsYetToIssue}
 use Rattle.tomex_cycle.proofs.Words.{overwrites, step_ends_it, step_follows, step_joins, timed_by, Pools, Station, Core}
-use Rattle.tomex_cycle.proofs.Words.{Front, IsUpTo, core, core_of, slot}
-use Rattle.tomex_cycle.specs.Run.{total}
-use Rattle.tomex_cycle.specs.Seen.{is_end}
+use Rattle.tomex_cycle.proofs.Words.{Front, IsUpTo, core, core_of, slot, ℕ, ◌+◌, ◌<◌, ◌≤◌, ◌≡◌, ◌∙◌, ◌^◌, true, arith}
+use Rattle.tomex_cycle.proofs.Words.{refl, ap, inl, inr, min, subst, false, List, [], ◌∷◌, ◌++◌, Option, Some, None}
+use Rattle.tomex_cycle.proofs.Words.{sym, length, replicate, slice_index_or, total, is_end, IsLoaded, Leaves, State}
+use Rattle.tomex_cycle.proofs.Words.{start_of, IsFresh, IsState, end_is, same_registers, same_memory, run_state}
+use Rattle.tomex_cycle.proofs.Words.{end_writes_no_register, end_writes_no_byte, AllBy}
 use Rattle.tomex_cycle.proofs.Runs.{run_whole, run_timed, steps_are, run_none, rest_to, AreLater, issued_up_to}
 use Rattle.tomex_cycle.proofs.Runs.{more_left, stops}
-use Rattle.tomex_image.specs.Image.{IsLoaded}
-use Rattle.tomex_rvexec.specs.History.{Leaves, history as first_steps}
-use Rattle.tomex_rvexec.specs.Machine.{State}
-use Rattle.tomex_rvexec.specs.Run.{start_of}
-use Rattle.tomex_cycle.specs.Inner.{IsFresh}
-use Rattle.tomex_rvexec.specs.Flow.{IsState}
-use Rattle.tomex_rvexec.proofs.FlowEnds.{end_is}
-use Rattle.tomex_rvexec.proofs.FlowHistories.{same_registers, same_memory}
-use Rattle.tomex_rvexec.proofs.FlowRuns.{run_state}
-use Rattle.tomex_rvexec.proofs.FlowStates.{end_writes_no_register, end_writes_no_byte}
-use Rattle.tomex_timing.proofs.Settled.{AllBy}
+use Rattle.tomex_rvexec.specs.History.{history as first_steps}
 use Rattle.tomex_cycle.specs.Views.{front}
 
 -- while the answer is Running the total lies ahead

@@ -1,13 +1,13 @@
 -- What is known of the steps that have issued by a cycle is known of the older ones, and by later cycles.
-use Rattle.std.proofs.Common.{ℕ, ◌≤◌, arith, List, [], ◌∷◌, ◌++◌, ◌+◌, ◌*◌, ◌<◌, ◌≡◌, ◌∙◌, Bool, true, false, refl}
-use Rattle.std.proofs.Common.{Option, Some, None, sym, inl, inr, ap, length}
 use Rattle.tomex_cycle.proofs.Words.{Loaded, Configuration, Done, AreIssuedBy, IsUpTo, nat_lt, nat_le, ◌&&◌, ◌==◌, not}
 use Rattle.tomex_cycle.proofs.Words.{MatchOption, ⊤, list_all, cases_Bool, nat_tests, ltb-true, le-leb, and_parts}
 use Rattle.tomex_cycle.proofs.Words.{eqb-true, eq-eqb, and_right, IsWithinLimits, stations_of, PoolId, place_of_pool}
 use Rattle.tomex_cycle.proofs.Words.{is_in, is_number, step_pool, IsLeast, least, has_station, is_free, is_held, tag_at}
 use Rattle.tomex_cycle.proofs.Words.{least_same, stations_high, issue_station, number_is, Clocks, holds_place, place_of}
 use Rattle.tomex_cycle.proofs.Words.{station_at, station_of, place_at, IsTimed, is_some, Pools, ShowsStations}
-use Rattle.tomex_cycle.proofs.Words.{issue_number_at, slice_index, slot}
+use Rattle.tomex_cycle.proofs.Words.{issue_number_at, slice_index, slot, ℕ, ◌≤◌, arith, List, [], ◌∷◌, ◌++◌, ◌+◌, ◌*◌}
+use Rattle.tomex_cycle.proofs.Words.{◌<◌, ◌≡◌, ◌∙◌, Bool, true, false, refl, Option, Some, None, sym, inl, inr, ap}
+use Rattle.tomex_cycle.proofs.Words.{length}
 use Rattle.tomex_cycle.proofs.Truth.{some_not_none}
 
 pub older_up_to : {i : Loaded} {config : Configuration} {t : ℕ} {d : Done} {older : List Done}

@@ -1,6 +1,4 @@
 -- Where nothing happens in a cycle and nothing finishes for a while, nothing happens for that while.
-use Rattle.std.proofs.Common.{ℕ, zero, suc, ◌+◌, ◌-◌, ◌<◌, ◌≤◌, ◌≡◌, ◌∙◌, Bool, true, false, arith, refl, List, [], ◌∷◌}
-use Rattle.std.proofs.Common.{Option, Some, None, ap, sym, inl, inr}
 use Rattle.tomex_cycle.proofs.Words.{◌≢◌, nat_le, ◌==◌, ◌&&◌, is_some, count_by, if◌then◌else◌, nat_tests, MatchOption}
 use Rattle.tomex_cycle.proofs.Words.{MatchBool, AllByRecursion, cases_Bool, both_ways, leb-true, leb-false, ne_eqb}
 use Rattle.tomex_cycle.proofs.Words.{and_right, sum_by-cons, Configuration, IsWithinLimits, option_of, PoolId, UnitId}
@@ -8,14 +6,13 @@ use Rattle.tomex_cycle.proofs.Words.{step_pool, step_unit, step_dest, j_of, k_of
 use Rattle.tomex_cycle.proofs.Words.{Step, Done, Times, is_of, is_memory, cycle_of, writer_end, source_end, last_issue}
 use Rattle.tomex_cycle.proofs.Words.{last_address, is_held, AreTimed, IsLeast, can_issue, can_address, can_start}
 use Rattle.tomex_cycle.proofs.Words.{can_end, conflicts, units_low, width_low, none_later, AllSettled, IsSettled}
-use Rattle.tomex_cycle.proofs.Words.{IfSome, stations_of}
-use Rattle.tomex_timing.proofs.Limits.{buses_low}
-use Rattle.tomex_timing.proofs.Settled.{count_none}
+use Rattle.tomex_cycle.proofs.Words.{IfSome, stations_of, ℕ, zero, suc, ◌+◌, ◌-◌, ◌<◌, ◌≤◌, ◌≡◌, ◌∙◌, Bool, true, false}
+use Rattle.tomex_cycle.proofs.Words.{arith, refl, List, [], ◌∷◌, Option, Some, None, ap, sym, inl, inr, buses_low}
+use Rattle.tomex_cycle.proofs.Words.{count_none, can_address_from, can_address_is, can_end_from, can_end_is}
+use Rattle.tomex_cycle.proofs.Words.{can_issue_from, can_issue_is, can_start_from, All, IsTrue, All-from_recursion}
+use Rattle.tomex_cycle.proofs.Words.{recursion_from_All}
 use Rattle.tomex_cycle.proofs.Runs.{reach}
-use Rattle.tomex_timing.proofs.Tests.{can_address_from, can_address_is, can_end_from, can_end_is, can_issue_from}
-use Rattle.tomex_timing.proofs.Tests.{can_issue_is, can_start_from, can_start_is}
-use Rattle.std.specs.Prelude.{All, IsTrue}
-use Rattle.std.proofs.lemmas.List.Elements.{All-from_recursion, recursion_from_All}
+use Rattle.tomex_timing.proofs.Tests.{can_start_is}
 
 -- nothing of the step falls in the cycle but perhaps its start
 pub record IsAtRest (v : ℕ) (d : Done) : Type 0 where

@@ -1,7 +1,4 @@
 -- The history of a run's beginning, as laws of the run and of the recurrence give it.
-use Rattle.std.proofs.Common.{ℕ, zero, suc, ◌+◌, ◌-◌, ◌<◌, ◌≤◌, ◌≡◌, ◌∙◌, true, false, arith, refl, List, [], ◌∷◌, ◌++◌}
-use Rattle.std.proofs.Common.{Some, None, ap, sym, inl, inr, length, subst, Bool, Option}
-use Rattle.std.proofs.lemmas.List.{reverse-reverse}
 use Rattle.tomex_cycle.proofs.Words.{⊤, IsSome, cases_order, Loaded, nat_tests, Configuration, IsWithinLimits, EndKind}
 use Rattle.tomex_cycle.proofs.Words.{Step, IsAllowed, end_of, step_after, step_joins, step_follows, step_goes_on}
 use Rattle.tomex_cycle.proofs.Words.{step_ends_it, Done, last_issue, AreTimed, can_issue, times_of, times_are}
@@ -11,18 +8,15 @@ use Rattle.tomex_cycle.proofs.Words.{ltb-false, lt-ltb, le-ltb, eqb-true, eqb-fa
 use Rattle.tomex_cycle.proofs.Words.{is_branch, greatest_end, timed_by, Fetch, At, Stopped, first_timed, clocks}
 use Rattle.tomex_cycle.proofs.Words.{order_of, onto_end, fetch_of, fetch_after, is_done, IsInIssueOrder, AreBusy, Pools}
 use Rattle.tomex_cycle.proofs.Words.{RegStatus, front, IsLeast, IsTimed, MatchOption, UnitId, can_start, cycle_of}
-use Rattle.tomex_cycle.proofs.Words.{is_store, step_pool, step_unit, unit_with_pool}
+use Rattle.tomex_cycle.proofs.Words.{is_store, step_pool, step_unit, unit_with_pool, ℕ, zero, suc, ◌+◌, ◌-◌, ◌<◌, ◌≤◌}
+use Rattle.tomex_cycle.proofs.Words.{◌≡◌, ◌∙◌, true, false, arith, refl, List, [], ◌∷◌, ◌++◌, Some, None, ap, sym, inl}
+use Rattle.tomex_cycle.proofs.Words.{inr, length, subst, Bool, Option, reverse-reverse, step_comes, steps_to_end}
+use Rattle.tomex_cycle.proofs.Words.{timed_of, history, timed_is, InReach, in_reach, can_start_is, CanStart}
 use Rattle.tomex_rvexec.specs.History.{history as first_steps}
-use Rattle.tomex_rvexec.proofs.FlowEnds.{step_comes, steps_to_end}
-use Rattle.tomex_timing.specs.Search.{timed_of, history}
-use Rattle.tomex_timing.proofs.Search.{timed_is}
 use Rattle.tomex_cycle.specs.Run.{run_of, first_timed}
 use Rattle.tomex_cycle.proofs.Places.{busy_at, older_up_to}
-use Rattle.tomex_timing.proofs.Bound.{InReach, in_reach}
 use Rattle.tomex_cycle.specs.declared.fetch.Fetch.TheVariants.{Waits}
 use Rattle.tomex_cycle.proofs.Orders.{empty_order, empty_set, order_is}
-use Rattle.tomex_timing.proofs.Tests.{can_start_is}
-use Rattle.tomex_timing.specs.Tests.{CanStart}
 use Rattle.tomex_cycle.proofs.Truth.{pool_in, some_of}
 use Rattle.tomex_rvdec.specs.declared.pool.PoolId.TheVariants as pools
 

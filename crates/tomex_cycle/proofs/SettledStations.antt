@@ -1,14 +1,6 @@
 -- What the stations show of a cycle: if they stay as they were, and no operation finishes in it, nothing happens in
 -- it;
 -- if operations start, and leave none that waits for a unit, it is settled.
-use Rattle.tomex_cycle.proofs.Quiet.{IsAtRest, AllDue, AllFree, AllQuiet, HasResult, IsQuiet, settled_rests}
-use Rattle.tomex_cycle.proofs.Quiet.{issue_quiet, last_issue_settled, not_least, quiet_settles}
-use Rattle.tomex_cycle.proofs.Places.{low, place_low, station_here, is_vacant, vacant, vacant_none, held_place}
-use Rattle.tomex_cycle.proofs.Places.{ShowsPart, busy_at, not_vacant, shows_part, held_here, older_shown, later_up_to}
-use Rattle.tomex_cycle.proofs.Places.{older_up_to, part_up_to}
-use Rattle.tomex_timing.proofs.Tests.{can_start_is}
-use Rattle.std.proofs.Common.{ℕ, ◌+◌, ◌<◌, ◌≤◌, ◌≡◌, ◌∙◌, Bool, true, false, arith, refl, List, [], ◌∷◌, ◌++◌, Option}
-use Rattle.std.proofs.Common.{Some, None, ap, sym, inl, inr, slice_index_or}
 use Rattle.tomex_cycle.proofs.Words.{◌≢◌, nat_lt, nat_le, ◌&&◌, if◌then◌else◌, MatchOption, cases_Bool, nat_tests}
 use Rattle.tomex_cycle.proofs.Words.{both_ways, le-ltb, lt-ltb, ltb-true, ltb-false, le-leb, and_from, and_parts}
 use Rattle.tomex_cycle.proofs.Words.{eq-eqb, Loaded, Configuration, IsWithinLimits, UnitId, address_of, is_number}
@@ -16,7 +8,14 @@ use Rattle.tomex_cycle.proofs.Words.{step_unit, Done, cycle_of, is_memory, AreTi
 use Rattle.tomex_cycle.proofs.Words.{can_start, AllSettled, finishes, AreResults, NoneWaits, clocks, holds_place}
 use Rattle.tomex_cycle.proofs.Words.{place_of, station_at, station_of, ShowsStations, is_waiting, Pools, waits, Station}
 use Rattle.tomex_cycle.proofs.Words.{IsUpTo, step_pool, slot, ◌⊎◌, IsTimetableOf, IsSnapshot, first_timed, Finishes}
-use Rattle.tomex_cycle.proofs.Words.{Core, IsNextCycle, is_some}
+use Rattle.tomex_cycle.proofs.Words.{Core, IsNextCycle, is_some, ℕ, ◌+◌, ◌<◌, ◌≤◌, ◌≡◌, ◌∙◌, Bool, true, false, arith}
+use Rattle.tomex_cycle.proofs.Words.{refl, List, [], ◌∷◌, ◌++◌, Option, Some, None, ap, sym, inl, inr, slice_index_or}
+use Rattle.tomex_cycle.proofs.Quiet.{IsAtRest, AllDue, AllFree, AllQuiet, HasResult, IsQuiet, settled_rests}
+use Rattle.tomex_cycle.proofs.Quiet.{issue_quiet, last_issue_settled, not_least, quiet_settles}
+use Rattle.tomex_cycle.proofs.Places.{low, place_low, station_here, is_vacant, vacant, vacant_none, held_place}
+use Rattle.tomex_cycle.proofs.Places.{ShowsPart, busy_at, not_vacant, shows_part, held_here, older_shown, later_up_to}
+use Rattle.tomex_cycle.proofs.Places.{older_up_to, part_up_to}
+use Rattle.tomex_timing.proofs.Tests.{can_start_is}
 use Rattle.tomex_cycle.proofs.Runs.{AreLater, reach, issued_up_to, starts_after}
 use Rattle.tomex_cycle.proofs.StartsPicked.{ready_is, no_address}
 use Rattle.tomex_cycle.proofs.Truth.{some_not_none}

@@ -1,11 +1,11 @@
 -- What a state shows after a cycle it shows after a later one, if only results finish in between.
-use Rattle.std.proofs.Common.{ℕ, zero, suc, ◌+◌, ◌-◌, ◌<◌, ◌≤◌, ◌≡◌, ◌∙◌, true, arith, refl, List, [], ◌∷◌, ◌++◌}
-use Rattle.std.proofs.Common.{Option, Some, None, ap, inl, inr, subst}
 use Rattle.tomex_cycle.proofs.Words.{◌≢◌, nat_lt, nat_le, ◌&&◌, AllByRecursion, both_ways, cases_Bool, nat_tests}
 use Rattle.tomex_cycle.proofs.Words.{Loaded, Configuration, Operand, is_branch, is_number, step_dest, j_of, k_of, Done}
 use Rattle.tomex_cycle.proofs.Words.{cycle_of, times_of, field_of, field_from, producer, times_are, IsSnapshot}
 use Rattle.tomex_cycle.proofs.Words.{IsYetToIssue, byte_at, first_timed, RunEndsAfter, clocks, fetch_of, holds_place}
-use Rattle.tomex_cycle.proofs.Words.{place_of, station_at, station_of, Core, ShowsRegisters, ShowsStations}
+use Rattle.tomex_cycle.proofs.Words.{place_of, station_at, station_of, Core, ShowsRegisters, ShowsStations, ℕ, zero}
+use Rattle.tomex_cycle.proofs.Words.{suc, ◌+◌, ◌-◌, ◌<◌, ◌≤◌, ◌≡◌, ◌∙◌, true, arith, refl, List, [], ◌∷◌, ◌++◌, Option}
+use Rattle.tomex_cycle.proofs.Words.{Some, None, ap, inl, inr, subst}
 use Rattle.tomex_cycle.proofs.Quiet.{AllSteady, AllQuiet}
 use Rattle.tomex_cycle.proofs.Runs.{next_done, not_by, run_next, run_timed, step_is}
 use Rattle.tomex_cycle.specs.Views.{front}

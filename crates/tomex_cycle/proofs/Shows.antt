@@ -1,18 +1,14 @@
 -- The tables of what the state shows.
-use Rattle.std.proofs.Common.{ℕ, ◌+◌, ◌*◌, ◌/◌, ◌%◌, ◌<◌, ◌≤◌, ◌≡◌, ◌∙◌, Bool, arith, refl, List, [], ◌∷◌, Option, Some}
-use Rattle.std.proofs.Common.{None, ap, sym, inl, inr, length, slice_index_or, option_map}
-use Rattle.std.proofs.lemmas.List.{ext_get_or}
-use Rattle.std.proofs.lemmas.List.FromFn.{get_or-map-range_with_len, length-map-range_with_len}
 use Rattle.tomex_cycle.proofs.Words.{nat_lt, nat_le, if◌then◌else◌, ◌&&◌, map, filter_map, range_with_len, cases_Bool}
 use Rattle.tomex_cycle.proofs.Words.{nat_tests, le-leb, Loaded, Configuration, is_in, is_number, step_pool, step_dest}
 use Rattle.tomex_cycle.proofs.Words.{address_of, Busy, Tag, Done, cycle_of, is_memory, Tables, tables_of, shown, qi_of}
 use Rattle.tomex_cycle.proofs.Words.{producer, all_tags, place_of_pool, AreIssuedBy, clocks, holds_place, station_at}
 use Rattle.tomex_cycle.proofs.Words.{station_of, ShowsStations, ShowsRegisters, place_of_tag, Pools, RegStatus, IsUpTo}
-use Rattle.tomex_cycle.proofs.Words.{slot}
-use Rattle.tomex_timing.specs.Tables.{busy_of, is_under_way}
+use Rattle.tomex_cycle.proofs.Words.{slot, ℕ, ◌+◌, ◌*◌, ◌/◌, ◌%◌, ◌<◌, ◌≤◌, ◌≡◌, ◌∙◌, Bool, arith, refl, List, [], ◌∷◌}
+use Rattle.tomex_cycle.proofs.Words.{Option, Some, None, ap, sym, inl, inr, length, slice_index_or, option_map}
+use Rattle.tomex_cycle.proofs.Words.{ext_get_or, get_or-map-range_with_len, length-map-range_with_len, busy_of}
+use Rattle.tomex_cycle.proofs.Words.{is_under_way, a_from, busy_from, pool_at, tag_at_place}
 use Rattle.tomex_cycle.proofs.Places.{low, AreLow, IsLow, same_place, turn_and}
-use Rattle.tomex_tags.specs.Contents.{a_from, busy_from}
-use Rattle.tomex_tags.specs.Places.{pool_at, tag_at_place}
 
 a_same : (t imm address cycle : ℕ) (memory : Bool) → (if memory then Some (if nat_lt t cycle then imm else address) else
     None) ≡ a_from memory (if memory && nat_le cycle t then Some address else None) imm

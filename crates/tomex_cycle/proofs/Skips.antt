@@ -1,21 +1,18 @@
 -- A cycle in which nothing happens, and those after it up to the next finish, keep what holds of the machine.
-use Rattle.std.proofs.Common.{ℕ, ◌+◌, ◌-◌, ◌<◌, ◌≤◌, ◌≡◌, ◌^◌, arith, refl, List, [], ◌∷◌, ◌++◌, ap, sym, inl, inr}
-use Rattle.std.proofs.Common.{subst, ◌∙◌, true, Option, zero, suc, ◌*◌, ◌⊎◌}
 use Rattle.tomex_cycle.proofs.Words.{◌≢◌, nat_lt, ◌==◌, if◌then◌else◌, cases_Bool, cases_order, ltb-true, ltb-false}
 use Rattle.tomex_cycle.proofs.Words.{lt-ltb, eqb-true, eqb-false, Loaded, Configuration, EndsWithin, Done, greatest_end}
 use Rattle.tomex_cycle.proofs.Words.{AreTimed, Inner, Progress, Running, Ended, CycleOutcome, AreResults, IsFree}
 use Rattle.tomex_cycle.proofs.Words.{IsSkipped, progress_of, IsAt, MakesCycle, RunEndsAfter, first_timed, Seen}
 use Rattle.tomex_cycle.proofs.Words.{seen_after, IsSound, AllSettled, events_in, ◌⊎◌, nat_tests, finishes, GoesOn}
-use Rattle.tomex_cycle.proofs.Words.{SkipsTo, run_of, clocks, Station, slot, eq-eqb}
+use Rattle.tomex_cycle.proofs.Words.{SkipsTo, run_of, clocks, Station, slot, eq-eqb, ℕ, ◌+◌, ◌-◌, ◌<◌, ◌≤◌, ◌≡◌, ◌^◌}
+use Rattle.tomex_cycle.proofs.Words.{arith, refl, List, [], ◌∷◌, ◌++◌, ap, sym, inl, inr, subst, ◌∙◌, true, Option}
+use Rattle.tomex_cycle.proofs.Words.{zero, suc, ◌*◌, FinishesNext, suc-eq-add-one, IsCounted, eventful_by, events_by}
 use Rattle.tomex_cycle.proofs.Quiet.{AllSteady, HasResult, settled_next, settled_quiet, quiet_settles, quiet_steady}
 use Rattle.tomex_cycle.proofs.Runs.{rest_to, run_timed, issued_up_to, run_whole}
 use Rattle.tomex_cycle.proofs.Shifting.{AllSteadyAfter, AllQuietAfter, shifted}
 use Rattle.tomex_cycle.proofs.SettledStations.{issued_free, issued_results, later_settled, later_due}
 use Rattle.tomex_cycle.proofs.Outer.{running_low, seen_is, sound_next, sound_run}
-use Rattle.tomex_cycle.specs.Finishes.{FinishesNext}
 use Rattle.tomex_cycle.proofs.Happens.{finish_happens, over_happens, run_happens, quiet_none}
-use Rattle.std.proofs.Math.Numerals.{suc-eq-add-one}
-use Rattle.tomex_cycle.specs.Events.{IsCounted, eventful_by, events_by}
 use Rattle.tomex_cycle.specs.declared.progress.CycleOutcome.TheVariants as made_as
 
 -- no run is over in a cycle in which nothing happens but finishes of results

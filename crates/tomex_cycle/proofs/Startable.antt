@@ -1,22 +1,15 @@
 -- The sets of the operations that can start, by kind of unit.
-use Rattle.std.proofs.Common.{ℕ, ◌<◌, ◌≡◌, ◌∙◌, Bool, true, false, refl, List, [], ◌∷◌, ◌++◌, Option, Some, None, ap}
-use Rattle.std.proofs.Common.{arith, sym, inl, inr, slice_index}
 use Rattle.tomex_cycle.proofs.Words.{◌==◌, ◌≢◌, ◌&&◌, not, is_none, is_some, cases_Bool, both_ways, and_parts}
 use Rattle.tomex_cycle.proofs.Words.{nat_tests, eqb-true, eqb-false, is_in, is_number, has, IsWithout, IsInIssueOrder}
 use Rattle.tomex_cycle.proofs.Words.{IsPicked, Configuration, option_of, pool_of, unit_at, unit_of, place_of_unit}
 use Rattle.tomex_cycle.proofs.Words.{PoolId, UnitId, is_of, none_in, inside_left, none_picked, no_option, is_memory_op}
 use Rattle.tomex_cycle.proofs.Words.{is_waiting, AreBusy, Pools, IsSetOf, has_address, waits, Station, IsStarting}
-use Rattle.tomex_cycle.proofs.Words.{is_clear, kind_if, kind_of, wanted, ◌||◌, slot}
-use Rattle.tomex_steps.specs.Steps.{bytes_at}
-use Rattle.tomex_steps.proofs.Fields.{bytes_of_op}
-use Rattle.tomex_sets.specs.Sets.{IsWith}
-use Rattle.tomex_sets.proofs.Members.{none_rest}
-use Rattle.tomex_bus.proofs.Picking.{single_picked}
+use Rattle.tomex_cycle.proofs.Words.{is_clear, kind_if, kind_of, wanted, ◌||◌, slot, ℕ, ◌<◌, ◌≡◌, ◌∙◌, Bool, true}
+use Rattle.tomex_cycle.proofs.Words.{false, refl, List, [], ◌∷◌, ◌++◌, Option, Some, None, ap, arith, sym, inl, inr}
+use Rattle.tomex_cycle.proofs.Words.{slice_index, bytes_at, bytes_of_op, IsWith, none_rest, single_picked}
+use Rattle.tomex_cycle.proofs.Words.{is_busy_there, bytes_from, is_ready, AreStartableFor, IsWanted}
 use Rattle.tomex_cycle.proofs.IssueOrder.{no_access}
-use Rattle.tomex_tags.proofs.Entering.{is_busy_there}
-use Rattle.tomex_tags.specs.Contents.{bytes_from, is_ready}
 use Rattle.tomex_tags.specs.WaitSets.{waits_for}
-use Rattle.tomex_cycle.specs.Starts.{AreStartableFor, IsWanted}
 use Rattle.tomex_cycle.proofs.Truth.{or_false}
 use Rattle.tomex_rvdec.specs.declared.pool.PoolId.TheVariants as pools
 use Rattle.tomex_rvdec.specs.declared.pool.UnitId.TheVariants as units

@@ -1,16 +1,14 @@
 -- The picked operations start one after the other, each over the same memory.
-use Rattle.std.proofs.Common.{length, slice_index_or, slice_set, ℕ, ◌+◌, ◌<◌, ◌≡◌, ◌∙◌, Bool, true, false, arith, refl}
-use Rattle.std.proofs.Common.{Option, Some, None, ap, sym, inl, inr, ◌≤◌, zero, suc, List}
 use Rattle.tomex_cycle.proofs.Words.{nat_lt, ◌&&◌, ◌==◌, ◌≢◌, is_some, both_ways, cases_Bool, lt-ltb, le-ltb, nat_tests}
 use Rattle.tomex_cycle.proofs.Words.{eqb-true, eqb-false, get_or-set_same, get_or-set_other, length-set, Configuration}
 use Rattle.tomex_cycle.proofs.Words.{Bytes, Fault, AllCanBegin, CanBegin, HaveBegun, begun, begun_if, AreLow, Pools}
 use Rattle.tomex_cycle.proofs.Words.{Station, has, IsWithout, AreFrom, all_left, none_after, skip_to, slot}
 use Rattle.tomex_cycle.proofs.Words.{if◌then◌else◌, IfSome, and_parts, ByteRange, IsInside, byte_in, covers, overwrites}
 use Rattle.tomex_cycle.proofs.Words.{stored_byte, bytes_of, AllInside, HaveStored, stored_at, written_by, step_in}
-use Rattle.tomex_cycle.proofs.Words.{IsSetOf}
+use Rattle.tomex_cycle.proofs.Words.{IsSetOf, length, slice_index_or, slice_set, ℕ, ◌+◌, ◌<◌, ◌≡◌, ◌∙◌, Bool, true}
+use Rattle.tomex_cycle.proofs.Words.{false, arith, refl, Option, Some, None, ap, sym, inl, inr, ◌≤◌, zero, suc, List}
+use Rattle.tomex_cycle.proofs.Words.{HasStored, holds_store}
 use Rattle.tomex_cycle.proofs.Truth.{IsTaken, IsTurn, turn_at}
-use Rattle.tomex_steps.specs.Access.{HasStored}
-use Rattle.tomex_tags.specs.WaitSets.{holds_store}
 
 pub none_begun : (config : Configuration) (next : ℕ) (m : Bytes) (picked : ℕ) (st : Pools) → length st.slots ≡ 96
     → HaveBegun config next m picked 0 st st

@@ -1,7 +1,4 @@
 -- Memory after the stores that start in a cycle.
-use Rattle.tomex_cycle.proofs.Places.{low, place_low, is_vacant, vacant, busy_at, older_up_to}
-use Rattle.std.proofs.Common.{suc, zero, ℕ, ◌+◌, ◌<◌, ◌≤◌, ◌≡◌, ◌∙◌, Bool, true, false, arith, refl, List, [], ◌∷◌}
-use Rattle.std.proofs.Common.{Option, Some, None, ap, sym, inl, inr, length, subst, slice_index}
 use Rattle.tomex_cycle.proofs.Words.{nat_lt, nat_le, if◌then◌else◌, ◌&&◌, ◌==◌, not, is_some, cases_Bool, nat_tests}
 use Rattle.tomex_cycle.proofs.Words.{ltb-true, lt-ltb, le-leb, lt-leb, and_parts, or_left, eqb-true, eqb-false, ne_eqb}
 use Rattle.tomex_cycle.proofs.Words.{Loaded, Configuration, Step, covers, overwrites, stored_byte, is_number, is_store}
@@ -10,7 +7,10 @@ use Rattle.tomex_cycle.proofs.Words.{written_by, clocks, holds_place, place_of, 
 use Rattle.tomex_cycle.proofs.Words.{IsTimed, IsUpTo, slot, ltb-false, both_ways, byte_in, Bytes, Fault, MakesStarts}
 use Rattle.tomex_cycle.proofs.Words.{IsInside, AllCanBegin, AllInside, CanBegin, HaveBegun, HaveStored, begun}
 use Rattle.tomex_cycle.proofs.Words.{IsStarting, AreLow, ShowsMemory, station_of, Pools, AreBusy, get_or_past}
-use Rattle.tomex_cycle.proofs.Words.{place_of_unit, UnitId, and_right, none_in, begun_if}
+use Rattle.tomex_cycle.proofs.Words.{place_of_unit, UnitId, and_right, none_in, begun_if, suc, zero, ℕ, ◌+◌, ◌<◌, ◌≤◌}
+use Rattle.tomex_cycle.proofs.Words.{◌≡◌, ◌∙◌, Bool, true, false, arith, refl, List, [], ◌∷◌, Option, Some, None, ap}
+use Rattle.tomex_cycle.proofs.Words.{sym, inl, inr, length, subst, slice_index}
+use Rattle.tomex_cycle.proofs.Places.{low, place_low, is_vacant, vacant, busy_at, older_up_to}
 use Rattle.tomex_cycle.proofs.StartsMade.{conflict_at, starts_clear, step_is, begins_at, inside_is, some_is}
 use Rattle.tomex_cycle.proofs.StartsPicked.{starts_at, starts_in, starting_is, five}
 use Rattle.tomex_cycle.proofs.Runs.{reach, store_unit}

@@ -1,6 +1,4 @@
 -- In the cycle in which it starts an access finds in memory the bytes that the run has before it.
-use Rattle.std.proofs.Common.{ℕ, ◌+◌, ◌<◌, ◌≤◌, ◌≡◌, ◌∙◌, true, arith, refl, List, [], ◌∷◌, ◌++◌, Option, Some, None}
-use Rattle.std.proofs.Common.{inl, inr, length, append_assoc, ◌-◌, false, ap, sym}
 use Rattle.tomex_cycle.proofs.Words.{nat_lt, not, is_some, MatchOption, cases_Bool, ltb-true, nat_tests, lt-leb, le-leb}
 use Rattle.tomex_cycle.proofs.Words.{and_parts, or_right, or_left, Loaded, Configuration, IsWithinLimits, UnitId}
 use Rattle.tomex_cycle.proofs.Words.{ByteRange, Step, covers, overwrites, byte_after, bytes_of, is_store, step_pool}
@@ -10,13 +8,12 @@ use Rattle.tomex_cycle.proofs.Words.{◌==◌, option_map, IfSome, IsSome, eqb-t
 use Rattle.tomex_cycle.proofs.Words.{unit_of, IsAllowed, byte_in, result_of, Bytes, j_of, k_of, operand, unread_j}
 use Rattle.tomex_cycle.proofs.Words.{unread_k, source_end, field_of, producer, ArePast, IsInside, begun, begun_if}
 use Rattle.tomex_cycle.proofs.Words.{ShowsMemory, clocks, holds_place, station_at, station_of, step_in, is_there}
-use Rattle.tomex_cycle.proofs.Words.{value_in, Station, lt-ltb}
+use Rattle.tomex_cycle.proofs.Words.{value_in, Station, lt-ltb, ℕ, ◌+◌, ◌<◌, ◌≤◌, ◌≡◌, ◌∙◌, true, arith, refl, List, []}
+use Rattle.tomex_cycle.proofs.Words.{◌∷◌, ◌++◌, Option, Some, None, inl, inr, length, append_assoc, ◌-◌, false, ap, sym}
+use Rattle.tomex_cycle.proofs.Words.{shares_byte, end_at, same_result}
 use Rattle.tomex_steps.specs.Results.{is_among}
-use Rattle.tomex_timing.specs.Recurrence.{shares_byte}
 use Rattle.tomex_cycle.proofs.Runs.{reach, can_start_then, start_least, store_unit}
 use Rattle.tomex_cycle.proofs.Places.{older_up_to, part_up_to}
-use Rattle.tomex_rvexec.specs.Flow.{end_at}
-use Rattle.tomex_rvexec.proofs.FlowRuns.{same_result}
 use Rattle.tomex_cycle.specs.Starts.{finish_from}
 use Rattle.tomex_cycle.proofs.Fields.{there_test}
 use Rattle.tomex_cycle.proofs.StartsBegun.{inside_as}

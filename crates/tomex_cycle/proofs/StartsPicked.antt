@@ -1,8 +1,4 @@
 -- The tests that an operation passes as it starts are those of the recurrence: operands, address, older accesses.
-use Rattle.tomex_cycle.proofs.Addresses.{order_here, address_rises}
-use Rattle.std.proofs.Common.{ℕ, ◌+◌, ◌<◌, ◌≤◌, ◌≡◌, ◌∙◌, Bool, true, false, arith, refl, List, [], ◌∷◌, ◌++◌, Option}
-use Rattle.std.proofs.Common.{Some, None, ap, sym, inl, inr, append-nil, length, slice_index, append_assoc}
-use Rattle.std.proofs.lemmas.Bool.{MatchBool-at_false}
 use Rattle.tomex_cycle.proofs.Words.{nat_lt, nat_le, if◌then◌else◌, ◌&&◌, not, is_some, cases_Bool, nat_tests}
 use Rattle.tomex_cycle.proofs.Words.{ltb-false, lt-ltb, or_right, Loaded, Configuration, Step, address_of, bytes_of}
 use Rattle.tomex_cycle.proofs.Words.{is_store, j_of, k_of, Tag, Done, cycle_of, is_memory, last_address, source_end}
@@ -13,11 +9,12 @@ use Rattle.tomex_cycle.proofs.Words.{slot, ◌==◌, count_by, MatchOption, ltb-
 use Rattle.tomex_cycle.proofs.Words.{option_of, UnitId, place_of_unit, is_number, step_pool, step_unit, unit_with_pool}
 use Rattle.tomex_cycle.proofs.Words.{is_of, can_start, has_unit, tag_at, tag_of, wanted, kind_if, kind_of, IsStarting}
 use Rattle.tomex_cycle.proofs.Words.{ShowsStations, holds_place, place_of, place_at, AreBusy, IsInIssueOrder, has}
-use Rattle.tomex_cycle.proofs.Words.{PoolId, is_free, onto_end}
-use Rattle.tomex_steps.proofs.Fields.{bytes_of_memory}
+use Rattle.tomex_cycle.proofs.Words.{PoolId, is_free, onto_end, ℕ, ◌+◌, ◌<◌, ◌≤◌, ◌≡◌, ◌∙◌, Bool, true, false, arith}
+use Rattle.tomex_cycle.proofs.Words.{refl, List, [], ◌∷◌, ◌++◌, Option, Some, None, ap, sym, inl, inr, append-nil}
+use Rattle.tomex_cycle.proofs.Words.{length, slice_index, append_assoc, MatchBool-at_false, bytes_of_memory, share_none}
+use Rattle.tomex_cycle.proofs.Addresses.{order_here, address_rises}
 use Rattle.tomex_cycle.proofs.Runs.{reach, start_least}
 use Rattle.tomex_cycle.proofs.Fields.{there_test}
-use Rattle.tomex_membuf.proofs.Older.{share_none}
 use Rattle.tomex_cycle.proofs.Places.{ShowsPart, busy_at, held_here, older_shown, older_up_to, is_vacant, vacant}
 use Rattle.tomex_cycle.proofs.Places.{least_test, held_place, shows_part}
 use Rattle.tomex_cycle.specs.Starts.{is_among, AreStartableFor}

@@ -1,10 +1,8 @@
 -- Tests and constructors: the laws of them that several files cite.
-use Rattle.std.proofs.Common.{◌≡◌, Bool, true, false, ◌&&◌, Option, Some, None, ◌⊎◌, arith, refl, inl, inr, ℕ, ◌+◌, ◌<◌}
-use Rattle.std.proofs.Common.{◌≤◌}
 use Rattle.tomex_cycle.proofs.Words.{Result, Ok, Err, nat_tests, ◌||◌, ◌≢◌, ◌⊎◌, if◌then◌else◌, AreFrom, IsWithout, has}
-use Rattle.tomex_cycle.proofs.Words.{least_from, least_in, left_from, none_between, PoolId, is_in, is_some}
-use Rattle.tomex_cycle.specs.declared.activity.Activity.{Activity}
-use Rattle.tomex_cycle.specs.declared.activity.Activity.TheVariants.{Nothing, Starts, More}
+use Rattle.tomex_cycle.proofs.Words.{least_from, least_in, left_from, none_between, PoolId, is_in, is_some, ◌≡◌, Bool}
+use Rattle.tomex_cycle.proofs.Words.{true, false, ◌&&◌, Option, Some, None, arith, refl, inl, inr, ℕ, ◌+◌, ◌<◌, ◌≤◌}
+use Rattle.tomex_cycle.proofs.Words.{Activity, Nothing, Starts, More}
 
 pub or_cases : (a b : Bool) → (a || b) ≡ true → (a ≡ true) ⊎ (b ≡ true)
 or_cases a b e = grind (arith, nat_tests)

@@ -1,4 +1,4 @@
-use Rattle.std.proofs.Common.{arith}
+use Rattle.tomex_cycle.proofs.Words.{arith}
 use Rattle.tomex_cycle.proofs.KnownEnds.{all_due, are_ending, leaves_known, none_unsent, choice_is}
 use Rattle.tomex_cycle.proofs.ends.choose_ending.Goals as goal
 

@@ -1,6 +1,5 @@
 -- As many issues of the cycle are made as are counted.
-use Rattle.std.proofs.Common.{ℕ, ◌≡◌, ◌-◌}
-use Rattle.tomex_cycle.proofs.Words.{IsTimetableOf, IssuesOn, Finishes, front}
+use Rattle.tomex_cycle.proofs.Words.{IsTimetableOf, IssuesOn, Finishes, front, ℕ, ◌≡◌, ◌-◌}
 use Rattle.tomex_cycle.proofs.issue.issue_more.Given as goal
 
 abbrev pub invariant-issues : goal.invariant-issues

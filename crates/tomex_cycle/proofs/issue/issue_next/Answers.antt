@@ -1,7 +1,6 @@
-use Rattle.std.proofs.Common.{◌∙◌, refl, sym}
+use Rattle.tomex_cycle.proofs.Words.{front, ◌∙◌, refl, sym}
 use Rattle.tomex_cycle.proofs.IssuesCases.{fault_case, full_case, none_case, some_case, waits_case}
 use Rattle.tomex_cycle.proofs.Known.{known_taken}
-use Rattle.tomex_cycle.proofs.Words.{front}
 use Rattle.tomex_cycle.proofs.issue.issue_next.Goals as goal
 
 pub returns-in_default-clause-issues : goal.returns-in_default-clause-issues

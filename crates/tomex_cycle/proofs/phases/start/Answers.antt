@@ -1,7 +1,6 @@
-use Rattle.std.proofs.lemmas.Option.{IfSome_then}
+use Rattle.tomex_cycle.proofs.Words.{IfSome_then, true, false}
 use Rattle.tomex_cycle.proofs.Happens.{start_happens}
 use Rattle.tomex_cycle.proofs.StartsDone.{start_made, start_none}
-use Rattle.std.proofs.Common.{true, false}
 use Rattle.tomex_cycle.proofs.phases.start.Goals as goal
 
 pub returns-then-starting-eq0-clause-starts : goal.returns-then-starting-eq0-clause-starts

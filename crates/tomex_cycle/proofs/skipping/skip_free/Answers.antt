@@ -1,4 +1,4 @@
-use Rattle.std.proofs.Common.{refl}
+use Rattle.tomex_cycle.proofs.Words.{refl}
 use Rattle.tomex_cycle.proofs.Known.{clear_skipped, free_to, known_later}
 use Rattle.tomex_cycle.proofs.skipping.skip_free.Goals as goal
 

@@ -1,5 +1,4 @@
-use Rattle.std.proofs.Common.{ℕ, ◌≡◌, ◌<◌, length, true}
-use Rattle.tomex_cycle.proofs.Words.{has, IsTimetableOf, AllCanBegin, AreLow, slot}
+use Rattle.tomex_cycle.proofs.Words.{has, IsTimetableOf, AllCanBegin, AreLow, slot, ℕ, ◌≡◌, ◌<◌, length, true}
 use Rattle.tomex_cycle.proofs.StartsBegun.{IsBegun}
 use Rattle.tomex_cycle.proofs.starts.begin.Given as goal
 

@@ -1,7 +1,6 @@
-use Rattle.std.proofs.Common.{◌∙◌, refl, sym, false}
+use Rattle.tomex_cycle.proofs.Words.{is_some, ◌∙◌, refl, sym, false}
 use Rattle.tomex_cycle.proofs.Known.{known_started}
 use Rattle.tomex_membuf.proofs.Older.{no_option}
-use Rattle.tomex_cycle.proofs.Words.{is_some}
 use Rattle.tomex_cycle.proofs.starts.begin_at.Goals as goal
 
 pub returns-in-Some-outcome-clause-timetable : goal.returns-in-Some-outcome-clause-timetable

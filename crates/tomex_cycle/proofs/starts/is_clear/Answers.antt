@@ -1,7 +1,6 @@
-use Rattle.tomex_membuf.proofs.Older.{clear_there}
+use Rattle.tomex_cycle.proofs.Words.{slot, clear_there}
 use Rattle.tomex_cycle.proofs.IssueOrder.{clear_is}
 use Rattle.tomex_cycle.proofs.Startable.{wants_clear}
-use Rattle.tomex_cycle.proofs.Words.{slot}
 use Rattle.tomex_rvdec.specs.declared.pool.UnitId.TheVariants as units
 use Rattle.tomex_cycle.proofs.starts.is_clear.Goals as goal
 

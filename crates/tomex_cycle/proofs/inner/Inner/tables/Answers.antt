@@ -1,5 +1,5 @@
+use Rattle.tomex_cycle.proofs.Words.{◌∙◌}
 use Rattle.tomex_cycle.proofs.Shows.{tables_is, same_tables}
-use Rattle.std.proofs.Common.{◌∙◌}
 use Rattle.tomex_cycle.proofs.inner.Inner.tables.Goals as goal
 
 pub returns-clause-shown : goal.returns-clause-shown

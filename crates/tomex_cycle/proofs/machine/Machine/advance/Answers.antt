@@ -1,4 +1,4 @@
-use Rattle.std.proofs.Common.{◌∙◌, ap, arith, max, refl}
+use Rattle.tomex_cycle.proofs.Words.{◌∙◌, ap, arith, max, refl}
 use Rattle.tomex_cycle.specs.Seen.{seen}
 use Rattle.tomex_cycle.proofs.Outer.{now_seen, over_seen}
 use Rattle.tomex_cycle.proofs.machine.Machine.advance.Goals.{in-Running, in_default}

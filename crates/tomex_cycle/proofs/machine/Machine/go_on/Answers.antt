@@ -1,6 +1,5 @@
-use Rattle.std.proofs.Common.{◌≡◌, ◌≤◌, ◌+◌, ◌∙◌, ap, arith, inl, refl, sym, subst}
-use Rattle.tomex_cycle.proofs.Words.{GoesOn, progress_of, EndsWithinLimit, run_of, seen, Running}
-use Rattle.tomex_cycle.specs.Seen.{Machine}
+use Rattle.tomex_cycle.proofs.Words.{GoesOn, progress_of, EndsWithinLimit, run_of, seen, Running, ◌≡◌, ◌≤◌, ◌+◌, ◌∙◌}
+use Rattle.tomex_cycle.proofs.Words.{ap, arith, inl, refl, sym, subst, Machine}
 use Rattle.tomex_cycle.proofs.Skips.{go_passes, active_not_settled, passed_low, settled_goes, later_seen, sound_counted}
 use Rattle.tomex_cycle.proofs.Skips.{sound_passed, has_made, sound_made}
 use Rattle.tomex_cycle.proofs.machine.Machine.go_on.Goals as goal

@@ -1,5 +1,4 @@
-use Rattle.std.proofs.Common.{◌≡◌, ◌≤◌, ◌-◌, max}
-use Rattle.tomex_cycle.proofs.Words.{seen, seen_after, Running, EndsWithinLimit, run_of}
+use Rattle.tomex_cycle.proofs.Words.{seen, seen_after, Running, EndsWithinLimit, run_of, ◌≡◌, ◌≤◌, ◌-◌, max}
 use Rattle.tomex_cycle.proofs.Skips.{IsPaid}
 use Rattle.tomex_cycle.proofs.machine.Machine.run_to.Given as goal
 
