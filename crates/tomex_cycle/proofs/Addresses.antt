@@ -1,14 +1,16 @@
 -- Which load or store gets its address in a cycle, by the recurrence.
-use Rattle.tomex_cycle.proofs.Words.{nat_lt, nat_le, if◌then◌else◌, ◌&&◌, ◌==◌, not, is_some, MatchBool, cases_Bool}
-use Rattle.tomex_cycle.proofs.Words.{nat_tests, ltb-true, lt-ltb, leb-true, leb-false, lt-leb, and_parts, and_right}
-use Rattle.tomex_cycle.proofs.Words.{eq-eqb, Configuration, Done, cycle_of, is_memory, last_address, AreTimed, IsTimed}
-use Rattle.tomex_cycle.proofs.Words.{IsLeast, can_address, place_of, holds_place, station_of, clocks, Loaded}
-use Rattle.tomex_cycle.proofs.Words.{address_of, j_of, field_of, with_address, is_there, Station, IsUpTo, eqb-true}
-use Rattle.tomex_cycle.proofs.Words.{eqb-false, ne_eqb, get_or-set_same, get_or-set_other, length-set, step_pool}
-use Rattle.tomex_cycle.proofs.Words.{is_number, MakesAddress, order_of, station_at, option_map, lacks_address, Pools}
-use Rattle.tomex_cycle.proofs.Words.{AreBusy, IsInIssueOrder, slot, ℕ, ◌+◌, ◌<◌, ◌≤◌, ◌≡◌, Bool, true, false, arith}
-use Rattle.tomex_cycle.proofs.Words.{refl, List, [], ◌∷◌, Option, Some, None, ap, inl, inr, ◌∙◌, sym, length}
-use Rattle.tomex_cycle.proofs.Words.{slice_index_or, slice_set, ◌++◌, slice_index}
+use Rattle.std.proofs.lemmas.Bool.{MatchBool-at_true}
+use Rattle.tomex_timing.proofs.Orders.{address_rises as timed_address_rises}
+use Rattle.tomex_cycle.proofs.Words.{nat_lt, nat_le, if◌then◌else◌, ◌&&◌, ◌==◌, not, is_some, cases_Bool, nat_tests}
+use Rattle.tomex_cycle.proofs.Words.{lt-ltb, leb-true, leb-false, lt-leb, and_parts, and_right, eq-eqb, Configuration}
+use Rattle.tomex_cycle.proofs.Words.{Done, cycle_of, is_memory, last_address, AreTimed, IsTimed, IsLeast, can_address}
+use Rattle.tomex_cycle.proofs.Words.{place_of, holds_place, station_of, clocks, Loaded, address_of, j_of, field_of}
+use Rattle.tomex_cycle.proofs.Words.{with_address, is_there, Station, IsUpTo, eqb-true, eqb-false, ne_eqb}
+use Rattle.tomex_cycle.proofs.Words.{get_or-set_same, get_or-set_other, length-set, step_pool, is_number, MakesAddress}
+use Rattle.tomex_cycle.proofs.Words.{order_of, station_at, option_map, lacks_address, Pools, AreBusy, IsInIssueOrder}
+use Rattle.tomex_cycle.proofs.Words.{slot, ℕ, ◌+◌, ◌<◌, ◌≤◌, ◌≡◌, Bool, true, false, arith, refl, List, [], ◌∷◌, Option}
+use Rattle.tomex_cycle.proofs.Words.{Some, None, ap, inl, inr, ◌∙◌, sym, length, slice_index_or, slice_set, ◌++◌}
+use Rattle.tomex_cycle.proofs.Words.{slice_index}
 use Rattle.tomex_cycle.proofs.Truth.{some_not_none}
 use Rattle.tomex_cycle.proofs.Fields.{there_test}
 use Rattle.tomex_cycle.proofs.Places.{is_vacant, least_test, busy_at, older_up_to, AreLow, IsLow, low, place_low}
@@ -30,23 +32,15 @@ abbrev pub chosen : ℕ → List Done → Option ℕ
 chosen t [] = None
 chosen t (d ∷ older) = or_else (chosen t older) (if waits_for_address t d then place_of d else None)
 
-address_least : (d : Done) (older : List Done) (memory : Bool) → memory ≡ true
-    → MatchBool memory (IsLeast (can_address older d.step d.at.issue) (cycle_of d.at.address)) (d.at.address ≡ None)
-    → IsLeast (can_address older d.step d.at.issue) (cycle_of d.at.address)
-address_least d older true e h = h
-address_least d older false e h = absurd (cc)
-
 pub address_is : {config : Configuration} (d : Done) {older : List Done} → IsTimed config older d.step d.at
     → is_memory d.step ≡ true → IsLeast (can_address older d.step d.at.issue) (cycle_of d.at.address)
-address_is d {older} timed e = address_least d older (is_memory d.step) e timed.address
+address_is d {older} timed e = MatchBool-at_true (IsLeast (can_address older d.step d.at.issue)
+    (cycle_of d.at.address)) (d.at.address ≡ None) e timed.address
 
 -- addresses are computed in program order
 pub address_rises : {config : Configuration} (d : Done) {older : List Done} → IsTimed config older d.step d.at
     → is_memory d.step ≡ true → last_address older < cycle_of d.at.address
-address_rises d {older} timed e =
-    let l = address_is d timed e in
-    let two = and_parts _ (nat_lt (last_address older) (cycle_of d.at.address)) l.0 in
-    ltb-true _ _ two.1
+address_rises {config} d {older} timed e = (timed_address_rises config d older timed e).1
 
 pub some_none_of : {A : Type 0} (x : A) (o : Option A) → is_some o ≡ true → o ≡ None → ⊥
 some_none_of x o e f = grind (arith, nat_tests)

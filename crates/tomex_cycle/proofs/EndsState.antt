@@ -1,4 +1,5 @@
 -- What ends in a cycle: the recurrence's test, by the buses that are left.
+use Rattle.std.proofs.lemmas.Bool.{MatchBool-at_true, MatchBool-at_false}
 use Rattle.tomex_cycle.proofs.Words.{nat_lt, nat_le, if◌then◌else◌, ◌&&◌, ◌==◌, is_some, count_by, MatchOption}
 use Rattle.tomex_cycle.proofs.Words.{nat_tests, not, MatchBool, cases_Bool, ltb-true, ltb-false, lt-ltb, and_parts}
 use Rattle.tomex_cycle.proofs.Words.{eqb-true, ne_eqb, both_ways, Loaded, Configuration, IsWithinLimits, PoolId}
@@ -39,14 +40,6 @@ end_clause : (pool : Option PoolId) (station : Option ℕ) (p : ℕ) (A B C : Ty
 end_clause None station p A B C dest e h = absurd (cc)
 end_clause (Some q) station p A B C dest e h = h
 
-clause_true : (B C : Type 0) (dest : Bool) → dest ≡ true → MatchBool dest B C → B
-clause_true B C true e h = h
-clause_true B C false e h = absurd (cc)
-
-clause_false : (B C : Type 0) (dest : Bool) → dest ≡ false → MatchBool dest B C → C
-clause_false B C false e h = h
-clause_false B C true e h = absurd (cc)
-
 before_is : (u start finish : ℕ) → start ≤ finish
     → is_finished_before (if nat_le start u then Some finish else None) u ≡ nat_lt finish u
 before_is u start finish l = grind (arith, nat_tests)
@@ -70,8 +63,8 @@ one_ends {config = config} t u p d older up place next late =
           let clause = end_clause (step_pool d.step) d.at.station p (d.at.end ≡ d.at.issue) (IsLeast
           (can_end config older d.at.finish) d.at.end) (d.at.end ≡ d.at.finish) (is_some (step_dest d.step)) place
           up.timed.0.end in
-          let same : d.at.end ≡ d.at.finish = clause_false (IsLeast (can_end config older d.at.finish) d.at.end)
-          (d.at.end ≡ d.at.finish) (is_some (step_dest d.step)) dest clause in
+          let same : d.at.end ≡ d.at.finish = MatchBool-at_false (IsLeast (can_end config older d.at.finish) d.at.end)
+          (d.at.end ≡ d.at.finish) dest clause in
           let done : is_finished_by (if nat_le d.at.start u then Some d.at.finish else None) u ≡ (d.at.end == u) =
           by_is u d.at.start d.at.finish l ∙ (ap (λ k. nat_le k u) (sym same) ∙ last_is t u d.at.end next late) in
           rw (dest, done) refl
@@ -86,8 +79,7 @@ one_sends {config = config} t u p d older up place next late = elim (cases_Bool 
   | inl dest ↦
       let clause = end_clause (step_pool d.step) d.at.station p (d.at.end ≡ d.at.issue) (IsLeast (can_end config older
       d.at.finish) d.at.end) (d.at.end ≡ d.at.finish) (is_some (step_dest d.step)) place up.timed.0.end in
-      let least = clause_true (IsLeast (can_end config older d.at.finish) d.at.end) (d.at.end ≡ d.at.finish)
-      (is_some (step_dest d.step)) dest clause in
+      let least = MatchBool-at_true (IsLeast (can_end config older d.at.finish) d.at.end) (d.at.end ≡ d.at.finish) dest clause in
       let test = least_test (can_end config older d.at.finish) d.at.end u least (omega arith) in
       rw dest (sym test)
 ]

@@ -1,7 +1,8 @@
 -- What the issue of a step makes of the stations, the register status and fetch.
+use Rattle.tomex_timing.proofs.Orders.{address_rises as timed_address_rises}
 use Rattle.tomex_cycle.proofs.Words.{nat_lt, nat_le, ◌&&◌, ◌==◌, if◌then◌else◌, slice_index, option_map, IfSome}
-use Rattle.tomex_cycle.proofs.Words.{nat_tests, MatchOption, cases_Bool, ltb-true, lt-ltb, lt-leb, and_parts, eqb-true}
-use Rattle.tomex_cycle.proofs.Words.{eqb-false, get_or-set_same, get_or-set_other, length-set, Loaded, Configuration}
+use Rattle.tomex_cycle.proofs.Words.{nat_tests, MatchOption, cases_Bool, lt-ltb, lt-leb, eqb-true, eqb-false}
+use Rattle.tomex_cycle.proofs.Words.{get_or-set_same, get_or-set_other, length-set, Loaded, Configuration}
 use Rattle.tomex_cycle.proofs.Words.{IsWithinLimits, Form, PoolId, Instruction, form_of, sources_at, sources_of, Step}
 use Rattle.tomex_cycle.proofs.Words.{end_of, result_of, byte_after, register_after, address_of, is_branch, is_number}
 use Rattle.tomex_cycle.proofs.Words.{j_of, k_of, operand, step_dest, step_pool, dest_needs_pool, Field, Tag, Done}
@@ -13,7 +14,6 @@ use Rattle.tomex_cycle.proofs.Words.{tags_with, RegStatus, Station, is_some, uni
 use Rattle.tomex_cycle.proofs.Words.{Bool, true, arith, refl, List, ◌∷◌, Option, Some, None, ap, sym, inl, inr, length}
 use Rattle.tomex_cycle.proofs.Words.{slice_index_or, slice_set}
 use Rattle.tomex_rvexec.specs.History.{Follows}
-use Rattle.tomex_cycle.proofs.Addresses.{address_is}
 use Rattle.tomex_cycle.proofs.Runs.{reach, starts_after}
 use Rattle.tomex_cycle.proofs.Truth.{pool_in}
 use Rattle.tomex_rvdec.specs.declared.pool.PoolId.TheVariants as pools
@@ -22,8 +22,7 @@ use Rattle.tomex_rvdec.specs.declared.pool.PoolId.TheVariants as pools
 
 address_after : {config : Configuration} (d : Done) {older : List Done} → IsTimed config older d.step d.at
     → is_memory d.step ≡ true → d.at.issue < cycle_of d.at.address
-address_after d timed e =
-    ltb-true d.at.issue (cycle_of d.at.address) (and_parts _ _ (and_parts _ _ (address_is d timed e).0).0).0
+address_after {config} d {older} timed e = (timed_address_rises config d older timed e).0
 
 -- Operands.
 

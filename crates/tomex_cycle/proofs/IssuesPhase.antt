@@ -1,4 +1,5 @@
 -- The issues of a cycle: the first, and those that the width leaves after it.
+use Rattle.tomex_cycle.proofs.IssuesTest.{last_by, yet_more}
 use Rattle.tomex_cycle.proofs.Words.{nat_lt, ◌&&◌, Result, Ok, Err, cases_Bool, ltb-true, ltb-false, lt-ltb, le-ltb}
 use Rattle.tomex_cycle.proofs.Words.{nat_tests, le-leb, both_ways, eq-eqb, sum_by-cons, Loaded, Configuration}
 use Rattle.tomex_cycle.proofs.Words.{IsWithinLimits, Fault, Step, step_pool, Done, last_issue, AreTimed}
@@ -6,16 +7,11 @@ use Rattle.tomex_cycle.proofs.Words.{are_branches_finished, can_issue, can_issue
 use Rattle.tomex_cycle.proofs.Words.{width_low, times_are, none_later, IsIssuing, IssuesNext, IssuesOn, IsIssuedTo}
 use Rattle.tomex_cycle.proofs.Words.{IsYetToIssue, MakesIssue, RunEndsAfter, AreIssuedBy, first_timed, clocks, Front}
 use Rattle.tomex_cycle.proofs.Words.{IsNextCycle, ℕ, suc, ◌+◌, ◌%◌, ◌<◌, ◌≤◌, ◌≡◌, ◌∙◌, Bool, true, false, arith, refl}
-use Rattle.tomex_cycle.proofs.Words.{List, [], ◌∷◌, ap, inl, inr, subst, result_unwrap_or, HaveIssued, IssuesMore}
+use Rattle.tomex_cycle.proofs.Words.{List, ◌∷◌, ap, inl, inr, subst, result_unwrap_or, HaveIssued, IssuesMore}
 use Rattle.tomex_cycle.proofs.Words.{count_after, issued_in}
 use Rattle.tomex_cycle.proofs.Runs.{next_done, run_next, run_timed, step_is}
-use Rattle.tomex_cycle.proofs.IssuesTest.{yet_more}
 use Rattle.tomex_cycle.proofs.Truth.{ok_not_err, ok_same}
 use Rattle.tomex_cycle.proofs.Places.{issued_more}
-
-last_by : (t : ℕ) (h : List Done) → AreIssuedBy t h → last_issue h ≤ t
-last_by t [] issued = omega arith
-last_by t (d ∷ older) issued = issued.0
 
 -- none has issued in the cycle yet
 none_first : (config : Configuration) (t u : ℕ) (h : List Done) → AreTimed config h → AreIssuedBy t h → u ≡ t + 1

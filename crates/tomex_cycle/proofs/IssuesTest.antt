@@ -1,20 +1,20 @@
 -- Whether the next step can issue in a cycle: fetch and the pool's stations say so.
+use Rattle.tomex_cycle.proofs.Places.{holds_is, AreLow}
+use Rattle.tomex_timing.proofs.Holders.{stations_fit}
+use Rattle.tomex_timing.proofs.Taken.{peak_within}
+use Rattle.tomex_timing.specs.declared.part.Part.TheVariants.{Stations}
 use Rattle.tomex_cycle.proofs.Words.{nat_lt, ◌&&◌, not, Ok, cases_order, lt-ltb, nat_tests, and_parts, Loaded}
 use Rattle.tomex_cycle.proofs.Words.{Configuration, IsWithinLimits, EndKind, Step, instruction_at, end_of, next_pc_of}
 use Rattle.tomex_cycle.proofs.Words.{step_after, is_branch, step_pool, step_follows, Done, AreTimed}
 use Rattle.tomex_cycle.proofs.Words.{are_branches_finished, can_issue, can_issue_another, times_of, has_station}
 use Rattle.tomex_cycle.proofs.Words.{least_same, times_are, At, IsYetToIssue, AreIssuedBy, first_timed, steps_in}
-use Rattle.tomex_cycle.proofs.Words.{RunEndsAfter, fetch_after, fetch_of, IsUpTo, ◌||◌, slot, nat_le, count_by, is_none}
-use Rattle.tomex_cycle.proofs.Words.{MatchOption, list_all, cases_Bool, eqb-true, ◌==◌, sum_by-cons, stations_of}
-use Rattle.tomex_cycle.proofs.Words.{PoolId, place_of_pool, is_in, is_number, IsLeast, least, is_free, is_held}
-use Rattle.tomex_cycle.proofs.Words.{issue_station, number_is, clocks, holds_place, station_at, ℕ, ◌+◌, ◌<◌, ◌≤◌, ◌≡◌}
-use Rattle.tomex_cycle.proofs.Words.{◌∙◌, Bool, true, false, arith, refl, List, [], ◌∷◌, Option, Some, None, sym, inl}
-use Rattle.tomex_cycle.proofs.Words.{inr, zero, suc, ◌*◌, ap, pc_after, lower, one, split_count, pool_place}
+use Rattle.tomex_cycle.proofs.Words.{RunEndsAfter, fetch_after, fetch_of, IsUpTo, ◌||◌, slot, count_by, is_none}
+use Rattle.tomex_cycle.proofs.Words.{cases_Bool, stations_of, PoolId, place_of_pool, is_free, is_held, clocks}
+use Rattle.tomex_cycle.proofs.Words.{holds_place, station_at, ℕ, ◌+◌, ◌<◌, ◌≤◌, ◌≡◌, ◌∙◌, Bool, true, false, arith}
+use Rattle.tomex_cycle.proofs.Words.{refl, List, [], ◌∷◌, Option, Some, None, sym, inl, inr, ◌*◌, pc_after, last_issue}
 use Rattle.tomex_rvexec.specs.History.{Follows}
 use Rattle.tomex_cycle.specs.declared.fetch.Fetch.TheVariants.{Waits}
 use Rattle.tomex_cycle.proofs.Runs.{step_is, steps_are, stops}
-use Rattle.tomex_cycle.proofs.Places.{AreLow, same_place}
-use Rattle.tomex_tags.specs.Places.{pool_at}
 
 -- the youngest step is a branch that hasn't finished
 abbrev pub is_waiting : ℕ → List Done → Bool
@@ -135,148 +135,20 @@ coming {config} {i} {n} t count pc run few e =
 
 -- The numbers of a pool's stations: which are free, and how many are held.
 
-same_pool : (p q : PoolId) → (place_of_pool p == place_of_pool q) ≡ true → p ≡ q
-same_pool p q e = sym (pool_place p) ∙ (ap pool_at (eqb-true (place_of_pool p) (place_of_pool q) e) ∙ pool_place q)
-
--- what isn't held isn't held later
-held_later : (p : PoolId) (t u : ℕ) (d : Done) → t ≤ u → is_held p t d ≡ false → is_held p u d ≡ false
-held_later p t u d l e = grind (arith, nat_tests)
-
 -- Where a number is free, a station is left.
 
-abbrev below : PoolId → ℕ → ℕ → Done → Bool
-below p u n d = is_held p u d && lower d.at.station n
-
-abbrev numbered : PoolId → ℕ → ℕ → Done → Bool
-numbered p u k d = is_held p u d && is_number d.at.station k
-
-none_below : (p : PoolId) (u : ℕ) (h : List Done) → count_by (below p u 0) h ≡ 0
-none_below p u [] = refl
-none_below p u (d ∷ h) = rw (sum_by-cons, none_below p u h) (zero_one (is_held p u d) d.at.station)
-  where
-    zero_one : (b : Bool) (st : Option ℕ) → one (b && lower st 0) + 0 ≡ 0
-    zero_one b st = grind (arith, nat_tests)
-
-few_below : (p : PoolId) (u n : ℕ) (h : List Done) → ((k : ℕ) → count_by (numbered p u k) h ≤ 1)
-    → count_by (below p u n) h ≤ n
-few_below p u zero h each = let e = none_below p u h in omega arith
-few_below p u (suc n) h each =
-    let a : count_by (below p u n) h ≤ n = few_below p u n h each in
-    let b : count_by (numbered p u n) h ≤ 1 = each n in
-    let e = split_count (is_held p u) (λ d. d.at.station) n h in
-    omega arith
-
-less_below : (p : PoolId) (u n m : ℕ) (h : List Done) → ((k : ℕ) → count_by (numbered p u k) h ≤ 1) → m < n
-    → count_by (numbered p u m) h ≡ 0 → count_by (below p u n) h < n
-less_below p u zero m h each l none = absurd (omega arith)
-less_below p u (suc n) m h each l none =
-    let e = split_count (is_held p u) (λ d. d.at.station) n h in
-    elim (cases_order m n) [
-      | inl same ↦
-          let a : count_by (below p u n) h ≤ n = few_below p u n h each in
-          let z : count_by (numbered p u n) h ≡ 0 = rw same at none in
-          omega arith
-      | inr (inl less) ↦
-          let a : count_by (below p u n) h < n = less_below p u n m h each less none in
-          let b : count_by (numbered p u n) h ≤ 1 = each n in
-          omega arith
-      | inr (inr more) ↦ absurd (omega arith)
-    ]
-
-none_counted : (q : Done → Bool) (h : List Done) → list_all (λ d. not (q d)) h ≡ true → count_by q h ≡ 0
-none_counted q [] e = refl
-none_counted q (d ∷ h) e =
-    let two = and_parts (not (q d)) (list_all (λ d. not (q d)) h) e in
-    rw (sum_by-cons, none_counted q h two.1) (zero_of (q d) two.0)
-  where
-    zero_of : (b : Bool) → not b ≡ true → one b + 0 ≡ 0
-    zero_of b e = grind (arith, nat_tests)
-
-free_one : (a b c : Bool) → (a ≡ false → b ≡ false) → not (a && c) ≡ true → not (b && c) ≡ true
-free_one a b c f e = grind (arith, nat_tests)
-
-free_later : (p : PoolId) (t u k : ℕ) (h : List Done) → t ≤ u → is_free p h t k ≡ true → is_free p h u k ≡ true
-free_later p t u k [] l e = refl
-free_later p t u k (d ∷ h) l e =
-    let two = and_parts (not (is_held p t d && is_number d.at.station k)) (is_free p h t k) e in
-    rw (
-      free_one (is_held p t d) (is_held p u d) (is_number d.at.station k) (held_later p t u d l) two.0,
-      free_later p t u k h l two.1,
-    ) refl
-
-number_same : (station : Option ℕ) (n k : ℕ) → station ≡ Some n → is_number station k ≡ true → n ≡ k
-number_same station n k e f = grind (arith, nat_tests)
-
--- the number that a step takes is free of older ones, and is one of the pool's
-taken_free : (older : List Done) (pool : Option PoolId) (station : Option ℕ) (issue k : ℕ) (p : PoolId)
-    → is_in p pool ≡ true → is_number station k ≡ true → MatchOption pool (station ≡ None)
-    (λ p. (n : ℕ) × (station ≡ Some n) × IsLeast (is_free p older issue) n) → is_free p older issue k ≡ true
-taken_free older None station issue k p e f is = absurd (cc)
-taken_free older (Some q) station issue k p e f is = rw (same_pool q p e, number_same station is.0 k is.1 f) at is.2.0
-
-taken_low : (config : Configuration) (older : List Done) (pool : Option PoolId) (station : Option ℕ) (issue : ℕ)
-    (p : PoolId) → is_in p pool ≡ true → has_station config older pool issue ≡ true → MatchOption pool (station ≡ None)
-    (λ p. (n : ℕ) × (station ≡ Some n) × IsLeast (is_free p older issue) n)
-    → lower station (stations_of config p) ≡ true
-taken_low config older None station issue p e has is = absurd (cc)
-taken_low config older (Some q) station issue p e has is =
-    let found = number_is config older q issue has in
-    let same : is.0 ≡ least (is_free q older issue) (stations_of config q) = least_same (is_free q older issue) _ _ is.2
-    found.0 in
-    let f : stations_of config q ≡ stations_of config p = ap (stations_of config) (same_pool q p e) in
-    let s : station ≡ Some is.0 = is.1 in
-    rw (s, lt-ltb is.0 (stations_of config p) (omega arith)) refl
-
-one_each : (config : Configuration) (p : PoolId) (u k : ℕ) (h : List Done) → AreTimed config h → AreIssuedBy u h
-    → count_by (numbered p u k) h ≤ 1
-one_each config p u k [] timed issued = omega arith
-one_each config p u k (d ∷ older) timed issued = elim (cases_Bool (numbered p u k d)) [
-  | inr e ↦
-      let a : count_by (numbered p u k) older ≤ 1 = one_each config p u k older timed.1 issued.1 in
-      rw (sum_by-cons, e) (omega arith)
-  | inl e ↦
-      let two = and_parts (is_held p u d) (is_number d.at.station k) e in
-      let three = and_parts (is_in p (step_pool d.step)) (nat_le u d.at.end) two.0 in
-      let free = taken_free older (step_pool d.step) d.at.station d.at.issue k p three.0 two.1 timed.0.station in
-      let a = none_counted (numbered p u k) older (free_later p d.at.issue u k older issued.0 free) in
-      rw (sum_by-cons, e) (omega arith)
-]
-
-all_below : (config : Configuration) (p : PoolId) (u : ℕ) (h : List Done) → AreTimed config h
-    → count_by (is_held p u) h ≤ count_by (below p u (stations_of config p)) h
-all_below config p u [] timed = omega arith
-all_below config p u (d ∷ older) timed =
-    let a = all_below config p u older timed.1 in
-    elim (cases_Bool (is_held p u d)) [
-      | inr e ↦ rw (sum_by-cons, sum_by-cons, e) (omega arith)
-      | inl e ↦
-          let has = issue_station config older d.step d.at.issue timed.0.issue.0 in
-          let f = taken_low config older (step_pool d.step) d.at.station d.at.issue p (and_parts (is_in p
-          (step_pool d.step)) (nat_le u d.at.end) e).0 has timed.0.station in
-          rw (sum_by-cons, sum_by-cons, e, f) (omega arith)
-    ]
+-- if a number of the pool is free, fewer stations are held than there are
+pub last_by : (t : ℕ) (h : List Done) → AreIssuedBy t h → last_issue h ≤ t
+last_by t [] issued = omega arith
+last_by t (d ∷ older) issued = issued.0
 
 -- if a number of the pool is free, fewer stations are held than there are
 pub room : (config : Configuration) (p : PoolId) (u n : ℕ) (h : List Done) → AreTimed config h → AreIssuedBy u h
     → n < stations_of config p → is_free p h u n ≡ true → count_by (is_held p u) h < stations_of config p
-room config p u n h timed issued l free =
-    let a : count_by (is_held p u) h ≤ count_by (below p u (stations_of config p)) h = all_below config p u h timed in
-    let b : count_by (below p u (stations_of config p)) h < stations_of config p = less_below p u (stations_of config p)
-    n h (λ k. one_each config p u k h timed issued) l (none_counted (numbered p u n) h free) in
-    omega arith
+room config p u n h timed issued l free = stations_fit config h p u n (stations_of config p) timed (last_by u h issued)
+    free l (peak_within config h (Stations p) timed)
 
 -- A number is free exactly if its place is empty.
-
-still : (t u end : ℕ) → u ≡ t + 1 → nat_le u end ≡ nat_lt t end
-still t u end e = grind (arith, nat_tests)
-
-swap_and : (a b c : Bool) → ((a && b) && c) ≡ ((a && c) && b)
-swap_and a b c = grind (arith, nat_tests)
-
-holds_is : (p : PoolId) (t u n : ℕ) (d : Done) → u ≡ t + 1 → n < 16 → ((m : ℕ) → d.at.station ≡ Some m → m < 16)
-    → (is_held p u d && is_number d.at.station n) ≡ holds_place t (16 * place_of_pool p + n) d
-holds_is p t u n d e l low = rw (same_place p n (step_pool d.step) d.at.station l low, still t u d.at.end e)
-    (swap_and (is_in p (step_pool d.step)) (nat_lt t d.at.end) (is_number d.at.station n))
 
 pub free_is : (i : Loaded) (p : PoolId) (t u n : ℕ) (h : List Done) → u ≡ t + 1 → n < 16 → AreLow h
     → is_free p h u n ≡ is_none (station_at i (clocks u u t) h (16 * place_of_pool p + n))

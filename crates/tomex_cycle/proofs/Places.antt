@@ -1,13 +1,13 @@
 -- What is known of the steps that have issued by a cycle is known of the older ones, and by later cycles.
+use Rattle.tomex_timing.proofs.Holders.{number_low, stations_apart}
 use Rattle.tomex_cycle.proofs.Words.{Loaded, Configuration, Done, AreIssuedBy, IsUpTo, nat_lt, nat_le, ◌&&◌, ◌==◌, not}
-use Rattle.tomex_cycle.proofs.Words.{MatchOption, ⊤, list_all, cases_Bool, nat_tests, ltb-true, le-leb, and_parts}
-use Rattle.tomex_cycle.proofs.Words.{eqb-true, eq-eqb, and_right, IsWithinLimits, stations_of, PoolId, place_of_pool}
-use Rattle.tomex_cycle.proofs.Words.{is_in, is_number, step_pool, IsLeast, least, has_station, is_free, is_held, tag_at}
-use Rattle.tomex_cycle.proofs.Words.{least_same, stations_high, issue_station, number_is, Clocks, holds_place, place_of}
-use Rattle.tomex_cycle.proofs.Words.{station_at, station_of, place_at, IsTimed, is_some, Pools, ShowsStations}
-use Rattle.tomex_cycle.proofs.Words.{issue_number_at, slice_index, slot, ℕ, ◌≤◌, arith, List, [], ◌∷◌, ◌++◌, ◌+◌, ◌*◌}
-use Rattle.tomex_cycle.proofs.Words.{◌<◌, ◌≡◌, ◌∙◌, Bool, true, false, refl, Option, Some, None, sym, inl, inr, ap}
-use Rattle.tomex_cycle.proofs.Words.{length}
+use Rattle.tomex_cycle.proofs.Words.{MatchOption, ⊤, list_all, cases_Bool, nat_tests, ltb-true, and_parts, eqb-true}
+use Rattle.tomex_cycle.proofs.Words.{eq-eqb, and_right, IsWithinLimits, stations_of, PoolId, place_of_pool, is_in}
+use Rattle.tomex_cycle.proofs.Words.{is_number, step_pool, IsLeast, is_free, is_held, tag_at, stations_high, Clocks}
+use Rattle.tomex_cycle.proofs.Words.{holds_place, place_of, station_at, station_of, place_at, IsTimed, is_some, Pools}
+use Rattle.tomex_cycle.proofs.Words.{ShowsStations, issue_number_at, slice_index, slot, ℕ, ◌≤◌, arith, List, [], ◌∷◌}
+use Rattle.tomex_cycle.proofs.Words.{◌++◌, ◌+◌, ◌*◌, ◌<◌, ◌≡◌, ◌∙◌, Bool, true, false, refl, Option, Some, None, sym}
+use Rattle.tomex_cycle.proofs.Words.{inl, inr, ap, length}
 use Rattle.tomex_cycle.proofs.Truth.{some_not_none}
 
 pub older_up_to : {i : Loaded} {config : Configuration} {t : ℕ} {d : Done} {older : List Done}
@@ -53,25 +53,21 @@ abbrev pub AreLow : List Done → Type 0
 AreLow [] = ⊤
 AreLow (d ∷ older) = IsLow d × AreLow older
 
-station_low : {config : Configuration} (older : List Done) (pool : Option PoolId) (station : Option ℕ) (issue : ℕ)
-    → IsWithinLimits config → has_station config older pool issue ≡ true → MatchOption pool (station ≡ None)
-    (λ p. (n : ℕ) × (station ≡ Some n) × IsLeast (is_free p older issue) n) → (n : ℕ) → station ≡ Some n → n < 16
-station_low older None station issue good has is n e = let f : station ≡ None = is in absurd (cc)
-station_low {config} older (Some p) station issue good has is n e =
-    let found = number_is config older p issue has in
-    let same : is.0 ≡ least (is_free p older issue) (stations_of config p) = least_same (is_free p older issue) _ _ is.2
-    found.0 in
-    let g : n ≡ is.0 = cc in
-    let m : stations_of config p ≤ 16 = stations_high config p good in
-    omega arith
+station_low : {config : Configuration} (d : Done) {older : List Done} → IsWithinLimits config
+    → IsTimed config older d.step d.at → IsLow d
+station_low {config} d {older} good timed n e = of (step_pool d.step) refl timed.station
+  where
+    of : (o : Option PoolId) → step_pool d.step ≡ o → MatchOption o (d.at.station ≡ None)
+        (λ p. (m : ℕ) × (d.at.station ≡ Some m) × IsLeast (is_free p older d.at.issue) m) → n < 16
+    of None f is = let none : d.at.station ≡ None = is in absurd (cc)
+    of (Some p) f is =
+        let l : n < stations_of config p = number_low config d older p n timed f e in
+        let most : stations_of config p ≤ 16 = stations_high config p good in
+        omega arith
 
 pub low : {i : Loaded} {config : Configuration} {t : ℕ} (h : List Done) → IsUpTo i config t h → AreLow h
 low [] up = tt
-low {config = config} (d ∷ older) up = (
-  station_low older (step_pool d.step) d.at.station d.at.issue up.lawful
-      (issue_station config older d.step d.at.issue up.timed.0.issue.0) up.timed.0.station,
-  low older (older_up_to up),
-)
+low (d ∷ older) up = (station_low d up.lawful up.timed.0, low older (older_up_to up))
 
 pub pool_low : (p : PoolId) → place_of_pool p < 6
 pool_low p = grind (arith, nat_tests)
@@ -84,54 +80,45 @@ place_low pool station x h3 h4 = grind (arith, nat_tests)
 abbrev pub is_vacant : ℕ → ℕ → List Done → Bool
 is_vacant end x h = list_all (λ e. not (holds_place end x e)) h
 
-held_same : (p q : PoolId) (m n x issue end : ℕ) → m < 16 → n < 16 → 16 * place_of_pool p + m ≡ x
-    → 16 * place_of_pool q + n ≡ x → issue ≤ end
-    → (((place_of_pool q == place_of_pool p) && nat_le issue end) && (n == m)) ≡ true
-held_same p q m n x issue end lm ln a b l =
-    rw (eq-eqb (place_of_pool q) (place_of_pool p) (omega arith), eq-eqb n m (omega arith), le-leb issue end l) refl
+same_tag : (p q : PoolId) (m n : ℕ) → m < 16 → n < 16
+    → (16 * place_of_pool q + n == 16 * place_of_pool p + m) ≡ ((place_of_pool q == place_of_pool p) && (n == m))
+same_tag p q m n a b = grind (arith, nat_tests)
 
-held_with : (pool : Option PoolId) (station : Option ℕ) (p q : PoolId) (m n issue end : ℕ) → pool ≡ Some q
-    → station ≡ Some m → (((place_of_pool q == place_of_pool p) && nat_le issue end) && (m == n)) ≡ true
-    → ((is_in p pool && nat_le issue end) && is_number station n) ≡ true
-held_with pool station p q m n issue end e f h = rw (e, f) h
+pub same_place : (p : PoolId) (m : ℕ) (pool : Option PoolId) (station : Option ℕ) → m < 16
+    → ((n : ℕ) → station ≡ Some n → n < 16) → is_number (place_at (tag_at pool station)) (16 * place_of_pool p + m)
+    ≡ (is_in p pool && is_number station m)
+same_place p m None station a b = refl
+same_place p m (Some q) None a b = sym (and_right (place_of_pool q == place_of_pool p) false refl)
+same_place p m (Some q) (Some n) a b = same_tag p q m n a (b n refl)
 
--- what is free for a step that issues isn't held by an older one
-vacant_one : (p : PoolId) (n x issue end : ℕ) (e : Done) → IsLow e → n < 16 → 16 * place_of_pool p + n ≡ x
-    → issue ≤ end + 1 → not (is_held p issue e && is_number e.at.station n) ≡ true → not (holds_place end x e) ≡ true
-vacant_one p n x issue end e few small sum l free = elim (cases_Bool (holds_place end x e)) [
-  | inr h ↦ rw h refl
-  | inl h ↦
-      let two = and_parts (is_number (place_of e) x) (nat_lt end e.at.end) h in
-      let late : end < e.at.end = ltb-true _ _ two.1 in
-      let at : IsPlace (step_pool e.step) e.at.station x = place_parts (step_pool e.step) e.at.station x two.0 in
-      let less : at.n < 16 = few at.n at.station_is in
-      let held = held_same p at.p n at.n x issue e.at.end small less sum at.sum (omega arith) in
-      let f = held_with (step_pool e.step) e.at.station p at.p at.n n issue e.at.end at.pool_is at.station_is held in
-      let g : not true ≡ true = rw f at free in
-      absurd (cc)
-]
+-- a number of a pool is held as its place is
+pub holds_is : (p : PoolId) (t u n : ℕ) (d : Done) → u ≡ t + 1 → n < 16 → IsLow d
+    → (is_held p u d && is_number d.at.station n) ≡ holds_place t (16 * place_of_pool p + n) d
+holds_is p t u n d e l low = rw (same_place p n (step_pool d.step) d.at.station l low, still t u d.at.end e)
+    (swap_and (is_in p (step_pool d.step)) (nat_lt t d.at.end) (is_number d.at.station n))
+  where
+    still : (t u end : ℕ) → u ≡ t + 1 → nat_le u end ≡ nat_lt t end
+    still t u end e = grind (arith, nat_tests)
 
-vacant_all : (p : PoolId) (n x issue end : ℕ) (h : List Done) → AreLow h → n < 16 → 16 * place_of_pool p + n ≡ x
-    → issue ≤ end + 1 → is_free p h issue n ≡ true → is_vacant end x h ≡ true
-vacant_all p n x issue end [] few small sum l free = refl
-vacant_all p n x issue end (e ∷ h) few small sum l free =
-    let two = and_parts (not (is_held p issue e && is_number e.at.station n)) (is_free p h issue n) free in
-    rw (vacant_one p n x issue end e few.0 small sum l two.0, vacant_all p n x issue end h few.1 small sum l two.1) refl
+    swap_and : (a b c : Bool) → ((a && b) && c) ≡ ((a && c) && b)
+    swap_and a b c = grind (arith, nat_tests)
 
-free_here : (older : List Done) (pool : Option PoolId) (station : Option ℕ) (issue n : ℕ) (p : PoolId) → pool ≡ Some p
-    → station ≡ Some n → MatchOption pool (station ≡ None)
-    (λ p. (n : ℕ) × (station ≡ Some n) × IsLeast (is_free p older issue) n) → is_free p older issue n ≡ true
-free_here older pool station issue n p h6 h7 h8 = grind (arith, nat_tests)
+vacant_all : (p : PoolId) (n end : ℕ) (h : List Done) → AreLow h → n < 16
+    → is_free p h (end + 1) n ≡ is_vacant end (16 * place_of_pool p + n) h
+vacant_all p n end [] few small = refl
+vacant_all p n end (e ∷ h) few small =
+    rw (holds_is p end (end + 1) n e refl small few.0, vacant_all p n end h few.1 small) refl
 
 -- a step's place is vacant of older ones as long as it is the step's
 pub vacant : {i : Loaded} {config : Configuration} {s : ℕ} (d : Done) (older : List Done) (end x : ℕ)
     → IsUpTo i config s (d ∷ older) → s ≤ end + 1 → is_number (place_of d) x ≡ true → is_vacant end x older ≡ true
-vacant {s = s} d older end x up l e =
+vacant {config = config} {s} d older end x up l e =
     let issued : d.at.issue ≤ s = up.issued.0 in
     let at : IsPlace (step_pool d.step) d.at.station x = place_parts (step_pool d.step) d.at.station x e in
     let all = low (d ∷ older) up in
-    vacant_all at.p at.n x d.at.issue end older all.1 (all.0 at.n at.station_is) at.sum (omega arith) (free_here older
-    (step_pool d.step) d.at.station d.at.issue at.n at.p at.pool_is at.station_is up.timed.0.station)
+    let free =
+    stations_apart config d older at.p at.n (end + 1) up.timed.0 at.pool_is at.station_is (omega arith) in
+    rw at.sum at (sym (vacant_all at.p at.n end older all.1 (all.0 at.n at.station_is)) ∙ free)
 
 pub vacant_none : (i : Loaded) (c : Clocks) (h : List Done) (x : ℕ) → is_vacant c.end x h ≡ true
     → station_at i c h x ≡ None
@@ -178,19 +165,6 @@ place_there {config} d {older} timed l = grind (arith, nat_tests)
 -- the least number that passes is this one
 pub least_test : (p : ℕ → Bool) (a u : ℕ) → IsLeast p a → u ≤ a → p u ≡ (a == u)
 least_test p a u l le = grind (arith, nat_tests)
-
--- Tables.
-
-same_tag : (p q : PoolId) (m n : ℕ) → m < 16 → n < 16
-    → (16 * place_of_pool q + n == 16 * place_of_pool p + m) ≡ ((place_of_pool q == place_of_pool p) && (n == m))
-same_tag p q m n a b = grind (arith, nat_tests)
-
-pub same_place : (p : PoolId) (m : ℕ) (pool : Option PoolId) (station : Option ℕ) → m < 16
-    → ((n : ℕ) → station ≡ Some n → n < 16) → is_number (place_at (tag_at pool station)) (16 * place_of_pool p + m)
-    ≡ (is_in p pool && is_number station m)
-same_place p m None station a b = refl
-same_place p m (Some q) None a b = sym (and_right (place_of_pool q == place_of_pool p) false refl)
-same_place p m (Some q) (Some n) a b = same_tag p q m n a (b n refl)
 
 pub turn_and : (a b c : Bool) → ((true && a) && b && c) ≡ ((b && c) && a)
 turn_and a b c = grind (arith, nat_tests)

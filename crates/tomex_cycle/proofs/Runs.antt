@@ -1,4 +1,5 @@
 -- The history of a run's beginning, as laws of the run and of the recurrence give it.
+use Rattle.tomex_timing.proofs.Orders.{start_later}
 use Rattle.tomex_cycle.proofs.Words.{⊤, IsSome, cases_order, Loaded, nat_tests, Configuration, IsWithinLimits, EndKind}
 use Rattle.tomex_cycle.proofs.Words.{Step, IsAllowed, end_of, step_after, step_joins, step_follows, step_goes_on}
 use Rattle.tomex_cycle.proofs.Words.{step_ends_it, Done, last_issue, AreTimed, can_issue, times_of, times_are}
@@ -201,7 +202,7 @@ can_start_then {config} d {older} timed some =
 -- so it starts after its issue
 pub starts_after : {config : Configuration} (d : Done) {older : List Done} → IsTimed config older d.step d.at
     → is_some (step_unit d.step) ≡ true → d.at.issue < d.at.start
-starts_after d timed some = (can_start_then d timed some).1.after_issue
+starts_after {config} d {older} timed some = (start_later config d older timed some).0
 
 pub store_unit : (x : Step) → is_store x ≡ true → is_some (step_unit x) ≡ true
 store_unit x e = unit_with_pool x ∙ pool_in (step_pool x) pools.Store e

@@ -1,4 +1,5 @@
 -- Memory after the stores that start in a cycle.
+use Rattle.tomex_timing.proofs.Orders.{conflict_at}
 use Rattle.tomex_cycle.proofs.Words.{nat_lt, nat_le, if◌then◌else◌, ◌&&◌, ◌==◌, not, is_some, cases_Bool, nat_tests}
 use Rattle.tomex_cycle.proofs.Words.{ltb-true, lt-ltb, le-leb, lt-leb, and_parts, or_left, eqb-true, eqb-false, ne_eqb}
 use Rattle.tomex_cycle.proofs.Words.{Loaded, Configuration, Step, covers, overwrites, stored_byte, is_number, is_store}
@@ -11,7 +12,7 @@ use Rattle.tomex_cycle.proofs.Words.{place_of_unit, UnitId, and_right, none_in, 
 use Rattle.tomex_cycle.proofs.Words.{◌≡◌, ◌∙◌, Bool, true, false, arith, refl, List, [], ◌∷◌, Option, Some, None, ap}
 use Rattle.tomex_cycle.proofs.Words.{sym, inl, inr, length, subst, slice_index}
 use Rattle.tomex_cycle.proofs.Places.{low, place_low, is_vacant, vacant, busy_at, older_up_to}
-use Rattle.tomex_cycle.proofs.StartsMade.{conflict_at, starts_clear, step_is, begins_at, inside_is, some_is}
+use Rattle.tomex_cycle.proofs.StartsMade.{starts_clear, step_is, begins_at, inside_is, some_is}
 use Rattle.tomex_cycle.proofs.StartsPicked.{starts_at, starts_in, starting_is, five}
 use Rattle.tomex_cycle.proofs.Runs.{reach, store_unit}
 use Rattle.tomex_cycle.proofs.Truth.{or_cases}

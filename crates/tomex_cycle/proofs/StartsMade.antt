@@ -1,4 +1,5 @@
 -- In the cycle in which it starts an access finds in memory the bytes that the run has before it.
+use Rattle.tomex_timing.proofs.Orders.{conflict_at, start_clear}
 use Rattle.tomex_cycle.proofs.Words.{nat_lt, not, is_some, MatchOption, cases_Bool, ltb-true, nat_tests, lt-leb, le-leb}
 use Rattle.tomex_cycle.proofs.Words.{and_parts, or_right, or_left, Loaded, Configuration, IsWithinLimits, UnitId}
 use Rattle.tomex_cycle.proofs.Words.{ByteRange, Step, covers, overwrites, byte_after, bytes_of, is_store, step_pool}
@@ -10,32 +11,21 @@ use Rattle.tomex_cycle.proofs.Words.{unread_k, source_end, field_of, producer, A
 use Rattle.tomex_cycle.proofs.Words.{ShowsMemory, clocks, holds_place, station_at, station_of, step_in, is_there}
 use Rattle.tomex_cycle.proofs.Words.{value_in, Station, lt-ltb, ℕ, ◌+◌, ◌<◌, ◌≤◌, ◌≡◌, ◌∙◌, true, arith, refl, List, []}
 use Rattle.tomex_cycle.proofs.Words.{◌∷◌, ◌++◌, Option, Some, None, inl, inr, length, append_assoc, ◌-◌, false, ap, sym}
-use Rattle.tomex_cycle.proofs.Words.{shares_byte, end_at, same_result}
+use Rattle.tomex_cycle.proofs.Words.{end_at, same_result}
 use Rattle.tomex_steps.specs.Results.{is_among}
-use Rattle.tomex_cycle.proofs.Runs.{reach, can_start_then, start_least, store_unit}
+use Rattle.tomex_cycle.proofs.Runs.{reach, can_start_then, store_unit}
 use Rattle.tomex_cycle.proofs.Places.{older_up_to, part_up_to}
 use Rattle.tomex_cycle.specs.Starts.{finish_from}
 use Rattle.tomex_cycle.proofs.Fields.{there_test}
 use Rattle.tomex_cycle.proofs.StartsBegun.{inside_as}
 use Rattle.tomex_cycle.proofs.StartsPicked.{there_value, starts_at, starts_in}
-use Rattle.tomex_cycle.proofs.Truth.{some_of}
 use Rattle.tomex_rvdec.specs.declared.pool.PoolId.TheVariants as pools
 use Rattle.tomex_rvdec.specs.declared.op.Op.TheVariants as ops
-
-share_from : (x y : Option ByteRange) (a : ℕ) → is_among x a ≡ true → is_among y a ≡ true → shares_byte x y ≡ true
-share_from x y a h3 h4 = grind (arith, nat_tests)
-
--- a store and what shares a byte with it
-pub conflict_at : (x y : Step) (a : ℕ) → covers x a ≡ true → covers y a ≡ true → (is_store x || is_store y) ≡ true
-    → conflicts x y ≡ true
-conflict_at x y a e f s = rw (share_from (bytes_of x) (bytes_of y) a e f, s) refl
 
 -- what starts waits for each older access to its bytes
 pub starts_clear : {config : Configuration} (d : Done) {older : List Done} → IsTimed config older d.step d.at
     → is_some (step_unit d.step) ≡ true → are_conflicts_finished older d.step d.at.start ≡ true
-starts_clear d {older} timed some =
-    let (u, e) = some_of (step_unit d.step) some in
-    (and_parts _ (are_conflicts_finished older d.step d.at.start) (and_parts _ _ (start_least d u timed e).0).0).1
+starts_clear {config} d {older} timed some = start_clear config d older timed some
 
 finished_one : (d e : Done) (a : ℕ) → covers e.step a ≡ true → covers d.step a ≡ true
     → (is_store e.step || is_store d.step) ≡ true
