@@ -10,11 +10,11 @@ use Rattle.tomex_cycle.proofs.Words.{get_or-set_same, get_or-set_other, length-s
 use Rattle.tomex_cycle.proofs.Words.{order_of, station_at, option_map, lacks_address, Pools, AreBusy, IsInIssueOrder}
 use Rattle.tomex_cycle.proofs.Words.{slot, ℕ, ◌+◌, ◌<◌, ◌≤◌, ◌≡◌, Bool, true, false, arith, refl, List, [], ◌∷◌, Option}
 use Rattle.tomex_cycle.proofs.Words.{Some, None, ap, inl, inr, ◌∙◌, sym, length, slice_index_or, slice_set, ◌++◌}
-use Rattle.tomex_cycle.proofs.Words.{slice_index}
+use Rattle.tomex_cycle.proofs.Words.{slice_index, least_test}
 use Rattle.tomex_cycle.proofs.Truth.{some_not_none}
 use Rattle.tomex_cycle.proofs.Fields.{there_test}
-use Rattle.tomex_cycle.proofs.Places.{is_vacant, least_test, busy_at, older_up_to, AreLow, IsLow, low, place_low}
-use Rattle.tomex_cycle.proofs.Places.{vacant, held_place, ShowsPart, shows_part, held_here, older_shown}
+use Rattle.tomex_cycle.proofs.Places.{is_vacant, busy_at, older_up_to, AreLow, IsLow, low, place_low, vacant}
+use Rattle.tomex_cycle.proofs.Places.{held_place, ShowsPart, shows_part, held_here, older_shown}
 use Rattle.tomex_cycle.proofs.Runs.{reach}
 use Rattle.tomex_cycle.proofs.IssueOrder.{first_waiting, next_address, where_base_is_there}
 use Rattle.tomex_cycle.proofs.Orders.{order_is}

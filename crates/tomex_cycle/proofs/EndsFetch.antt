@@ -1,27 +1,26 @@
 -- A branch that is done in the cycle is the youngest step, and its station gives the next pc.
+use Rattle.tomex_cycle.proofs.IssuesTest.{finished_from}
+use Rattle.tomex_cycle.proofs.EndsLoops.{all_applied, ended_below, first_applied, hears_none, ends_same}
 use Rattle.tomex_cycle.proofs.Words.{nat_lt, nat_le, if◌then◌else◌, ◌&&◌, ◌==◌, not, is_some, cases_Bool, nat_tests}
 use Rattle.tomex_cycle.proofs.Words.{ltb-true, lt-ltb, le-ltb, and_parts, eqb-true, eqb-false, Loaded, Configuration}
 use Rattle.tomex_cycle.proofs.Words.{PoolId, unit_with_pool, unread_j, unread_k, EndKind, Operand, Step, end_of}
 use Rattle.tomex_cycle.proofs.Words.{next_pc_of, is_branch, is_in, is_number, j_of, k_of, operand, step_pool, step_unit}
 use Rattle.tomex_cycle.proofs.Words.{step_dest, Done, source_end, writer_end, IsTimed, are_branches_finished, field_of}
 use Rattle.tomex_cycle.proofs.Words.{producer, tag_at, tag_of, Fetch, MakesEnds, steps_in, clocks, fetch_after}
-use Rattle.tomex_cycle.proofs.Words.{fetch_of, holds_place, place_of, sent_at, station_at, station_of, ShowsRegisters}
+use Rattle.tomex_cycle.proofs.Words.{fetch_of, holds_place, sent_at, station_at, station_of, ShowsRegisters}
 use Rattle.tomex_cycle.proofs.Words.{ShowsStations, EndsIn, Hears, IsDoneBranch, finishes, sent_below, AreEnding}
 use Rattle.tomex_cycle.proofs.Words.{AreNamed, step_in, value_in, place_at, place_of_tag, Pools, AreBusy, RegStatus}
 use Rattle.tomex_cycle.proofs.Words.{Station, has, AreLow, dest_of, Tag, Front, front, ◌||◌, IsUpTo, eq-eqb, slot}
-use Rattle.tomex_cycle.proofs.Words.{and_right, field_from, Field, Value, Unread, none_in, AreDone, after_ends}
-use Rattle.tomex_cycle.proofs.Words.{sends_of, IsTimetableOf, LeavesTimetable, Finishes, hears, field_after}
-use Rattle.tomex_cycle.proofs.Words.{value_or_tag, ℕ, ◌+◌, ◌<◌, ◌≤◌, ◌≡◌, ◌∙◌, Bool, true, false, arith, refl, List, []}
-use Rattle.tomex_cycle.proofs.Words.{◌∷◌, Option, Some, None, ap, sym, inl, inr, ◌⊎◌, slice_index_or, IsSome, length}
-use Rattle.tomex_cycle.proofs.Words.{slice_index, option_map, after_branch, target_in}
-use Rattle.tomex_cycle.proofs.Places.{AreLow as AreLowNumbers, low, held_place, number_is_some, place_there, ShowsPart}
-use Rattle.tomex_cycle.proofs.Places.{shows_part, held_here, older_shown, older_up_to}
+use Rattle.tomex_cycle.proofs.Words.{none_in, AreDone, IsTimetableOf, LeavesTimetable, Finishes, ℕ, ◌+◌, ◌<◌, ◌≤◌, ◌≡◌}
+use Rattle.tomex_cycle.proofs.Words.{◌∙◌, Bool, true, false, arith, refl, List, [], ◌∷◌, Option, Some, None, ap, sym}
+use Rattle.tomex_cycle.proofs.Words.{inl, inr, ◌⊎◌, slice_index_or, IsSome, length, slice_index, after_branch}
+use Rattle.tomex_cycle.proofs.Words.{target_in}
+use Rattle.tomex_cycle.proofs.Places.{AreLow as AreLowNumbers, low, held_place, number_is_some, ShowsPart, shows_part}
+use Rattle.tomex_cycle.proofs.Places.{held_here, older_shown, older_up_to, busy_by}
 use Rattle.tomex_rvexec.specs.History.{Follows as Reads}
 use Rattle.tomex_cycle.specs.Ends.{Follows}
-use Rattle.tomex_cycle.proofs.Addresses.{some_none_of}
-use Rattle.tomex_cycle.proofs.EndsLoops.{ends_same}
-use Rattle.tomex_cycle.proofs.EndsState.{ends_in, option_cases, ending_is, j_cases, k_cases, later, registers_at}
-use Rattle.tomex_cycle.proofs.EndsState.{sent_all, stations_at}
+use Rattle.tomex_cycle.proofs.EndsState.{ends_in, ending_is, j_cases, k_cases, later, registers_at, sent_all}
+use Rattle.tomex_cycle.proofs.EndsState.{stations_at}
 use Rattle.tomex_cycle.proofs.Runs.{reach, can_start_then, starts_after}
 use Rattle.tomex_cycle.proofs.StartsDone.{low_of}
 use Rattle.tomex_cycle.proofs.Truth.{or_cases, pool_in}
@@ -43,9 +42,8 @@ pool_IsSome : (pool : Option PoolId) → is_in pools.Bru pool ≡ true → IsSom
 pool_IsSome None e = absurd (cc)
 pool_IsSome (Some p) e = refl
 
--- when a station's unit is done
-finish_from : (u start finish : ℕ) → is_number (if nat_le start u then Some finish else None) u ≡ true → finish ≡ u
-finish_from u start finish e = grind (arith, nat_tests)
+pub done_in : (c start finish v : ℕ) → is_number (if nat_le start c then Some finish else None) v ≡ true → finish ≡ v
+done_in c start finish v e = grind (arith, nat_tests)
 
 finish_is : (u start finish : ℕ) → start ≤ finish
     → is_number (if nat_le start u then Some finish else None) u ≡ (finish == u)
@@ -61,17 +59,12 @@ no_older i t u v x (d ∷ older) few all l high e =
       | inr free ↦ no_older i t u v x older few.1 two.1 l high (rw free at e)
       | inl held ↦
           let here : finishes u (Some (station_of i (clocks u u t) d older)) ≡ true = rw held at e in
-          let end : d.at.finish ≡ u = finish_from u d.at.start d.at.finish here in
+          let end : d.at.finish ≡ u = done_in u d.at.start d.at.finish u here in
           let branch = branch_from (step_pool d.step) d.at.station x few.0 (held_place t x d held) high in
           let f : (not true || nat_lt d.at.finish v) ≡ true = rw branch at two.0 in
           let k : d.at.finish < v = ltb-true d.at.finish v f in
           absurd (omega arith)
     ]
-
-can_issue_branches : {config : Configuration} (d : Done) {older : List Done} → IsTimed config older d.step d.at
-    → are_branches_finished older d.at.issue ≡ true
-can_issue_branches d {older} timed =
-    (and_parts _ (are_branches_finished older d.at.issue) (and_parts _ _ timed.issue.0).0).1
 
 -- The step of a station that has started.
 
@@ -121,32 +114,23 @@ waits_for {i} {config} {t} {u} d older {st} None up e shown branch late done =
     let order : d.at.start ≤ d.at.finish = r.order in
     let unit = unit_with_pool d.step ∙ pool_in (step_pool d.step) pools.Bru branch in
     let begins : d.at.issue < d.at.start = starts_after d up.timed.0 unit in
-    elim (option_cases (place_of d)) [
-      | inl none ↦ absurd (some_none_of 0 (place_of d) (place_there d up.timed.0 (omega arith)) none)
-      | inr place ↦
-          let held : holds_place t place.0 d ≡ true = rw (
-            place.1,
-            lt-ltb t d.at.end (omega arith),
-            eq-eqb place.0
-                place.0 refl,
-          ) refl in
-          let there = held_here (shows_part up (omega arith) shown) place.0 held in
-          let not_yet = done place.0 (place_high (step_pool d.step) d.at.station place.0 branch place.1) there.small in
-          let here : is_number (if nat_le d.at.start u then Some d.at.finish else None) u ≡ false =
-          rw there.slot at not_yet in
-          let other = eqb-false d.at.finish u (sym (finish_is u d.at.start d.at.finish order) ∙ here) in
-          rw (branch, lt-ltb u d.at.finish (later t u d.at.finish e late other)) refl
-    ]
-waits_for {i} {t = t} {u} d older {st} (Some x) up e shown branch late done =
+    let (x, place, held) = busy_by t d up.timed.0 (omega arith) (lt-ltb t d.at.end (omega arith)) in
+    let there = held_here (shows_part up (omega arith) shown) x held in
+    let not_yet = done x (place_high (step_pool d.step) d.at.station x branch place) there.small in
+    let here : is_number (if nat_le d.at.start u then Some d.at.finish else None) u ≡ false =
+    rw there.slot at not_yet in
+    let other = eqb-false d.at.finish u (sym (finish_is u d.at.start d.at.finish order) ∙ here) in
+    rw (branch, lt-ltb u d.at.finish (later t u d.at.finish e late other)) refl
+waits_for {i} {config} {t} {u} d older {st} (Some x) up e shown branch late done =
     let issued : d.at.issue ≤ u = up.issued.0 in
     let fin : finishes u (station_at i (clocks u u t) (d ∷ older) x) ≡ true = ap (finishes u) (sym
     (shown.slots x done.1)) ∙ done.2 in
     elim (cases_Bool (holds_place t x d)) [
       | inr free ↦ absurd (no_older i t u d.at.issue x older (low older (older_up_to up))
-          (can_issue_branches d up.timed.0) issued done.0 (rw free at fin))
+          (finished_from config older d.step d.at.issue up.timed.0.issue.0) issued done.0 (rw free at fin))
       | inl held ↦
           let here : finishes u (Some (station_of i (clocks u u t) d older)) ≡ true = rw held at fin in
-          let end : d.at.finish ≡ u = finish_from u d.at.start d.at.finish here in
+          let end : d.at.finish ≡ u = done_in u d.at.start d.at.finish u here in
           let slot : slot st.slots x ≡ Some (station_of i (clocks u u t) d older) = shown.slots x done.1 ∙ rw held refl
           in
           let order : d.at.start ≤ d.at.finish = (reach d older up.lawful up.timed).order in
@@ -252,41 +236,13 @@ made_ends config {next} old picked ends filled follows made heard_ i h t e up s 
 
 -- Where nothing ends, nothing changes.
 
-heard_none : (sent : ℕ → Option ℕ) (f : Field) → ((y : ℕ) → sent y ≡ None) → f ≡ field_after sent f
-heard_none sent (Value v) none = refl
-heard_none sent Unread none = refl
-heard_none sent (Waits tag) none = sym (ap (λ (o : Option ℕ). value_or_tag o tag) (none (place_of_tag tag)))
-
-hears_none : (sent : ℕ → Option ℕ) (o : Option Station) → ((y : ℕ) → sent y ≡ None) → o ≡ option_map (hears sent) o
-hears_none sent o h2 = grind (arith, nat_tests)
-
-none_sent : (slots : List (Option Station)) (n y : ℕ) → sent_below slots 0 n y ≡ None
-none_sent slots n y = ap (λ b. if b then sends_of (slot slots y) else None)
-    (ap (λ b. nat_lt y n && b) (none_in y) ∙ and_right (nat_lt y n) false refl)
-
-none_ended : (old : Pools) → EndsIn (λ x. has 0 x) (sent_below old.slots 0 96) old old
-none_ended old count = record {
-  places = count;
-  slots = λ x l. sym (ap (λ b. after_ends b (sent_below old.slots 0 96) (slot old.slots x)) (none_in x)
-      ∙ sym (hears_none (sent_below old.slots 0 96) (slot old.slots x) (none_sent old.slots 96)));
-  issue_numbers = refl;
-}
-
-none_received : (slots : List (Option Station)) (registers : RegStatus)
-    → Hears (sent_below slots 0 96) registers registers
-none_received slots registers count status = record {
-  count = count;
-  status = status;
-  fields = λ r l. heard_none (sent_below slots 0 96)
-      (field_from (slice_index registers.values r) (slice_index_or registers.tags r None)) (none_sent slots 96);
-}
-
 pub ends_none : (config : Configuration) {next : ℕ} (ending : ℕ) (old : Front) {fetch : Fetch}
     → AreEnding old.pools config.buses next ending → AreBusy old.pools.slots old.pools.busy old.pools.issue_numbers
     → Follows next old.pools.slots old.fetch fetch → ending ≡ 0
     → MakesEnds config next old (front old.pools old.registers fetch)
 ends_none config ending old ends filled follows e = made_ends config old 0 (rw e at ends) filled follows
-    (λ low. none_ended old.pools) (λ count low named. none_received old.pools.slots old.registers)
+    (λ low count. ended_below (all_applied low (first_applied 0 old.pools old.registers count) refl).0)
+    (λ count low. (all_applied low (first_applied 0 old.pools old.registers count) refl).1)
 
 pub none_over : (slots : List (Option Station)) (next ending : ℕ) (f : Finishes) → length slots ≡ 96
     → LeavesTimetable slots next ending f → ending ≡ 0 → IsTimetableOf slots (next + 1) f

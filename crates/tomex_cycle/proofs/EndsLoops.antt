@@ -2,15 +2,16 @@
 use Rattle.tomex_cycle.proofs.Words.{nat_lt, ◌&&◌, ◌==◌, le-ltb, nat_tests, eqb-false, ne_eqb, field_from, Field, Value}
 use Rattle.tomex_cycle.proofs.Words.{Unread, Tag, is_number, EndsIn, Hears, after_ends, sends_of, sent_below, hears}
 use Rattle.tomex_cycle.proofs.Words.{field_after, only, value_or_tag, place_at, place_of_tag, Pools, RegStatus, Station}
-use Rattle.tomex_cycle.proofs.Words.{has, ◌||◌, slot, if◌then◌else◌, cases_Bool, lt-ltb, eqb-true, ltb-true, ltb-false}
-use Rattle.tomex_cycle.proofs.Words.{get_or-set_same, get_or-set_other, length-set, get_or_past, AreNamed, HaveReceived}
-use Rattle.tomex_cycle.proofs.Words.{AreFrom, all_left, none_after, skip_to, dest_of, AreLow, ℕ, ◌+◌, ◌<◌, ◌≡◌, ◌∙◌}
-use Rattle.tomex_cycle.proofs.Words.{Bool, true, false, arith, refl, List, Option, Some, None, ap, sym, length}
-use Rattle.tomex_cycle.proofs.Words.{slice_index, slice_index_or, option_map, ◌≤◌, inl, inr, slice_set, AreEnded, names}
+use Rattle.tomex_cycle.proofs.Words.{has, ◌||◌, slot, if◌then◌else◌, cases_Bool, lt-ltb, eqb-true, get_or-set_same}
+use Rattle.tomex_cycle.proofs.Words.{get_or-set_other, length-set, AreNamed, HaveReceived, AreFrom, all_left}
+use Rattle.tomex_cycle.proofs.Words.{none_after, skip_to, dest_of, AreLow, ℕ, ◌+◌, ◌<◌, ◌≡◌, ◌∙◌, Bool, true, false}
+use Rattle.tomex_cycle.proofs.Words.{arith, refl, List, Option, Some, None, ap, sym, length, slice_index}
+use Rattle.tomex_cycle.proofs.Words.{slice_index_or, option_map, ◌≤◌, inl, inr, slice_set, AreEnded, names}
 use Rattle.tomex_cycle.proofs.Words.{registers_after}
 use Rattle.tomex_timing.specs.declared.tables.Field.TheVariants.{Waits}
 use Rattle.tomex_cycle.proofs.Addresses.{or_else}
-use Rattle.tomex_cycle.proofs.Truth.{IsTaken, turn_at}
+use Rattle.tomex_cycle.proofs.Truth.{IsTaken, turn_at, some_not_none}
+use Rattle.tomex_cycle.proofs.Places.{place_or_none}
 
 -- A broadcast to registers.
 
@@ -227,19 +228,13 @@ none_sent sent (Value v) none = refl
 none_sent sent Unread none = refl
 none_sent sent (Waits tag) none = sym (ap (λ o. value_or_tag o tag) (none (place_of_tag tag)))
 
-none_ended : (sent : ℕ → Option ℕ) (o : Option Station) → ((y : ℕ) → sent y ≡ None) → o ≡ after_ends false sent o
-none_ended sent o h2 = grind (arith, nat_tests)
+pub hears_none : (sent : ℕ → Option ℕ) (o : Option Station) → ((y : ℕ) → sent y ≡ None) → o ≡ after_ends false sent o
+hears_none sent o h2 = grind (arith, nat_tests)
 
-some_none : (s : Station) (o : Option Station) → o ≡ Some s → o ≡ None → ⊥
-some_none s o e f = cc
-
-wait_sets : (xs : List (Option Station)) (x : ℕ) (s : Station) → length xs ≡ 96 → slice_index_or xs x None ≡ Some s
-    → x < 96
-wait_sets xs x s count e = elim (cases_Bool (nat_lt x 96)) [
-  | inl l ↦ ltb-true x 96 l
-  | inr l ↦ let high : 96 ≤ x = ltb-false x 96 l in
-      let none : slice_index_or xs x None ≡ None = get_or_past xs x None (omega arith) in
-      absurd (some_none s (slice_index_or xs x None) e none)
+wait_sets : (xs : List (Option Station)) (x : ℕ) (s : Station) → length xs ≡ 96 → slot xs x ≡ Some s → x < 96
+wait_sets xs x s count e = elim (place_or_none xs x count) [
+  | inl l ↦ l
+  | inr none ↦ absurd (some_not_none s (sym e ∙ none))
 ]
 
 -- registers still name who they named
@@ -281,7 +276,7 @@ first_applied picked st rg count = record {
   high = omega arith;
   stations = record {
     places = count;
-    slots = λ x l. none_ended (sent_below st.slots picked 0) (slot st.slots x)
+    slots = λ x l. hears_none (sent_below st.slots picked 0) (slot st.slots x)
         (λ y. rw (le-ltb y 0 (omega arith)) refl) ∙ sym (ap
         (λ b. after_ends (b && has picked x) (sent_below st.slots picked 0) (slot st.slots x))
         (le-ltb x 0 (omega arith)));

@@ -12,9 +12,9 @@ use Rattle.tomex_cycle.proofs.Words.{field_from, field_of, producer, steps_in, s
 use Rattle.tomex_cycle.proofs.Words.{sends_of, sent_below, HaveReceived, hears, field_after, RegStatus, ℕ, ◌+◌, ◌<◌}
 use Rattle.tomex_cycle.proofs.Words.{◌≤◌, ◌≡◌, ◌∙◌, Bool, true, false, arith, refl, List, [], ◌∷◌, Option, Some, None}
 use Rattle.tomex_cycle.proofs.Words.{ap, sym, inl, inr, ◌⊎◌, ◌++◌, append_assoc, slice_index, slice_index_or}
-use Rattle.tomex_cycle.proofs.Places.{is_vacant, vacant, least_test, held_place, ShowsPart, shows_part, held_here}
-use Rattle.tomex_cycle.proofs.Places.{older_shown, older_up_to, AreLow, low, place_low, vacant_none, number_is_some}
-use Rattle.tomex_cycle.proofs.Places.{part_up_to}
+use Rattle.tomex_cycle.proofs.Words.{least_test}
+use Rattle.tomex_cycle.proofs.Places.{is_vacant, vacant, held_place, ShowsPart, shows_part, held_here, older_shown}
+use Rattle.tomex_cycle.proofs.Places.{older_up_to, AreLow, low, place_low, vacant_none, number_is_some, part_up_to}
 use Rattle.tomex_cycle.proofs.Runs.{reach}
 use Rattle.tomex_cycle.proofs.Orders.{AreServed, Serves, goes_at, picked_goes, order_is}
 use Rattle.tomex_cycle.proofs.StartsPicked.{all_alone}
@@ -85,10 +85,6 @@ one_sends {config = config} t u p d older up place next late = elim (cases_Bool 
 ]
 
 -- The places.
-
-pub option_cases : (o : Option ℕ) → (o ≡ None) ⊎ ((p : ℕ) × (o ≡ Some p))
-option_cases None = inl refl
-option_cases (Some p) = inr (p, refl)
 
 -- what holds no station sends nothing
 no_dest : {config : Configuration} (d : Done) (older : List Done) → IsWithinLimits config → AreTimed config (d ∷ older)

@@ -1,24 +1,20 @@
 -- Operands: which are there, and what a broadcast makes of those that wait.
+use Rattle.tomex_timing.proofs.Holders.{station_there}
 use Rattle.tomex_cycle.proofs.Words.{nat_lt, if◌then◌else◌, ◌&&◌, ◌==◌, not, is_some, is_none, cases_Bool, nat_tests}
 use Rattle.tomex_cycle.proofs.Words.{ltb-true, ltb-false, lt-ltb, le-ltb, and_parts, eqb-true, eqb-false, eq-eqb}
 use Rattle.tomex_cycle.proofs.Words.{Loaded, Configuration, PoolId, dest_needs_pool, source_end, writer_end, IsTimed}
 use Rattle.tomex_cycle.proofs.Words.{Operand, result_of, byte_after, register_after, is_number, step_dest, step_pool}
 use Rattle.tomex_cycle.proofs.Words.{Value, Tag, Done, field_of, field_from, producer, tag_of, unsent_tag, steps_in}
-use Rattle.tomex_cycle.proofs.Words.{holds_place, place_of, sent_at, field_after, is_there, place_at, place_of_tag}
-use Rattle.tomex_cycle.proofs.Words.{IsUpTo, unit_with_pool, ℕ, ◌+◌, ◌<◌, ◌≤◌, ◌≡◌, ◌∙◌, true, false, arith, refl, List}
-use Rattle.tomex_cycle.proofs.Words.{[], ◌∷◌, ◌++◌, Option, Some, None, ap, sym, inl, inr, append_assoc}
+use Rattle.tomex_cycle.proofs.Words.{holds_place, place_of, sent_at, field_after, is_there, place_of_tag, IsUpTo}
+use Rattle.tomex_cycle.proofs.Words.{unit_with_pool, ℕ, ◌+◌, ◌<◌, ◌≤◌, ◌≡◌, ◌∙◌, true, false, arith, refl, List, []}
+use Rattle.tomex_cycle.proofs.Words.{◌∷◌, ◌++◌, Option, Some, None, ap, sym, inl, inr, append_assoc}
 use Rattle.tomex_timing.specs.declared.tables.Field.TheVariants.{Waits}
-use Rattle.tomex_cycle.proofs.Places.{is_vacant, vacant, place_there, not_vacant, older_up_to, part_up_to}
+use Rattle.tomex_cycle.proofs.Places.{is_vacant, vacant, not_vacant, older_up_to, part_up_to}
 use Rattle.tomex_cycle.proofs.Runs.{reach, starts_after}
-
--- the tag of a step that hasn't ended
-tag_from : (tag : Option Tag) → is_some (place_at tag) ≡ true → (t : Tag) × (tag ≡ Some t)
-tag_from None e = absurd (cc)
-tag_from (Some t) e = (t, refl)
 
 pub tag_there : {config : Configuration} (d : Done) {older : List Done} (t : ℕ) → IsTimed config older d.step d.at
     → d.at.issue ≤ t → t < d.at.end → (tag : Tag) × (tag_of d ≡ Some tag)
-tag_there d t timed l k = tag_from (tag_of d) (place_there d timed (omega arith))
+tag_there {config} d {older} t timed l k = station_there config d older timed (omega arith)
 
 none_test : {i : Loaded} {config : Configuration} (t : ℕ) (h : List Done) (r : ℕ) → IsUpTo i config t h
     → is_none (producer t h r) ≡ nat_lt (writer_end h r) (t + 1)
@@ -144,14 +140,14 @@ heard_from : {i : Loaded} {config : Configuration} (t u v : ℕ) (newer : List D
     → IsUpTo i config u (newer ++ (w ∷ older)) → u ≡ t + 1 → is_some (step_dest w.step) ≡ true
     → v ≡ result_of w.step (byte_after i (steps_in older)) → field_after (sent_at i u (newer ++ (w ∷ older)))
     (field_from v (unsent_tag t w)) ≡ field_from v (unsent_tag u w)
-heard_from {i} t u v newer w older up e dest value = elim (cases_Bool (nat_lt t w.at.end)) [
+heard_from {i} {config} t u v newer w older up e dest value = elim (cases_Bool (nat_lt t w.at.end)) [
   | inr l ↦
       let k : w.at.end ≤ t = ltb-false _ _ l in
       rw (value_of v w t k, value_of v w u (omega arith)) refl
   | inl l ↦
       let k : t < w.at.end = ltb-true _ _ l in
       let part = part_up_to newer up in
-      let tag = tag_from (tag_of w) (place_there w part.timed.0 (dest_later w older part dest)) in
+      let tag = station_there config w older part.timed.0 (dest_later w older part dest) in
       let sent : sent_at i u (newer ++ (w ∷ older)) (place_of_tag tag.0) ≡ sends i u w older = sent_by t u
       (place_of_tag tag.0) newer w older up e dest (place_is w tag.0 t tag.1 k) in
       elim (cases_Bool (w.at.end == u)) [

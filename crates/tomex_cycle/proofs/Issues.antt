@@ -15,7 +15,7 @@ use Rattle.tomex_cycle.proofs.Words.{Bool, true, arith, refl, List, ◌∷◌, O
 use Rattle.tomex_cycle.proofs.Words.{slice_index_or, slice_set}
 use Rattle.tomex_rvexec.specs.History.{Follows}
 use Rattle.tomex_cycle.proofs.Runs.{reach, starts_after}
-use Rattle.tomex_cycle.proofs.Truth.{pool_in}
+use Rattle.tomex_cycle.proofs.Truth.{pool_in, some_not_none}
 use Rattle.tomex_rvdec.specs.declared.pool.PoolId.TheVariants as pools
 
 -- The times of what issues lie after the cycle.
@@ -164,9 +164,6 @@ tags_count : (tags : List (Option Tag)) (dest : Option ℕ) (tag : Tag) → leng
 tags_count tags None tag = refl
 tags_count tags (Some q) tag = length-set tags q (Some tag)
 
-some_none_tag : (tag : Tag) → Some tag ≡ None → ⊥
-some_none_tag tag e = cc
-
 pub registers_with : {i : Loaded} {t : ℕ} (tag : Tag) (d : Done) {h : List Done} {old : RegStatus} (new : RegStatus)
     → ShowsRegisters i t h old → tag_of d ≡ Some tag → t < d.at.end → IfSome (step_dest d.step) (λ q. q < 32)
     → new.values ≡ old.values → new.tags ≡ tags_with old.tags (step_dest d.step) tag → ShowsRegisters i t (d ∷ h) new
@@ -178,7 +175,7 @@ registers_with {t} tag d {old} new shown is late low values tags =
       tags = λ r l. ap (λ xs. slice_index_or xs r None) tags
           ∙ (tags_at old.tags (step_dest d.step) tag r shown.status low ∙ rw (sent, shown.tags r l) refl);
       values = λ r l none. elim (cases_Bool (is_number (step_dest d.step) r)) [
-        | inl e ↦ absurd (some_none_tag tag (sym sent ∙ (rw e at none)))
+        | inl e ↦ absurd (some_not_none tag (sym sent ∙ (rw e at none)))
         | inr e ↦ rw e (ap (λ xs. slice_index xs r) values ∙ shown.values r l (rw e at none))
       ];
     }

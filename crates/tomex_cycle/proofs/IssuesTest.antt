@@ -30,7 +30,7 @@ finished_later t u (d ∷ h) l e =
     let two = and_parts (not (is_branch d.step) || nat_lt d.at.finish t) (are_branches_finished h t) e in
     rw (done_later (is_branch d.step) t u d.at.finish l two.0, finished_later t u h l two.1) refl
 
-finished_from : (config : Configuration) (older : List Done) (x : Step) (t : ℕ) → can_issue config older x t ≡ true
+pub finished_from : (config : Configuration) (older : List Done) (x : Step) (t : ℕ) → can_issue config older x t ≡ true
     → are_branches_finished older t ≡ true
 finished_from config older x t e = (and_parts _ (are_branches_finished older t) (and_parts _ _ e).0).1
 

@@ -8,21 +8,19 @@ use Rattle.tomex_cycle.proofs.Words.{is_finished_by, is_finished_before, IsTimet
 use Rattle.tomex_cycle.proofs.Words.{has_stayed, Finishes, ◌||◌, slot, AreResults, ℕ, ◌+◌, ◌^◌, ◌<◌, ◌≤◌, ◌≡◌, ◌∙◌}
 use Rattle.tomex_cycle.proofs.Words.{Bool, true, false, arith, refl, ap, sym, inl, inr, List, Option, Some, None}
 use Rattle.tomex_cycle.proofs.Words.{length, option_map, agreed, member_some, of_busy, AreTurned, AreDue}
-use Rattle.tomex_cycle.proofs.Happens.{member_of}
+use Rattle.tomex_cycle.proofs.Cycles.{member_of}
 use Rattle.tomex_cycle.proofs.Known.{all_ahead}
 use Rattle.tomex_cycle.proofs.Truth.{or_cases}
 use Rattle.tomex_cycle.proofs.EndsFetch.{none_over}
+use Rattle.tomex_cycle.proofs.Places.{place_or_none}
 use Rattle.tomex_rvdec.specs.declared.pool.UnitId.TheVariants as units
 
 pub all_due : {slots : List (Option Station)} {next due : ℕ} {f g : Finishes} → IsTimetableOf slots next f
     → HaveTurned f g due → AreDone slots next due
-all_due {slots} {next} {f} known turned x l = turned.due x ∙ elim (cases_Bool (nat_lt x 96)) [
+all_due {slots} {next} known turned x l = turned.due x ∙ elim (place_or_none slots x known.places) [
   | inl k ↦ let now : next + 0 ≡ next = omega arith in
-      all_ahead 0 x known (ltb-true x 96 k) ∙ ap (λ (v : ℕ). finishes v (slot slots x)) now
-  | inr k ↦
-      let high : 96 ≤ x = ltb-false x 96 k in
-      let past : slot slots x ≡ None = get_or_past slots x None (omega arith) in
-      rw past (grind (arith, nat_tests))
+      all_ahead 0 x known k ∙ ap (λ (v : ℕ). finishes v (slot slots x)) now
+  | inr past ↦ rw past (grind (arith, nat_tests))
 ]
 
 alone_test : (next : ℕ) (finish : Option ℕ) (d : Bool) → (not d && is_finished_before finish next) ≡ false
@@ -48,10 +46,9 @@ alone_is next (Some s) e = alone_test next s.finish (is_some (dest_of s.instr)) 
 
 stayed_past : {slots : List (Option Station)} {next : ℕ} (x : ℕ) {f : Finishes} → IsTimetableOf slots next f
     → has_stayed next (slot slots x) ≡ false
-stayed_past {slots} x known = elim (cases_Bool (nat_lt x 96)) [
-  | inl k ↦ known.gone x (ltb-true x 96 k)
-  | inr k ↦ let high : 96 ≤ x = ltb-false x 96 k in let count : length slots ≡ 96 = known.places in
-      let past : slot slots x ≡ None = get_or_past slots x None (omega arith) in rw past refl
+stayed_past {slots} x known = elim (place_or_none slots x known.places) [
+  | inl k ↦ known.gone x k
+  | inr past ↦ rw past refl
 ]
 
 -- the choice of what ends: results are sent, and what is due and no result ends too
@@ -335,12 +332,9 @@ due_writes : (slots : List (Option Station)) (next due x : ℕ) → length slots
     → AreResults slots next → x < 128 → has due x ≡ (has due x && writes (slot slots x))
 due_writes slots next due x count done results l = elim (cases_Bool (has due x)) [
   | inr e ↦ rw e refl
-  | inl e ↦ elim (cases_Bool (nat_lt x 96)) [
-    | inl k ↦ rw (e, (results x (ltb-true x 96 k) (sym (done x l) ∙ e)).0) refl
-    | inr k ↦
-        let high : 96 ≤ x = ltb-false x 96 k in
-        let past : slot slots x ≡ None = get_or_past slots x None (omega arith) in
-        absurd (both_ways (finishes next (slot slots x)) (rw past refl) (sym (done x l) ∙ e))
+  | inl e ↦ elim (place_or_none slots x count) [
+    | inl k ↦ rw (e, (results x k (sym (done x l) ∙ e)).0) refl
+    | inr past ↦ absurd (both_ways (finishes next (slot slots x)) (rw past refl) (sym (done x l) ∙ e))
   ]
 ]
 

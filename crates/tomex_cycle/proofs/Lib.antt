@@ -22,9 +22,7 @@ pub mod StartsDone
 pub mod Orders
 pub mod Startable
 pub mod Quiet
-pub mod Shifting
 pub mod SettledStations
 pub mod Skips
-pub mod Happens
 pub mod Known
 pub mod KnownEnds

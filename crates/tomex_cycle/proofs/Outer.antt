@@ -4,7 +4,7 @@ use Rattle.tomex_cycle.proofs.Words.{Configuration, EndsWithin, greatest_end, In
 use Rattle.tomex_cycle.proofs.Words.{RunEndsAfter, first_timed, Seen, seen_after, IsSound, IsNextCycle, slice_index}
 use Rattle.tomex_cycle.proofs.Words.{map, filter_map, range_with_len, cases_order, lt-ltb, lt-leb, le-leb}
 use Rattle.tomex_cycle.proofs.Words.{get_or-replicate, IsWithinLimits, EndKind, Step, step_after, byte_after}
-use Rattle.tomex_cycle.proofs.Words.{register_after, Bytes, is_number, step_dest, is_store, Busy, Tag, Done, Tables}
+use Rattle.tomex_cycle.proofs.Words.{register_after, Bytes, is_number, step_dest, is_store, Tag, Done, Tables}
 use Rattle.tomex_cycle.proofs.Words.{tables_of, shown, qi_of, all_tags, producer, At, Stopped, run_of, steps_in}
 use Rattle.tomex_cycle.proofs.Words.{byte_at, clocks, ShowsRegisters, ShowsStations, IsSnapshot, IsYetToIssue}
 use Rattle.tomex_cycle.proofs.Words.{overwrites, step_ends_it, step_follows, step_joins, timed_by, Pools, Station, Core}
@@ -17,6 +17,7 @@ use Rattle.tomex_cycle.proofs.Runs.{run_whole, run_timed, steps_are, run_none, r
 use Rattle.tomex_cycle.proofs.Runs.{more_left, stops}
 use Rattle.tomex_rvexec.specs.History.{history as first_steps}
 use Rattle.tomex_cycle.specs.Views.{front}
+use Rattle.tomex_cycle.proofs.Shows.{same_tables}
 
 -- while the answer is Running the total lies ahead
 pub running_low : (cycle all : ℕ) (last : Progress) → last ≡ (if nat_lt cycle all then Running else Ended)
@@ -207,21 +208,10 @@ map_same f g same [] = refl
 map_same f g same (x ∷ xs) = rw (same x, map_same f g same xs) refl
 
 tables_later : (t : ℕ) (newer h : List Done) → AreLater t newer → tables_of t (newer ++ h) ≡ tables_of t h
-tables_later t newer h later =
-    let a = filter_same (shown t (newer ++ h)) (shown t h) (λ tag. shown_later t newer h tag later) all_tags in
-    let b = map_same (qi_of t (newer ++ h)) (qi_of t h) (λ r. qi_later t newer h r later) (range_with_len 0 32) in
-    let f : List Busy → Tables = λ x. record {
-      cycle = t;
-      busy = x;
-      registers = map (qi_of t (newer ++ h)) (range_with_len 0 32);
-    } in
-    let g : List (Option Tag) → Tables = λ x. record {
-      cycle = t;
-      busy = filter_map (shown t h) all_tags;
-      registers =
-          x;
-    } in
-    ap f a ∙ ap g b
+tables_later t newer h later = same_tables (tables_of t (newer ++ h)) t (filter_map (shown t h) all_tags)
+    (map (qi_of t h) (range_with_len 0 32)) refl
+    (filter_same (shown t (newer ++ h)) (shown t h) (λ tag. shown_later t newer h tag later) all_tags)
+    (map_same (qi_of t (newer ++ h)) (qi_of t h) (λ r. qi_later t newer h r later) (range_with_len 0 32))
 
 -- the tables of the whole run are those of what has issued
 tables_whole : {config : Configuration} {i : Loaded} {n : ℕ} (count t : ℕ) → RunEndsAfter i config n → count ≤ n + 1

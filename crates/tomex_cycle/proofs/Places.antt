@@ -7,7 +7,7 @@ use Rattle.tomex_cycle.proofs.Words.{is_number, step_pool, IsLeast, is_free, is_
 use Rattle.tomex_cycle.proofs.Words.{holds_place, place_of, station_at, station_of, place_at, IsTimed, is_some, Pools}
 use Rattle.tomex_cycle.proofs.Words.{ShowsStations, issue_number_at, slice_index, slot, ℕ, ◌≤◌, arith, List, [], ◌∷◌}
 use Rattle.tomex_cycle.proofs.Words.{◌++◌, ◌+◌, ◌*◌, ◌<◌, ◌≡◌, ◌∙◌, Bool, true, false, refl, Option, Some, None, sym}
-use Rattle.tomex_cycle.proofs.Words.{inl, inr, ap, length}
+use Rattle.tomex_cycle.proofs.Words.{inl, inr, ap, length, Station, get_or_past, ltb-false, ◌⊎◌}
 use Rattle.tomex_cycle.proofs.Truth.{some_not_none}
 
 pub older_up_to : {i : Loaded} {config : Configuration} {t : ℕ} {d : Done} {older : List Done}
@@ -69,8 +69,12 @@ pub low : {i : Loaded} {config : Configuration} {t : ℕ} (h : List Done) → Is
 low [] up = tt
 low (d ∷ older) up = (station_low d up.lawful up.timed.0, low older (older_up_to up))
 
-pub pool_low : (p : PoolId) → place_of_pool p < 6
-pool_low p = grind (arith, nat_tests)
+-- a place is one of the stations, or empty
+pub place_or_none : (slots : List (Option Station)) (x : ℕ) → length slots ≡ 96 → (x < 96) ⊎ (slot slots x ≡ None)
+place_or_none slots x count = elim (cases_Bool (nat_lt x 96)) [
+  | inl k ↦ inl (ltb-true x 96 k)
+  | inr k ↦ let high : 96 ≤ x = ltb-false x 96 k in inr (get_or_past slots x None (omega arith))
+]
 
 pub place_low : (pool : Option PoolId) (station : Option ℕ) (x : ℕ) → ((n : ℕ) → station ≡ Some n → n < 16)
     → place_at (tag_at pool station) ≡ Some x → x < 96
@@ -162,10 +166,6 @@ place_there {config} d {older} timed l = grind (arith, nat_tests)
 
 -- The order.
 
--- the least number that passes is this one
-pub least_test : (p : ℕ → Bool) (a u : ℕ) → IsLeast p a → u ≤ a → p u ≡ (a == u)
-least_test p a u l le = grind (arith, nat_tests)
-
 pub turn_and : (a b c : Bool) → ((true && a) && b && c) ≡ ((b && c) && a)
 turn_and a b c = grind (arith, nat_tests)
 
@@ -223,15 +223,19 @@ shows_part {c = c} up l shown = record {
 }
 
 -- the place of a busy step
+pub busy_by : {config : Configuration} (t : ℕ) (d : Done) {older : List Done} → IsTimed config older d.step d.at
+    → d.at.issue < d.at.end → nat_lt t d.at.end ≡ true
+    → (x : ℕ) × (place_of d ≡ Some x) × (holds_place t x d ≡ true)
+busy_by t d timed later l = of (place_of d) refl
+  where
+    of : (o : Option ℕ) → place_of d ≡ o → (x : ℕ) × (place_of d ≡ Some x) × (holds_place t x d ≡ true)
+    of None e = let z : true ≡ false = sym (place_there d timed later) ∙ ap is_some e in absurd (cc)
+    of (Some x) e = (x, e, rw (e, l, eq-eqb x x refl) refl)
+
 pub busy_at : {i : Loaded} {config : Configuration} {t : ℕ} (d : Done) {older : List Done}
     → IsUpTo i config t (d ∷ older) → nat_lt t d.at.end ≡ true
     → (x : ℕ) × (place_of d ≡ Some x) × (holds_place t x d ≡ true)
-busy_at {t = t} d up l = of (place_of d) refl
-  where
-    of : (o : Option ℕ) → place_of d ≡ o → (x : ℕ) × (place_of d ≡ Some x) × (holds_place t x d ≡ true)
-    of None e =
-        let late : t < d.at.end = ltb-true t d.at.end l in
-        let issued : d.at.issue ≤ t = up.issued.0 in
-        let z : true ≡ false = sym (place_there d up.timed.0 (omega arith)) ∙ ap is_some e in
-        absurd (cc)
-    of (Some x) e = (x, e, rw (e, l, eq-eqb x x refl) refl)
+busy_at {t = t} d up l =
+    let late : t < d.at.end = ltb-true t d.at.end l in
+    let issued : d.at.issue ≤ t = up.issued.0 in
+    busy_by t d up.timed.0 (omega arith) l

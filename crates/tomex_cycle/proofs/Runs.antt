@@ -18,7 +18,7 @@ use Rattle.tomex_cycle.specs.Run.{run_of, first_timed}
 use Rattle.tomex_cycle.proofs.Places.{busy_at, older_up_to}
 use Rattle.tomex_cycle.specs.declared.fetch.Fetch.TheVariants.{Waits}
 use Rattle.tomex_cycle.proofs.Orders.{empty_order, empty_set, order_is}
-use Rattle.tomex_cycle.proofs.Truth.{pool_in, some_of}
+use Rattle.tomex_cycle.proofs.Truth.{pool_in, some_of, some_not_none}
 use Rattle.tomex_rvdec.specs.declared.pool.PoolId.TheVariants as pools
 
 -- the next step with its times
@@ -60,9 +60,6 @@ pub step_is : {config : Configuration} {i : Loaded} {n : ℕ} (k : ℕ) → RunE
 step_is {i} {n} k run l = elim (step_after i k) as (λ o. IsSome o → (x : Step) × (o ≡ Some x))
     [ None ↦ λ h. absurd (cc) | Some x ↦ λ h. (x, refl) ] (step_comes i n k run.state run.kind run.ends l)
 
-none_other : (x : EndKind) → None ≡ Some x → ⊥
-none_other x e = cc
-
 -- a step that doesn't end the program continues it
 goes_on : {config : Configuration} {i : Loaded} {n : ℕ} (k : ℕ) (x : Step) → RunEndsAfter i config n → k ≤ n
     → step_after i k ≡ Some x → end_of x ≡ None → IsAllowed i x
@@ -71,7 +68,7 @@ goes_on {i} {n} k x run l e none = elim (cases_order k n) [
       let f : step_after i n ≡ Some x = rw (← same) e in
       let g : end_of x ≡ Some run.kind = step_ends_it i n run.state run.kind x run.ends f in
       let h : None ≡ Some run.kind = sym none ∙ g in
-      absurd (none_other run.kind h)
+      absurd (some_not_none run.kind (sym h))
   | inr (inl less) ↦ step_goes_on i n k run.state run.kind x run.loaded run.ends less e
   | inr (inr more) ↦ absurd (omega arith)
 ]

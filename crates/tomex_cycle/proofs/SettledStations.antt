@@ -22,9 +22,6 @@ use Rattle.tomex_cycle.proofs.Truth.{some_not_none}
 use Rattle.tomex_cycle.proofs.Known.{free_to}
 use Rattle.tomex_cycle.specs.Views.{front}
 
-same_some : {A : Type 0} (x y : A) → Some x ≡ Some y → x ≡ y
-same_some x y e = cc
-
 -- after the step that held a place has ended the place is empty, since no younger step could take it before
 left_empty : {i : Loaded} {config : Configuration} (t u x : ℕ) (newer : List Done) (d : Done) (older : List Done)
     → IsUpTo i config t (newer ++ (d ∷ older)) → u ≡ t + 1 → holds_place t x d ≡ true → d.at.end ≤ u
@@ -78,8 +75,8 @@ are_kept {i} {s = s} {t} {u} up e before after same = record {
               small = small;
               late = ltb-true u d.at.end l;
               slot = now;
-              stays = same_some (station_of i (clocks s t t) d older) (station_of i (clocks u u u) d older)
-                  (sym was ∙ now);
+              stays = let same : Some (station_of i (clocks s t t) d older) ≡ Some (station_of i (clocks u u u) d older) =
+                  sym was ∙ now in cc;
             }
       ];
 }

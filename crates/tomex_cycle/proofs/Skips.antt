@@ -9,10 +9,10 @@ use Rattle.tomex_cycle.proofs.Words.{arith, refl, List, [], ◌∷◌, ◌++◌,
 use Rattle.tomex_cycle.proofs.Words.{zero, suc, ◌*◌, FinishesNext, suc-eq-add-one, IsCounted, eventful_by, events_by}
 use Rattle.tomex_cycle.proofs.Quiet.{AllSteady, HasResult, settled_next, settled_quiet, quiet_settles, quiet_steady}
 use Rattle.tomex_cycle.proofs.Runs.{rest_to, run_timed, issued_up_to, run_whole}
-use Rattle.tomex_cycle.proofs.Shifting.{AllSteadyAfter, AllQuietAfter, shifted}
+use Rattle.tomex_cycle.proofs.Shows.{AllSteadyAfter, AllQuietAfter, shifted}
 use Rattle.tomex_cycle.proofs.SettledStations.{issued_free, issued_results, later_settled, later_due}
 use Rattle.tomex_cycle.proofs.Outer.{running_low, seen_is, sound_next, sound_run}
-use Rattle.tomex_cycle.proofs.Happens.{finish_happens, over_happens, run_happens, quiet_none}
+use Rattle.tomex_cycle.proofs.Cycles.{finish_happens, over_happens, run_happens, quiet_none}
 use Rattle.tomex_cycle.specs.declared.progress.CycleOutcome.TheVariants as made_as
 
 -- no run is over in a cycle in which nothing happens but finishes of results

@@ -1,22 +1,21 @@
 -- Memory after the stores that start in a cycle.
+use Rattle.tomex_cycle.proofs.StartsBegun.{all_begun, all_stored, first_begun, first_stored}
 use Rattle.tomex_timing.proofs.Orders.{conflict_at}
 use Rattle.tomex_cycle.proofs.Words.{nat_lt, nat_le, if◌then◌else◌, ◌&&◌, ◌==◌, not, is_some, cases_Bool, nat_tests}
 use Rattle.tomex_cycle.proofs.Words.{ltb-true, lt-ltb, le-leb, lt-leb, and_parts, or_left, eqb-true, eqb-false, ne_eqb}
 use Rattle.tomex_cycle.proofs.Words.{Loaded, Configuration, Step, covers, overwrites, stored_byte, is_number, is_store}
 use Rattle.tomex_cycle.proofs.Words.{step_pool, step_unit, Done, are_conflicts_finished, conflicts, byte_at, stored_at}
 use Rattle.tomex_cycle.proofs.Words.{written_by, clocks, holds_place, place_of, station_at, step_in, Station, has, ◌||◌}
-use Rattle.tomex_cycle.proofs.Words.{IsTimed, IsUpTo, slot, ltb-false, both_ways, byte_in, Bytes, Fault, MakesStarts}
-use Rattle.tomex_cycle.proofs.Words.{IsInside, AllCanBegin, AllInside, CanBegin, HaveBegun, HaveStored, begun}
-use Rattle.tomex_cycle.proofs.Words.{IsStarting, AreLow, ShowsMemory, station_of, Pools, AreBusy, get_or_past}
-use Rattle.tomex_cycle.proofs.Words.{place_of_unit, UnitId, and_right, none_in, begun_if, suc, zero, ℕ, ◌+◌, ◌<◌, ◌≤◌}
-use Rattle.tomex_cycle.proofs.Words.{◌≡◌, ◌∙◌, Bool, true, false, arith, refl, List, [], ◌∷◌, Option, Some, None, ap}
-use Rattle.tomex_cycle.proofs.Words.{sym, inl, inr, length, subst, slice_index}
-use Rattle.tomex_cycle.proofs.Places.{low, place_low, is_vacant, vacant, busy_at, older_up_to}
+use Rattle.tomex_cycle.proofs.Words.{IsTimed, IsUpTo, slot, both_ways, byte_in, Bytes, Fault, MakesStarts, IsInside}
+use Rattle.tomex_cycle.proofs.Words.{AllCanBegin, AllInside, CanBegin, HaveBegun, HaveStored, begun, IsStarting, AreLow}
+use Rattle.tomex_cycle.proofs.Words.{ShowsMemory, station_of, Pools, AreBusy, place_of_unit, UnitId, suc, zero, ℕ, ◌+◌}
+use Rattle.tomex_cycle.proofs.Words.{◌<◌, ◌≤◌, ◌≡◌, ◌∙◌, Bool, true, false, arith, refl, List, [], ◌∷◌, Option, Some}
+use Rattle.tomex_cycle.proofs.Words.{None, ap, sym, inl, inr, length, subst, slice_index}
+use Rattle.tomex_cycle.proofs.Places.{low, place_low, is_vacant, vacant, busy_at, older_up_to, place_or_none}
 use Rattle.tomex_cycle.proofs.StartsMade.{starts_clear, step_is, begins_at, inside_is, some_is}
 use Rattle.tomex_cycle.proofs.StartsPicked.{starts_at, starts_in, starting_is, five}
 use Rattle.tomex_cycle.proofs.Runs.{reach, store_unit}
-use Rattle.tomex_cycle.proofs.Truth.{or_cases}
-use Rattle.tomex_cycle.proofs.StartsBegun.{stored_skip}
+use Rattle.tomex_cycle.proofs.Truth.{or_cases, some_not_none}
 use Rattle.tomex_rvdec.specs.declared.pool.UnitId.TheVariants as units
 
 -- the byte that a step leaves at an address as it starts in the cycle, if any
@@ -56,9 +55,6 @@ later_one d x s a o p e =
 
 none_leaves : (u a : ℕ) (d : Done) → (starts_in u d && overwrites d.step a) ≡ false → leaves u a d ≡ None
 none_leaves u a d e = rw e refl
-
-none_not : {A : Type 0} (x : A) → None ≡ Some x → ⊥
-none_not x e = cc
 
 -- a step that leaves no byte changes none in later cycles
 made_same : (t u a : ℕ) (d : Done) {older : List Done} {config : Configuration} → IsTimed config older d.step d.at
@@ -102,7 +98,7 @@ left_on t u a d older up e quiet (one y v small here others byte later) =
       | inl h ↦
           let vacant_there = vacant d older t y up (omega arith) (and_parts (is_number (place_of d) y)
           (nat_lt t d.at.end) h).0 in
-          absurd (none_not v (sym (left_free t u a y older vacant_there) ∙ here))
+          absurd (some_not_none v (sym here ∙ left_free t u a y older vacant_there))
     ] in
     let unmade : (overwrites d.step a && nat_le d.at.start u) ≡ false = elim (cases_Bool (overwrites d.step a)) [
       | inr o ↦ rw o refl
@@ -234,12 +230,9 @@ all_inside {config} {u} {m} {new} can made x l pick s e =
     inside_begun config u m one.0 s (sym f ∙ e) one.2.inside
 
 pub low_of : (st : Pools) (x : ℕ) → AreBusy st.slots st.busy st.issue_numbers → x < 128 → has st.busy x ≡ true → x < 96
-low_of st x filled l e = elim (cases_Bool (nat_lt x 96)) [
-  | inl k ↦ ltb-true x 96 k
-  | inr k ↦
-      let high : 96 ≤ x = ltb-false x 96 k in
-      let none : slot st.slots x ≡ None = get_or_past st.slots x None (omega arith) in
-      absurd (both_ways (has st.busy x) (filled.each x l ∙ ap is_some none) e)
+low_of st x filled l e = elim (place_or_none st.slots x filled.places) [
+  | inl k ↦ k
+  | inr past ↦ absurd (both_ways (has st.busy x) (filled.each x l ∙ ap is_some past) e)
 ]
 
 -- what starts is busy
@@ -301,27 +294,9 @@ start_made config next old new m written fault picked starting filled begins goo
 
 -- Where no operation starts, nothing changes.
 
-none_begun : (config : Configuration) (next : ℕ) (m : Bytes) (old : Pools) → length old.slots ≡ 96
-    → HaveBegun config next m 0 96 old old
-none_begun config next m old count = record {
-  places = count;
-  slots = λ x l. sym (ap (λ b. begun_if config next m b (slot old.slots x))
-      (ap (λ b. nat_lt x 96 && b) (none_in x) ∙ and_right (nat_lt x 96) false refl));
-  issue_numbers = refl;
-}
-
-none_written : (slots : List (Option Station)) (byte : ℕ → ℕ) (a k : ℕ) → byte a ≡ written_by slots 0 byte k a
-none_written slots byte a zero = refl
-none_written slots byte a (suc k) = none_written slots byte a k ∙ sym (ap
-    (λ b. stored_at b (slot slots k) a (written_by slots 0 byte k a)) (none_in k) ∙ stored_skip
-    (slot slots k) a (written_by slots 0 byte k a))
-
-none_stored : (slots : List (Option Station)) (m : Bytes) → HaveStored slots 0 96 m m
-none_stored slots m = record { base = refl; size = refl; bytes = λ a from. none_written slots (byte_in m) a 96 }
-
 pub start_none : {config : Configuration} {next starting : ℕ} {old : Pools} (m : Bytes)
     → IsStarting config old next starting → AreBusy old.slots old.busy old.issue_numbers → starting ≡ 0
     → MakesStarts config next old m None old m
-start_none {config} {next} {old} m begins filled e = start_made config next old old m m None 0 (rw e at begins) filled
-    (λ count low can. none_begun config next m old count) (λ count low can. refl)
-    (λ low inside. none_stored old.slots m)
+start_none {config} {next} {old = old} m begins filled e = start_made config next old old m m None 0 (rw e at begins)
+    filled (λ count low can. all_begun refl (first_begun config next m 0 old count low can)) (λ count low can. refl)
+    (λ low inside. all_stored low refl (first_stored old.slots 0 m))

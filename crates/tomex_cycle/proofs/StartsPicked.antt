@@ -1,4 +1,5 @@
 -- The tests that an operation passes as it starts are those of the recurrence: operands, address, older accesses.
+use Rattle.tomex_timing.proofs.Bools.{and_swap as and_swapped}
 use Rattle.tomex_cycle.proofs.Words.{nat_lt, nat_le, if◌then◌else◌, ◌&&◌, not, is_some, cases_Bool, nat_tests}
 use Rattle.tomex_cycle.proofs.Words.{ltb-false, lt-ltb, or_right, Loaded, Configuration, Step, address_of, bytes_of}
 use Rattle.tomex_cycle.proofs.Words.{is_store, j_of, k_of, Tag, Done, cycle_of, is_memory, last_address, source_end}
@@ -12,11 +13,12 @@ use Rattle.tomex_cycle.proofs.Words.{ShowsStations, holds_place, place_of, place
 use Rattle.tomex_cycle.proofs.Words.{PoolId, is_free, onto_end, ℕ, ◌+◌, ◌<◌, ◌≤◌, ◌≡◌, ◌∙◌, Bool, true, false, arith}
 use Rattle.tomex_cycle.proofs.Words.{refl, List, [], ◌∷◌, ◌++◌, Option, Some, None, ap, sym, inl, inr, append-nil}
 use Rattle.tomex_cycle.proofs.Words.{length, slice_index, append_assoc, MatchBool-at_false, bytes_of_memory, share_none}
+use Rattle.tomex_cycle.proofs.Words.{least_test}
 use Rattle.tomex_cycle.proofs.Addresses.{order_here, address_rises}
 use Rattle.tomex_cycle.proofs.Runs.{reach, start_least}
 use Rattle.tomex_cycle.proofs.Fields.{there_test}
 use Rattle.tomex_cycle.proofs.Places.{ShowsPart, busy_at, held_here, older_shown, older_up_to, is_vacant, vacant}
-use Rattle.tomex_cycle.proofs.Places.{least_test, held_place, shows_part}
+use Rattle.tomex_cycle.proofs.Places.{held_place, shows_part}
 use Rattle.tomex_cycle.specs.Starts.{is_among, AreStartableFor}
 use Rattle.tomex_cycle.proofs.IssueOrder.{no_access}
 use Rattle.tomex_cycle.proofs.Orders.{AreAlone, goes_at, AreServed, Serves, picked_goes, order_is}
@@ -24,9 +26,6 @@ use Rattle.tomex_rvdec.specs.declared.pool.UnitId.TheVariants as units
 
 and_swap : (a b c : Bool) → (a && (b && c)) ≡ ((a && b) && c)
 and_swap a b c = grind (arith, nat_tests)
-
-and_turn : (a b : Bool) → (a && b) ≡ (b && a)
-and_turn a b = grind (arith, nat_tests)
 
 clear-append : (slots : List (Option Station)) (xs : List ℕ) (x : ℕ) (s : Station) (next : ℕ)
     → is_clear slots (xs ++ (x ∷ [])) s next ≡ (lets_pass (slot slots x) s next && is_clear slots xs s next)
@@ -36,7 +35,7 @@ clear-append slots (y ∷ xs) x s next =
     ap (λ b. lets_pass (slot slots y) s next && b) before ∙ (and_swap
     (lets_pass (slot slots y) s next) (lets_pass (slot slots x) s next)
     (is_clear slots xs s next) ∙ (ap (λ b. b && is_clear slots xs s next)
-    (and_turn (lets_pass (slot slots y) s next) (lets_pass (slot slots x) s next)) ∙ sym
+    (and_swapped (lets_pass (slot slots y) s next) (lets_pass (slot slots x) s next)) ∙ sym
     (and_swap (lets_pass (slot slots x) s next) (lets_pass (slot slots y) s next)
     (is_clear slots xs s next))))
 

@@ -43,7 +43,7 @@ pub use Rattle.tomex_rvexec.specs.declared.outcome.EndKind.{EndKind}
 pub use Rattle.tomex_rvexec.specs.declared.outcome.Fault.{Fault}
 pub use Rattle.tomex_config.specs.Configuration.{Configuration, IsWithinLimits, option_of, stations_of}
 pub use Rattle.tomex_timing.proofs.Bound.{timed_by, InReach, in_reach}
-pub use Rattle.tomex_timing.proofs.Least.{least_same}
+pub use Rattle.tomex_timing.proofs.Least.{least_same, least_test}
 pub use Rattle.tomex_timing.proofs.Limits.{stations_high, units_low, width_low, buses_low}
 pub use Rattle.tomex_timing.proofs.Search.{issue_station, times_are, timed_is}
 pub use Rattle.tomex_timing.proofs.Stations.{number_is, lower, one, split_count}

@@ -1,7 +1,7 @@
 use Rattle.tomex_cycle.proofs.Words.{front, refl, true, false}
 use Rattle.tomex_cycle.specs.Ends.{sent_below}
 use Rattle.tomex_cycle.specs.Starts.{AreLow}
-use Rattle.tomex_cycle.proofs.Happens.{due_happens, end_happens, not_zero}
+use Rattle.tomex_cycle.proofs.Cycles.{due_happens, end_happens, not_zero}
 use Rattle.tomex_cycle.proofs.EndsFetch.{ending_low, made_ends, ends_none, none_followed, none_over}
 use Rattle.tomex_cycle.proofs.KnownEnds.{all_due, ending_none, leaves_none}
 use Rattle.tomex_cycle.proofs.phases.end.Goals as goal

@@ -1,5 +1,5 @@
 use Rattle.tomex_cycle.proofs.Words.{IfSome_then, true, false}
-use Rattle.tomex_cycle.proofs.Happens.{start_happens}
+use Rattle.tomex_cycle.proofs.Cycles.{start_happens}
 use Rattle.tomex_cycle.proofs.StartsDone.{start_made, start_none}
 use Rattle.tomex_cycle.proofs.phases.start.Goals as goal
 

@@ -1,9 +1,8 @@
 -- The phases make a cycle, and what is left when it is made says whether the run is over.
 use Rattle.tomex_cycle.proofs.Words.{core, core_of, front, Bool, ◌≤◌, ◌<◌, ◌≡◌, ◌∙◌, ap, arith, inl, inr, Ok, nat_lt}
 use Rattle.tomex_cycle.proofs.Words.{ltb-true, ltb-false}
-use Rattle.tomex_cycle.proofs.Cycles.{cycle_made, cycle_answer, AreMade, under_way}
+use Rattle.tomex_cycle.proofs.Cycles.{cycle_made, cycle_answer, AreMade, under_way, cycle_happens}
 use Rattle.tomex_cycle.proofs.SettledStations.{cycle_settles, none_finishes}
-use Rattle.tomex_cycle.proofs.Happens.{cycle_happens}
 use Rattle.tomex_cycle.proofs.Truth.{none_moved, none_started, what_moved, ok_not_err, ok_same, some_and_none}
 use Rattle.tomex_cycle.proofs.Runs.{issued_up_to}
 use Rattle.tomex_cycle.proofs.inner.Inner.make_cycle.Goals as goal
