@@ -160,8 +160,8 @@ given_other (Some y) x s e = rw (ne_eqb y x (λ (z : y ≡ x). e (ap (λ (k : �
 given_here : (o : Option ℕ) (x : ℕ) (s : Option Station) → o ≡ Some x → given_at o x s ≡ option_map with_address s
 given_here o x s e = rw (e, eq-eqb x x refl) refl
 
-idle_by : (t u cycle address : ℕ) (memory : Bool) → u ≡ t + 1 → (memory && not (nat_le cycle t)) ≡ false →
-    (if memory && nat_le cycle u then Some address else None) ≡ (if memory && nat_le cycle t then Some address else
+idle_by : (t u cycle address : ℕ) (memory : Bool) → u ≡ t + 1 → (memory && not (nat_le cycle t)) ≡ false
+    → (if memory && nat_le cycle u then Some address else None) ≡ (if memory && nat_le cycle t then Some address else
     None)
 idle_by t u cycle address memory e w = grind (arith, nat_tests)
 

@@ -24,7 +24,6 @@ use Rattle.tomex_cycle.proofs.EndsState.{stations_at}
 use Rattle.tomex_cycle.proofs.Runs.{reach, can_start_then, starts_after}
 use Rattle.tomex_cycle.proofs.StartsDone.{low_of}
 use Rattle.tomex_cycle.proofs.Truth.{or_cases, pool_in}
-use Rattle.tomex_timing.specs.declared.tables.Field.TheVariants.{Waits}
 use Rattle.tomex_rvdec.specs.declared.pool.PoolId.TheVariants as pools
 use Rattle.tomex_cycle.specs.declared.fetch.Fetch.TheVariants as from
 

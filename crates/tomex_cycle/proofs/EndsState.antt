@@ -77,9 +77,10 @@ one_sends : {i : Loaded} {config : Configuration} {s : ℕ} (t u p : ℕ) (d : D
 one_sends {config = config} t u p d older up place next late = elim (cases_Bool (is_some (step_dest d.step))) [
   | inr dest ↦ rw dest refl
   | inl dest ↦
-      let clause = end_clause (step_pool d.step) d.at.station p (d.at.end ≡ d.at.issue) (IsLeast (can_end config older
-      d.at.finish) d.at.end) (d.at.end ≡ d.at.finish) (is_some (step_dest d.step)) place up.timed.0.end in
-      let least = MatchBool-at_true (IsLeast (can_end config older d.at.finish) d.at.end) (d.at.end ≡ d.at.finish) dest clause in
+      let sent = IsLeast (can_end config older d.at.finish) d.at.end in
+      let clause = end_clause (step_pool d.step) d.at.station p (d.at.end ≡ d.at.issue) sent (d.at.end ≡ d.at.finish)
+          (is_some (step_dest d.step)) place up.timed.0.end in
+      let least = MatchBool-at_true sent (d.at.end ≡ d.at.finish) dest clause in
       let test = least_test (can_end config older d.at.finish) d.at.end u least (omega arith) in
       rw dest (sym test)
 ]

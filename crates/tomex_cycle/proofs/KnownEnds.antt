@@ -118,8 +118,8 @@ before_next : (next : ℕ) (finish : Option ℕ)
     → is_finished_before finish (next + 1) ≡ (is_finished_before finish next || is_number finish next)
 before_next next finish = grind (arith, nat_tests)
 
-unsent_is : (next : ℕ) (o : Option Station) (sending : Bool) → (sending ≡ true → can_send next o ≡ true) →
-    ((can_send next o && not sending) || (finishes next o && writes o)) ≡ (not (sending || (finishes next o && not
+unsent_is : (next : ℕ) (o : Option Station) (sending : Bool) → (sending ≡ true → can_send next o ≡ true)
+    → ((can_send next o && not sending) || (finishes next o && writes o)) ≡ (not (sending || (finishes next o && not
     (finishes next o && writes o))) && can_send (next + 1) o)
 unsent_is next o sending h3 = grind (arith, nat_tests)
 
@@ -193,7 +193,7 @@ none_unsent {st} {due = due} {found} {sending} {ending} {g} h choice sent fits s
       | inl e ↦ eqb-true h.unsent 0 e
       | inr e ↦
           let x = member_of h.unsent fits.1 (eqb-false h.unsent 0 e) in
-          elim (or_cases (has g.unsent x.0 && not (has sending x.0)) (has found x.0) (sym (sent.unsent x.0 x.1) ∙ x.2)) [
+          elim (or_cases (has g.unsent x.0 && not (has sending x.0)) _ (sym (sent.unsent x.0 x.1) ∙ x.2)) [
             | inr here ↦ absurd (both_ways (has due x.0) (rw over (none_in x.0))
                 (and_parts (has due x.0) _ (sym (choice.results x.0 x.1) ∙ here)).0)
             | inl was ↦

@@ -16,7 +16,6 @@ use Rattle.tomex_cycle.proofs.Words.{end_writes_no_register, end_writes_no_byte,
 use Rattle.tomex_cycle.proofs.Runs.{run_whole, run_timed, steps_are, run_none, rest_to, AreLater, issued_up_to}
 use Rattle.tomex_cycle.proofs.Runs.{more_left, stops}
 use Rattle.tomex_rvexec.specs.History.{history as first_steps}
-use Rattle.tomex_cycle.specs.Views.{front}
 use Rattle.tomex_cycle.proofs.Shows.{same_tables}
 
 -- while the answer is Running the total lies ahead

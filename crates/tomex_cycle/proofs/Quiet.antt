@@ -233,8 +233,8 @@ start_by {config} v h x at (Some unit) l good quiet i a next timed e =
     (start_quiet v h x unit at.issue (cycle_of at.address) l good quiet i a) timed e
 
 end_by : {config : Configuration} (v : ℕ) (h : List Done) (at : Times) (unit : Option UnitId) (dest : Bool)
-    → IsWithinLimits config → AllAtRest v h → at.finish ≢ v → at.issue ≢ v + 1 → (dest ≡ false → at.finish ≢ v + 1) →
-    MatchOption unit (at.end ≡ at.issue)
+    → IsWithinLimits config → AllAtRest v h → at.finish ≢ v → at.issue ≢ v + 1 → (dest ≡ false → at.finish ≢ v + 1)
+    → MatchOption unit (at.end ≡ at.issue)
     (λ u. MatchBool dest (IsLeast (can_end config h at.finish) at.end) (at.end ≡ at.finish)) → at.end ≢ v + 1
 end_by v h at None dest good quiet f i g timed e = let k : at.end ≡ at.issue = timed in i (omega arith)
 end_by {config} v h at (Some unit) true good quiet f i g timed e =

@@ -20,7 +20,6 @@ use Rattle.tomex_cycle.proofs.Runs.{AreLater, reach, issued_up_to, starts_after}
 use Rattle.tomex_cycle.proofs.StartsPicked.{ready_is, no_address}
 use Rattle.tomex_cycle.proofs.Truth.{some_not_none}
 use Rattle.tomex_cycle.proofs.Known.{free_to}
-use Rattle.tomex_cycle.specs.Views.{front}
 
 -- after the step that held a place has ended the place is empty, since no younger step could take it before
 left_empty : {i : Loaded} {config : Configuration} (t u x : ℕ) (newer : List Done) (d : Done) (older : List Done)
@@ -54,6 +53,9 @@ older_kept : {i : Loaded} {s t u : ℕ} {new : Pools} {d : Done} {older : List D
 older_kept {d = d} kept =
     record { each = λ newer e rest same. kept.each (d ∷ newer) e rest (ap (λ xs. d ∷ xs) same) }
 
+some_same : {a b : Station} → Some a ≡ Some b → a ≡ b
+some_same e = cc
+
 pub are_kept : {i : Loaded} {config : Configuration} {s t u : ℕ} {mid new : Pools} {h : List Done}
     → IsUpTo i config t h → u ≡ t + 1 → ShowsStations i (clocks s t t) h mid
     → ShowsStations i (clocks u u u) h new → new.slots ≡ mid.slots → AreKept i s t u new h
@@ -75,8 +77,7 @@ are_kept {i} {s = s} {t} {u} up e before after same = record {
               small = small;
               late = ltb-true u d.at.end l;
               slot = now;
-              stays = let same : Some (station_of i (clocks s t t) d older) ≡ Some (station_of i (clocks u u u) d older) =
-                  sym was ∙ now in cc;
+              stays = some_same (sym was ∙ now);
             }
       ];
 }

@@ -19,7 +19,6 @@ use Rattle.tomex_cycle.specs.Starts.{finish_from}
 use Rattle.tomex_cycle.proofs.Fields.{there_test}
 use Rattle.tomex_cycle.proofs.StartsBegun.{inside_as}
 use Rattle.tomex_cycle.proofs.StartsPicked.{there_value, starts_at, starts_in}
-use Rattle.tomex_rvdec.specs.declared.pool.PoolId.TheVariants as pools
 use Rattle.tomex_rvdec.specs.declared.op.Op.TheVariants as ops
 
 -- what starts waits for each older access to its bytes

@@ -148,8 +148,9 @@ tests_same : (i a j k c b w : Bool) → i ≡ true → (a ≡ true → j ≡ tru
 tests_same i a j k c b w e f = grind (arith, nat_tests)
 
 clear_here : {i : Loaded} {config : Configuration} {t u : ℕ} {st : Pools} (d : Done) (older : List Done)
-    → IsUpTo i config t (d ∷ older) → u ≡ t + 1 → ShowsPart i (clocks t t t) st older → cycle_of d.at.address < u →
-    is_clear st.slots (order_of t older) (station_of i (clocks t t t) d older) u ≡ are_conflicts_finished older d.step u
+    → IsUpTo i config t (d ∷ older) → u ≡ t + 1 → ShowsPart i (clocks t t t) st older → cycle_of d.at.address < u
+    → is_clear st.slots (order_of t older) (station_of i (clocks t t t) d older) u
+    ≡ are_conflicts_finished older d.step u
 clear_here {i} {t = t} {u} {st} d older up f shown l =
     let bytes = bytes_are i t d older (λ m. omega arith) in
     elim (cases_Bool (is_memory d.step)) [
@@ -242,8 +243,8 @@ no_pool_unit d {older} timed e =
 
 -- one step of a kind is served by the recurrence
 one_serves : {i : Loaded} {config : Configuration} {t u set : ℕ} {st : Pools} (unit : UnitId) (d : Done)
-    (older : List Done) → IsUpTo i config t (d ∷ older) → u ≡ t + 1 → ShowsPart i (clocks t t t) st (d ∷ older) →
-    ((x : ℕ) → x < 128 → holds_place t x d ≡ true → has set x ≡ is_number (wanted st.slots (order_of t older) u
+    (older : List Done) → IsUpTo i config t (d ∷ older) → u ≡ t + 1 → ShowsPart i (clocks t t t) st (d ∷ older)
+    → ((x : ℕ) → x < 128 → holds_place t x d ≡ true → has set x ≡ is_number (wanted st.slots (order_of t older) u
     (slot st.slots x)) (place_of_unit unit)) → Serves t (option_of config unit).units set (starts_of unit u) d older
 one_serves {i} {config} {t} {u} {st = st} unit d older up f shown wants = record {
   idle = λ l.
