@@ -7,9 +7,9 @@ use Rattle.tomex_cycle.proofs.Words.{◌||◌, IsUpTo, if◌then◌else◌, ⊤,
 use Rattle.tomex_cycle.proofs.Words.{length-append, sum_by-cons, IsPicked, holds_place, ℕ, ◌+◌, ◌<◌, ◌≤◌, ◌≡◌, ◌∙◌, ◌^◌}
 use Rattle.tomex_cycle.proofs.Words.{true, false, arith, refl, List, [], ◌∷◌, ◌++◌, Option, Some, None, ap, sym, inl}
 use Rattle.tomex_cycle.proofs.Words.{inr, length, slice_index, zero, suc, Bool, append-nil, take, filter, min}
-use Rattle.tomex_cycle.proofs.Words.{take-append-le, take_all, filter-append, first_picked}
+use Rattle.tomex_cycle.proofs.Words.{take-append-le, take_all, filter-append, first_picked, or_right}
 use Rattle.tomex_cycle.proofs.Places.{low, place_low, AreLow, ShowsPart, shows_part, held_here, older_shown}
-use Rattle.tomex_cycle.proofs.Truth.{or_false, or_one}
+use Rattle.tomex_cycle.proofs.Truth.{or_false}
 
 pub in-append : (xs ys : List ℕ) (x : ℕ) → is_listed (xs ++ ys) x ≡ (is_listed xs x || is_listed ys x)
 in-append [] ys x = refl
@@ -38,7 +38,7 @@ in_order i c (d ∷ older) x = in_by i c d older x (place_of d) refl (in_order i
       ]
       | inl l ↦ elim (cases_Bool (p == x)) [
         | inl k ↦ rw (e, l, k, in-append (order_of c.end older) (p ∷ []) x)
-            (sym (or_one (is_listed (order_of c.end older) x) ((p == x) || false) (rw k refl)))
+            (sym (or_right (is_listed (order_of c.end older) x) ((p == x) || false) (rw k refl)))
         | inr k ↦ rw (e, l, k, in-append (order_of c.end older) (p ∷ []) x)
             (before ∙ sym (rw k (or_false (is_listed (order_of c.end older) x))))
       ]
@@ -82,7 +82,7 @@ rises-append issue_numbers (x ∷ xs) p rises each = (
           absurd (cc)
     ]
   ]),
-  rises-append issue_numbers xs p rises.1 (λ y e. each y (rw e (or_one (x == y) true refl))),
+  rises-append issue_numbers xs p rises.1 (λ y e. each y (rw e (or_right (x == y) true refl))),
 )
 
 pub record AreOlder (issue_numbers : List ℕ) (end : ℕ) (part : List Done) : Type 0 where
@@ -248,7 +248,7 @@ ready_by {t} {n} {set} p {goes} {d} {older} place late member serves alone befor
             taken = λ x. rw (order, e) (one_more xs p n x few ∙ elim (cases_Bool (p == x)) [
               | inl k ↦
                   let same : p ≡ x = eqb-true p x k in
-                  or_one (is_listed (take n xs) x) (p == x) k ∙ sym (rw (← same, held) on)
+                  or_right (is_listed (take n xs) x) (p == x) k ∙ sym (rw (← same, held) on)
               | inr k ↦ rw (k, holds_other x k) (or_false (is_listed (take n xs) x)
                   ∙ (ap (λ (ys : List ℕ). is_listed (take n ys) x) (sym e) ∙ before.taken x))
             ]);

@@ -3,20 +3,20 @@ use Rattle.tomex_cycle.proofs.Words.{nat_lt, if◌then◌else◌, cases_Bool, lt
 use Rattle.tomex_cycle.proofs.Words.{Configuration, EndsWithin, greatest_end, Inner, Progress, Running, Ended, IsAt}
 use Rattle.tomex_cycle.proofs.Words.{RunEndsAfter, first_timed, Seen, seen_after, IsSound, IsNextCycle, slice_index}
 use Rattle.tomex_cycle.proofs.Words.{map, filter_map, range_with_len, cases_order, lt-ltb, lt-leb, le-leb}
-use Rattle.tomex_cycle.proofs.Words.{get_or-replicate, IsWithinLimits, EndKind, Step, step_after, byte_after}
-use Rattle.tomex_cycle.proofs.Words.{register_after, Bytes, is_number, step_dest, is_store, Tag, Done, Tables}
-use Rattle.tomex_cycle.proofs.Words.{tables_of, shown, qi_of, all_tags, producer, At, Stopped, run_of, steps_in}
-use Rattle.tomex_cycle.proofs.Words.{byte_at, clocks, ShowsRegisters, ShowsStations, IsSnapshot, IsYetToIssue}
-use Rattle.tomex_cycle.proofs.Words.{overwrites, step_ends_it, step_follows, step_joins, timed_by, Pools, Station, Core}
-use Rattle.tomex_cycle.proofs.Words.{Front, IsUpTo, core, core_of, slot, ℕ, ◌+◌, ◌<◌, ◌≤◌, ◌≡◌, ◌∙◌, ◌^◌, true, arith}
-use Rattle.tomex_cycle.proofs.Words.{refl, ap, inl, inr, min, subst, false, List, [], ◌∷◌, ◌++◌, Option, Some, None}
-use Rattle.tomex_cycle.proofs.Words.{sym, length, replicate, slice_index_or, total, is_end, IsLoaded, Leaves, State}
-use Rattle.tomex_cycle.proofs.Words.{start_of, IsFresh, IsState, end_is, same_registers, same_memory, run_state}
-use Rattle.tomex_cycle.proofs.Words.{end_writes_no_register, end_writes_no_byte, AllBy}
+use Rattle.tomex_cycle.proofs.Words.{get_or-replicate, IsWithinLimits, EndKind, byte_after, register_after, Bytes}
+use Rattle.tomex_cycle.proofs.Words.{is_number, step_dest, is_store, Tag, Done, Tables, tables_of, shown, qi_of}
+use Rattle.tomex_cycle.proofs.Words.{all_tags, producer, At, Stopped, run_of, steps_in, byte_at, clocks, ShowsRegisters}
+use Rattle.tomex_cycle.proofs.Words.{ShowsStations, IsSnapshot, IsYetToIssue, overwrites, step_ends_it, step_follows}
+use Rattle.tomex_cycle.proofs.Words.{step_joins, timed_by, Pools, Core, Front, IsUpTo, core, core_of, slot, ℕ, ◌+◌, ◌<◌}
+use Rattle.tomex_cycle.proofs.Words.{◌≤◌, ◌≡◌, ◌∙◌, ◌^◌, true, arith, refl, ap, inl, inr, min, subst, false, List, []}
+use Rattle.tomex_cycle.proofs.Words.{◌∷◌, ◌++◌, Option, None, sym, length, replicate, slice_index_or, total, is_end}
+use Rattle.tomex_cycle.proofs.Words.{IsLoaded, Leaves, State, start_of, IsFresh, IsState, end_is, same_registers}
+use Rattle.tomex_cycle.proofs.Words.{same_memory, run_state, end_writes_no_register, end_writes_no_byte, AllBy}
 use Rattle.tomex_cycle.proofs.Runs.{run_whole, run_timed, steps_are, run_none, rest_to, AreLater, issued_up_to}
 use Rattle.tomex_cycle.proofs.Runs.{more_left, stops}
 use Rattle.tomex_rvexec.specs.History.{history as first_steps}
 use Rattle.tomex_cycle.proofs.Shows.{same_tables}
+use Rattle.tomex_cycle.specs.Views.{front}
 
 -- while the answer is Running the total lies ahead
 pub running_low : (cycle all : ℕ) (last : Progress) → last ≡ (if nat_lt cycle all then Running else Ended)
@@ -33,13 +33,13 @@ other_high cycle all last e f = elim (cases_Bool (nat_lt cycle all)) [
   | inr l ↦ ltb-false _ _ l
 ]
 
+-- what is seen, of its parts
+abbrev pub seen_at : Loaded → Configuration → ℕ → Progress → Seen
+seen_at i config cycle last = record { image = i; config = config; cycle = cycle; status = last }
+
 same_seen : (i : Loaded) (config : Configuration) (a b : ℕ) (x y : Progress) → a ≡ b → x ≡ y
-    → ◌≡◌ {A = Seen} (record { image = i; config = config; cycle = a; status = x })
-    (record { image = i; config = config; cycle = b; status = y })
-same_seen i config a b x y e f =
-    let g : ℕ → Seen = λ k. record { image = i; config = config; cycle = k; status = x } in
-    let h : Progress → Seen = λ k. record { image = i; config = config; cycle = b; status = k } in
-    ap g e ∙ ap h f
+    → seen_at i config a x ≡ seen_at i config b y
+same_seen i config a b x y e f = rw (e, f) refl
 
 -- the run of a sound machine whose program ends
 pub sound_run : {A : Type 0} {i : Loaded} {config : Configuration} {cycle : ℕ} {last : Progress} {inner : Inner A}
@@ -56,7 +56,7 @@ sound_run sound ends = record {
 -- the machine is as it is after as many ticks as its cycle says
 pub seen_is : {A : Type 0} {i : Loaded} {config : Configuration} {cycle : ℕ} {last : Progress} {inner : Inner A}
     → IsSound i config cycle last inner → EndsWithin i 262144
-    → ◌≡◌ {A = Seen} (record { image = i; config = config; cycle = cycle; status = last }) (seen_after i config cycle)
+    → seen_at i config cycle last ≡ seen_after i config cycle
 seen_is {i} {config} {cycle} {last} sound ends =
     let run : RunEndsAfter i config ends.0 = sound_run sound ends in
     let after = sound.after ends.0 run in
@@ -83,9 +83,8 @@ sound_next {i} {config} {cycle} now new sound low made = record {
 
 -- the same, of a value that is seen
 pub now_seen : {A : Type 0} {i : Loaded} {config : Configuration} {cycle : ℕ} {last : Progress} {inner : Inner A}
-    {seen : Seen} → ◌≡◌ {A = Seen} (record { image = i; config = config; cycle = cycle; status = last }) seen
-    → IsSound i config cycle last inner → EndsWithin seen.image 262144
-    → seen ≡ seen_after seen.image seen.config seen.cycle
+    {seen : Seen} → seen_at i config cycle last ≡ seen → IsSound i config cycle last inner
+    → EndsWithin seen.image 262144 → seen ≡ seen_after seen.image seen.config seen.cycle
 now_seen e sound =
     let P : Seen → Type 0 = λ x. EndsWithin x.image 262144 → x ≡ seen_after x.image x.config x.cycle in
     subst P e (λ ends. seen_is sound ends)
@@ -105,8 +104,7 @@ end_is_not_running last e f = let g : is_end Running ≡ true = rw f at e in abs
 
 -- a machine that has ended hands out the end of the run
 pub finish_seen : {A : Type 0} {i : Loaded} {config : Configuration} {cycle : ℕ} {last : Progress} {inner : Inner A}
-    {seen : Seen} (P : Loaded → Type 0)
-    → ◌≡◌ {A = Seen} (record { image = i; config = config; cycle = cycle; status = last }) seen
+    {seen : Seen} (P : Loaded → Type 0) → seen_at i config cycle last ≡ seen
     → ((i : Loaded) (config : Configuration) (n t : ℕ) → RunEndsAfter i config n → IsAt i config n t inner
     → greatest_end (first_timed config i (n + 1)) ≤ t → P i)
     → IsSound i config cycle last inner → is_end seen.status ≡ true → EndsWithin seen.image 262144 → P seen.image
@@ -137,15 +135,6 @@ shows_none i st places slots issue_numbers = record {
   issue_numbers = λ x l. rw issue_numbers (get_or-replicate 128 x 0 0 (omega arith));
 }
 
-slots_count : length (replicate {A = Option Station} 96 None) ≡ 96
-slots_count = refl
-
-tags_count : length (replicate {A = Option Tag} 32 None) ≡ 32
-tags_count = refl
-
-start_count : (i : Loaded) → length (start_of i).regs ≡ 32
-start_count i = refl
-
 -- before the first cycle
 pub start_shown : {config : Configuration} {n : ℕ} {s : Front} {m : Bytes} (i : Loaded)
     → s.pools.slots ≡ replicate 96 None → s.pools.issue_numbers ≡ replicate 128 0 → s.registers.tags ≡ replicate 32 None
@@ -157,10 +146,10 @@ start_shown {config} {s = s} i slots issue_numbers tags values from base bytes s
       issue = record {
         few = omega arith;
         shown = rw e (record {
-          slots = shows_none i s.pools (ap length slots ∙ slots_count) (none_at 96 s.pools.slots slots) issue_numbers;
+          slots = shows_none i s.pools (ap length slots) (none_at 96 s.pools.slots slots) issue_numbers;
           status = record {
-            count = ap length values ∙ start_count i;
-            status = ap length tags ∙ tags_count;
+            count = ap length values;
+            status = ap length tags;
             tags = none_at 32 s.registers.tags tags;
             values = λ r l q. ap (λ xs. slice_index xs r) values;
           };
@@ -223,8 +212,7 @@ tables_whole {config} {i} {n} count t run few next =
 
 -- the machine's tables, pointwise
 pub tables_seen : {A : Type 0} {config : Configuration} {i : Loaded} {cycle : ℕ} {last : Progress} {seen : Seen}
-    {inner : Inner A} {tables : Tables}
-    → ◌≡◌ {A = Seen} (record { image = i; config = config; cycle = cycle; status = last }) seen
+    {inner : Inner A} {tables : Tables} → seen_at i config cycle last ≡ seen
     → ((i : Loaded) (h : List Done) (config : Configuration) → IsUpTo i config cycle h
     → ShowsStations i (clocks cycle cycle cycle) h inner.pools → ShowsRegisters i cycle h inner.registers
     → tables ≡ tables_of cycle h) → IsSound i config cycle last inner → EndsWithin seen.image 262144
@@ -244,10 +232,6 @@ no_writer t (d ∷ older) r l = elim (cases_Bool (is_number (step_dest d.step) r
   | inr e ↦ rw e (no_writer t older r (omega arith))
 ]
 
-end_values : (i : Loaded) (x : Step) (steps : List Step) (r : ℕ) → step_dest x ≡ None
-    → register_after i (x ∷ steps) r ≡ register_after i steps r
-end_values i x steps r e = rw e refl
-
 bytes_ended : (i : Loaded) (t g a : ℕ) (h : List Done) → AllBy g h → g ≤ t
     → byte_at i t h a ≡ byte_after i (steps_in h) a
 bytes_ended i t g a [] by l = refl
@@ -255,10 +239,6 @@ bytes_ended i t g a (d ∷ older) by l = elim (cases_Bool (overwrites d.step a))
   | inl e ↦ rw (e, le-leb d.at.start t (omega arith)) refl
   | inr e ↦ rw e (bytes_ended i t g a older by.1 l)
 ]
-
-bytes_kept : (i : Loaded) (x : Step) (steps : List Step) (a : ℕ) → is_store x ≡ false
-    → byte_after i (x ∷ steps) a ≡ byte_after i steps a
-bytes_kept i x steps a e = rw e refl
 
 -- what a run that is over leaves
 pub record IsOver {i : Loaded} {config : Configuration} {n : ℕ} (run : RunEndsAfter i config n) (s : Core) : Type 0
@@ -278,10 +258,6 @@ all_issued {config} {i} {n} t count run few next l = elim (cases_order count (n 
   | inr (inr more) ↦ absurd (omega arith)
 ]
 
-steps_last : (config : Configuration) (i : Loaded) (n : ℕ) (x : Step) → step_after i n ≡ Some x
-    → steps_in (first_timed config i (n + 1)) ≡ x ∷ first_steps i n
-steps_last config i n x e = steps_are config i (n + 1) ∙ step_joins i n x e
-
 over_at : {config : Configuration} {i : Loaded} {n : ℕ} (t : ℕ) (s : Front) (m : Bytes) (run : RunEndsAfter i config n)
     → IsSnapshot i config n t (core (n + 1) s m) → greatest_end (first_timed config i (n + 1)) ≤ t
     → IsOver run (core (n + 1) s m)
@@ -291,29 +267,26 @@ over_at {config} {i} {n} t rest m run shot l =
     let h : List Done = first_timed config i (n + 1) in
     let last = stops t run in
     let kind_is = step_ends_it i n s kind last.0 run.ends last.1 in
-    let steps = steps_last config i n last.0 last.1 in
+    let steps = steps_are config i (n + 1) ∙ step_joins i n last.0 last.1 in
     let leaves : Leaves i (first_steps i n) s = end_is i n s kind run.loaded run.ends in
     let state : IsState s = run_state i n s run.loaded run.ends.leads in
-    let follows = step_follows i n n s kind last.0 run.loaded run.ends (omega arith) last.1 in
-    let pc : last.0.pc ≡ s.pc = follows.pc ∙ sym leaves.pc in
+    let pc = (step_follows i n n s kind last.0 run.loaded run.ends (omega arith) last.1).pc ∙ sym leaves.pc in
     let no_dest : step_dest last.0 ≡ None = end_writes_no_register last.0 kind kind_is in
     let no_store : is_store last.0 ≡ false = end_writes_no_byte last.0 kind kind_is in
     let by = timed_by config h run.lawful (run_timed i (n + 1) run.lawful) in
     let status : ShowsRegisters i t h rest.registers = shot.issue.shown.status in
-    let fetch : rest.fetch ≡ Stopped kind last.0.pc = shot.issue.shown.from ∙ last.2 in
-    let size : length m.bytes ≡ i.window.size = shot.bytes.size in
     let base : m.base ≡ i.window.base = shot.bytes.base in
     record {
       steps = refl;
-      stopped = fetch ∙ ap (λ (x : ℕ). Stopped kind x) pc;
+      stopped = shot.issue.shown.from ∙ last.2 ∙ ap (λ (x : ℕ). Stopped kind x) pc;
       regs = same_registers i (first_steps i n) s rest.registers.values leaves state status.count
           (λ r k. status.values r k (no_writer t h r l)
-          ∙ (ap (λ xs. register_after i xs r) steps ∙ end_values i last.0 (first_steps i n) r no_dest));
+          ∙ (ap (λ xs. register_after i xs r) steps ∙ rw no_dest refl));
       base = base ∙ sym (ap (λ x. x.window.base) leaves.image);
       bytes = same_memory i (first_steps i n) s m.bytes leaves state (record {
-        count = size;
+        count = shot.bytes.size;
         each = λ a low high. rw base at (shot.bytes.bytes a low high) ∙ (bytes_ended i t (greatest_end h) a h by l
-            ∙ (ap (λ xs. byte_after i xs a) steps ∙ bytes_kept i last.0 (first_steps i n) a no_store));
+            ∙ (ap (λ xs. byte_after i xs a) steps ∙ rw no_store refl));
       });
     }
 

@@ -20,6 +20,7 @@ use Rattle.tomex_cycle.proofs.Runs.{AreLater, reach, issued_up_to, starts_after}
 use Rattle.tomex_cycle.proofs.StartsPicked.{ready_is, no_address}
 use Rattle.tomex_cycle.proofs.Truth.{some_not_none}
 use Rattle.tomex_cycle.proofs.Known.{free_to}
+use Rattle.tomex_cycle.specs.Views.{front}
 
 -- after the step that held a place has ended the place is empty, since no younger step could take it before
 left_empty : {i : Loaded} {config : Configuration} (t u x : ℕ) (newer : List Done) (d : Done) (older : List Done)

@@ -14,6 +14,7 @@ use Rattle.tomex_cycle.proofs.Words.{place_of, Core, zero, suc, ◌-◌, true, �
 use Rattle.tomex_cycle.proofs.Places.{low, AreLow, IsLow, same_place, turn_and, issued_more}
 use Rattle.tomex_cycle.proofs.Quiet.{AllSteady, AllQuiet}
 use Rattle.tomex_cycle.proofs.Runs.{next_done, not_by, run_next, run_timed, step_is}
+use Rattle.tomex_cycle.specs.Views.{front}
 
 a_same : (t imm address cycle : ℕ) (memory : Bool) → (if memory then Some (if nat_lt t cycle then imm else address) else
     None) ≡ a_from memory (if memory && nat_le cycle t then Some address else None) imm

@@ -11,7 +11,7 @@ use Rattle.tomex_cycle.proofs.Quiet.{AllSteady, HasResult, settled_next, settled
 use Rattle.tomex_cycle.proofs.Runs.{rest_to, run_timed, issued_up_to, run_whole}
 use Rattle.tomex_cycle.proofs.Shows.{AllSteadyAfter, AllQuietAfter, shifted}
 use Rattle.tomex_cycle.proofs.SettledStations.{issued_free, issued_results, later_settled, later_due}
-use Rattle.tomex_cycle.proofs.Outer.{running_low, seen_is, sound_next, sound_run}
+use Rattle.tomex_cycle.proofs.Outer.{running_low, seen_is, sound_next, sound_run, seen_at}
 use Rattle.tomex_cycle.proofs.Cycles.{finish_happens, over_happens, run_happens, quiet_none}
 use Rattle.tomex_cycle.specs.declared.progress.CycleOutcome.TheVariants as made_as
 
@@ -164,19 +164,10 @@ sound_counted made sound = record {
 
 -- what contracts see of it
 pub later_seen : {A : Type 0} {i : Loaded} {config : Configuration} {cycle w : ℕ} {last now : Progress}
-    {inner : Inner A} {seen : Seen}
-    → ◌≡◌ {A = Seen} (record { image = i; config = config; cycle = cycle; status = last }) seen
-    → IsSound i config w now inner → EndsWithin seen.image 262144
-    → ◌≡◌ {A = Seen} (record { image = i; config = config; cycle = w; status = now }) (seen_after seen.image seen.config
-    w)
+    {inner : Inner A} {seen : Seen} → seen_at i config cycle last ≡ seen → IsSound i config w now inner
+    → EndsWithin seen.image 262144 → seen_at i config w now ≡ seen_after seen.image seen.config w
 later_seen {i} {config} {w = w} {now = now} e sound =
-    let P : Seen → Type 0 = λ x. EndsWithin x.image 262144 → ◌≡◌ {A = Seen} (record {
-      image = i;
-      config =
-          config;
-      cycle = w;
-      status = now;
-    }) (seen_after x.image x.config w) in
+    let P : Seen → Type 0 = λ x. EndsWithin x.image 262144 → seen_at i config w now ≡ seen_after x.image x.config w in
     subst P e (λ ends. seen_is sound ends)
 
 -- What is made and what is passed, as counts of cycles see it.

@@ -7,7 +7,7 @@ use Rattle.tomex_cycle.proofs.Words.{if◌then◌else◌, IfSome, and_parts, Byt
 use Rattle.tomex_cycle.proofs.Words.{stored_byte, bytes_of, AllInside, HaveStored, stored_at, written_by, step_in}
 use Rattle.tomex_cycle.proofs.Words.{IsSetOf, length, slice_index_or, slice_set, ℕ, ◌+◌, ◌<◌, ◌≡◌, ◌∙◌, Bool, true}
 use Rattle.tomex_cycle.proofs.Words.{false, arith, refl, Option, Some, None, ap, sym, inl, inr, ◌≤◌, zero, suc, List}
-use Rattle.tomex_cycle.proofs.Words.{HasStored, holds_store}
+use Rattle.tomex_cycle.proofs.Words.{HasStored, holds_store, and_right}
 use Rattle.tomex_cycle.proofs.Truth.{IsTaken, IsTurn, turn_at}
 
 pub none_begun : (config : Configuration) (next : ℕ) (m : Bytes) (picked : ℕ) (st : Pools) → length st.slots ≡ 96
@@ -236,10 +236,7 @@ stores_not : (o : Option Station) (picked : Bool) (a before : ℕ) → holds_sto
 stores_not None picked a before none = refl
 stores_not (Some s) picked a before none =
     let not_here : overwrites (step_in s) a ≡ false = ap (λ b. b && covers (step_in s) a) none in
-    rw (not_here, and_false picked) refl
-  where
-    and_false : (b : Bool) → (b && false) ≡ false
-    and_false b = grind (arith, nat_tests)
+    rw (not_here, and_right picked false refl) refl
 
 same_stored : (o : Option Station) (picked kept : Bool) (a before : ℕ)
     → (kept ≡ false → stored_at picked o a before ≡ before)

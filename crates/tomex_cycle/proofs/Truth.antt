@@ -13,9 +13,6 @@ or_false a = grind (arith, nat_tests)
 pub and_false : (a : Bool) → (a && false) ≡ false
 and_false a = grind (arith, nat_tests)
 
-pub or_one : (a b : Bool) → b ≡ true → (a || b) ≡ true
-or_one a b e = grind (arith, nat_tests)
-
 pub ok_not_err : {A E : Type 0} (r : Result A E) (x : A) (y : E) → r ≡ Ok x → r ≡ Err y → ⊥
 ok_not_err r x y e f = cc
 
