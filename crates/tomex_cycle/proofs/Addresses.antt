@@ -287,8 +287,7 @@ low_by t x d None few before e = elim (cases_Bool (waits_for_address t d)) [
 
 chosen_low : (t x : ℕ) (h : List Done) → AreLow h → chosen t h ≡ Some x → x < 96
 chosen_low t x [] few e = absurd (cc)
-chosen_low t x (d ∷ older) few e =
-    low_by t x d (chosen t older) few.0 (λ y f. chosen_low t y older few.1 f) e
+chosen_low t x (d ∷ older) few e = low_by t x d (chosen t older) few.0 (λ y f. chosen_low t y older few.1 f) e
 
 pub made_some : (next x : ℕ) (old new : Pools) (o : Option Station) → AreBusy old.slots old.busy old.issue_numbers
     → ((order : List ℕ) → IsInIssueOrder old.busy old.issue_numbers order → Some x ≡ next_address old.slots order)

@@ -228,8 +228,7 @@ made_ends config {next} old picked ends filled follows made heard_ i h t e up s 
         order_count = ap length m.issue_numbers ∙ shown.order_count;
         issue_numbers = λ x l. ap (λ xs. slice_index xs x) m.issue_numbers ∙ shown.issue_numbers x l;
       };
-      status = registers_at up e regs sent
-          (heard_ shown.places low (names_are up e shown regs) regs.count regs.status);
+      status = registers_at up e regs sent (heard_ shown.places low (names_are up e shown regs) regs.count regs.status);
       from = follow_is h up e shown (rw s.from at follows);
     }
 

@@ -189,11 +189,7 @@ ends_silent p old new s l here dest slots issue_numbers count = record {
 received_hears : (p r v : ℕ) (rg : RegStatus) → r < 32 → ((q : ℕ) → q < 32 → names rg q p ≡ true → q ≡ r)
     → Hears (only p (Some v)) rg (registers_after rg r p v)
 received_hears p r v rg l named count status = elim (cases_Bool (names rg r p)) [
-  | inr e ↦ rw e (record {
-    count = count;
-    status = status;
-    fields = λ q k. grind (arith, nat_tests);
-  })
+  | inr e ↦ rw e (record { count = count; status = status; fields = λ q k. grind (arith, nat_tests) })
   | inl e ↦ rw e (record {
     count = length-set rg.values r v ∙ count;
     status = length-set rg.tags r None ∙ status;

@@ -64,8 +64,7 @@ made_from : (instr : Instruction) (pc : ℕ) (j k : Field) (start u finish value
       j = j;
       k = k;
       address = address;
-      finish = if nat_le start u
-          then Some finish else None;
+      finish = if nat_le start u then Some finish else None;
       value = if nat_le start u then value else 0;
     }) (new_station instr pc j k)
 made_from instr pc j k start u finish value address l e = rw (lt-leb start u l, e) refl
@@ -200,8 +199,7 @@ pub fetch_made : (i : Loaded) {config : Configuration} (t u : ℕ) (d : Done) (h
     → IsWithinLimits config → AreTimed config (d ∷ h) → d.at.issue ≡ u → u ≡ t + 1
     → ft ≡ fetch_after d.step (is_branch d.step) (end_of d.step) → ft ≡ fetch_of i t (d ∷ h)
 fetch_made i t u d h ft good timed at e is =
-    let late : is_branch d.step ≡ true → t < d.at.finish = λ b. (
-    let after : d.at.issue < d.at.start =
+    let late : is_branch d.step ≡ true → t < d.at.finish = λ b. ( let after : d.at.issue < d.at.start =
     starts_after d timed.0 (unit_with_pool d.step ∙ pool_in (step_pool d.step) pools.Bru b) in
     let r : d.at.start ≤ d.at.finish = (reach d h good timed).order in
     omega arith) in

@@ -36,8 +36,7 @@ known_same {slots} x {next} o l known fin send stay = record {
 }
 
 -- a place that is taken
-pub inside_of : (slots : List (Option Station)) (x : ℕ) (s : Station) → slot slots x ≡ Some s
-    → x < length slots
+pub inside_of : (slots : List (Option Station)) (x : ℕ) (s : Station) → slot slots x ≡ Some s → x < length slots
 inside_of slots x s at = elim (cases_Bool (nat_lt x (length slots))) [
   | inl l ↦ ltb-true _ _ l
   | inr l ↦ let z : Some s ≡ None = sym at ∙ get_or_past slots x None (ltb-false _ _ l) in absurd (cc)

@@ -265,8 +265,7 @@ leaves_none st buses {next} {g = g} filled now e none =
 
 -- what is due first, taken apart: results, which no branch has, and the others
 pub record IsApart (slots : List (Option Station)) (first results others : ℕ) : Type 0 where
-  pub results_are : (x : ℕ) → x < 128
-      → has results x ≡ (writes (slot slots x) && not (is_served units.Bru x))
+  pub results_are : (x : ℕ) → x < 128 → has results x ≡ (writes (slot slots x) && not (is_served units.Bru x))
   pub others_are : (x : ℕ) → x < 128 → has others x ≡ (has first x && not (has results x))
 
 pub apart_is : {slots : List (Option Station)} {first results others : ℕ} (writing served : ℕ)
@@ -297,8 +296,7 @@ are_results {slots} {next} {first} {results} known due split none x l e =
             let high : 80 ≤ x = ltb-false x 80 k in
             let branch : is_served units.Bru x ≡ true = branch_places x (omega arith) ∙ rw (
               le-leb 80 x high,
-              lt-ltb x
-                  96 l,
+              lt-ltb x 96 l,
             ) refl in
             absurd (cc)
       ],

@@ -182,8 +182,7 @@ not_vacant t x (n ∷ newer) w older held free = not_vacant t x newer w older he
 number_here : {i : Loaded} {config : Configuration} {s : ℕ} (end x : ℕ) (newer : List Done) (d : Done)
     (older : List Done) → IsUpTo i config s (newer ++ (d ∷ older)) → s ≤ end + 1 → holds_place end x d ≡ true
     → issue_number_at (newer ++ (d ∷ older)) x ≡ length older
-number_here end x [] d older up l held =
-    rw (and_parts (is_number (place_of d) x) (nat_lt end d.at.end) held).0 refl
+number_here end x [] d older up l held = rw (and_parts (is_number (place_of d) x) (nat_lt end d.at.end) held).0 refl
 number_here end x (n ∷ newer) d older up l held = elim (cases_Bool (is_number (place_of n) x)) [
   | inr e ↦ rw e (number_here end x newer d older (older_up_to up) l held)
   | inl e ↦ absurd (not_vacant end x newer d older held (vacant n (newer ++ (d ∷ older)) end x up l e))

@@ -50,37 +50,27 @@ IsSteady v d = IsQuietBut HasResult v d
 abbrev pub AllSteady : ℕ → List Done → Type 0
 AllSteady v h = AllByRecursion (IsSteady v) h
 
+-- what holds of each step follows of each from what follows of one
+all_so : {P Q : Done → Type 0} (h : List Done) → ((d : Done) → P d → Q d) → AllByRecursion P h → AllByRecursion Q h
+all_so [] one all = tt
+all_so (d ∷ h) one all = (one d all.0, all_so h one all.1)
+
 pub quiet_steady : (v : ℕ) (h : List Done) → AllQuiet v h → AllSteady v h
-quiet_steady v [] quiet = tt
-quiet_steady v (d ∷ h) quiet = (
-  record {
-    issue = quiet.0.issue;
-    address = quiet.0.address;
-    start = quiet.0.start;
-    finish = λ e. absurd (quiet.0.finish e);
-    end = quiet.0.end;
-  },
-  quiet_steady v h quiet.1,
-)
+quiet_steady v h = all_so h (λ d q. record {
+  issue = q.issue;
+  address = q.address;
+  start = q.start;
+  finish = λ e. absurd (q.finish e);
+  end = q.end;
+})
 
 quiet_rests : (v : ℕ) (h : List Done) → AllQuiet v h → AllAtRest v h
-quiet_rests v [] quiet = tt
-quiet_rests v (d ∷ h) quiet = (
-  record {
-    issue = quiet.0.issue;
-    address = quiet.0.address;
-    finish = quiet.0.finish;
-    end = quiet.0.end;
-  },
-  quiet_rests v h quiet.1,
-)
+quiet_rests v h =
+    all_so h (λ d q. record { issue = q.issue; address = q.address; finish = q.finish; end = q.end })
 
 pub settled_rests : (v : ℕ) (h : List Done) → AllSettled v h → AllAtRest v h
-settled_rests v [] settled = tt
-settled_rests v (d ∷ h) settled = (
-  record { issue = settled.0.issue; address = settled.0.address; finish = settled.0.finish; end = settled.0.end },
-  settled_rests v h settled.1,
-)
+settled_rests v h =
+    all_so h (λ d q. record { issue = q.issue; address = q.address; finish = q.finish; end = q.end })
 
 last_issue_quiet : (v : ℕ) (h : List Done) → 0 < v → AllAtRest v h → last_issue h ≢ v
 last_issue_quiet v [] l quiet e = omega arith

@@ -74,12 +74,7 @@ are_kept {i} {s = s} {t} {u} up e before after same = record {
         | inl l ↦
             let now = after.slots x small ∙ rw split (station_here (clocks u u u) newer d older x here (omega arith)
             (rw (place, l) refl)) in
-            record {
-              small = small;
-              late = ltb-true u d.at.end l;
-              slot = now;
-              stays = some_same (sym was ∙ now);
-            }
+            record { small = small; late = ltb-true u d.at.end l; slot = now; stays = some_same (sym was ∙ now) }
       ];
 }
 
@@ -279,8 +274,7 @@ issued_free {w = w} {h = h} up l shown free =
 -- they show only finishes of results
 pub issued_results : {i : Loaded} {config : Configuration} {u w : ℕ} {st : Pools} {h : List Done}
     → IsUpTo i config u h → u < w → ShowsStations i (clocks u u u) h st → AreResults st.slots w → AllDue HasResult u w h
-issued_results {w = w} {st} {h} up l shown results =
-    issued_due HasResult h up l (shows_part up (omega arith) shown) of
+issued_results {w = w} {st} {h} up l shown results = issued_due HasResult h up l (shows_part up (omega arith) shown) of
   where
     of : (d : Done) (x : ℕ) (s : Station) → x < 96 → place_of d ≡ Some x → slot st.slots x ≡ Some s
         → s.instr ≡ d.step.instr → finishes w (Some s) ≡ true → HasResult d

@@ -214,8 +214,7 @@ are_starting {config} {st} {next} all alu mul div mem bru together = record {
   are_startable = λ unit. (each unit).0;
   units = λ unit. (each unit).1;
   count = refl;
-  all = λ x l. together x ∙ ap
-      (λ z. has alu.set x || (has mul.set x || (has div.set x || (has mem.set x || z))))
+  all = λ x l. together x ∙ ap (λ z. has alu.set x || (has mul.set x || (has div.set x || (has mem.set x || z))))
       (sym (or_false (has bru.set x)));
 }
   where

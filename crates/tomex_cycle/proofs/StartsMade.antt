@@ -220,9 +220,7 @@ begins_at {i} {config} t u x newer (d ∷ older) m up e shown = elim (cases_Bool
       let all : IsUpTo i config t ((newer ++ (d ∷ [])) ++ older) = rw (append_assoc newer (d ∷ []) older) up in
       rw held (begins_at t u x (newer ++ (d ∷ [])) older m all e (rw (append_assoc newer (d ∷ []) older) shown))
   | inl held ↦ elim (cases_Bool (starts_in u d)) [
-    | inl starts ↦ rw (held, starts)
-        (ap (λ (s : Station). Some s) (begun_is t u d newer older m up e starts shown))
-    | inr starts ↦ rw (held, starts)
-        (ap (λ (s : Station). Some s) (kept_is t u d older (part_up_to newer up) e starts))
+    | inl starts ↦ rw (held, starts) (ap (λ (s : Station). Some s) (begun_is t u d newer older m up e starts shown))
+    | inr starts ↦ rw (held, starts) (ap (λ (s : Station). Some s) (kept_is t u d older (part_up_to newer up) e starts))
   ]
 ]
