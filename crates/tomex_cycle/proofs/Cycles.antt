@@ -7,11 +7,11 @@ use Rattle.tomex_cycle.proofs.Words.{Running, Ended, AreBusy, Pools, Core, Front
 use Rattle.tomex_cycle.proofs.Words.{◌+◌, ◌<◌, ◌≤◌, ◌≡◌, ◌∙◌, Bool, true, false, arith, refl, List, [], ◌∷◌, ◌++◌}
 use Rattle.tomex_cycle.proofs.Words.{Option, None, sym, inl, inr, ◌≢◌, nat_le, ◌&&◌, ◌==◌, is_some, w128, nat_tests}
 use Rattle.tomex_cycle.proofs.Words.{bit_at-trailing_zeros, both_ways, eq-eqb, eqb-true, ne_eqb, is_number, j_of}
-use Rattle.tomex_cycle.proofs.Words.{step_unit, Field, Value, Unread, Times, cycle_of, is_memory, field_of, has}
-use Rattle.tomex_cycle.proofs.Words.{has_one, AreDone, AreEnding, finishes, events_in, IsInIssueOrder, AreIssuedBy}
-use Rattle.tomex_cycle.proofs.Words.{IsStarting, Clocks, holds_place, order_of, place_of, station_at, station_of}
-use Rattle.tomex_cycle.proofs.Words.{ShowsStations, has_base, is_value, is_there, Station, slot, ◌^◌, Some, ap, ◌⊎◌}
-use Rattle.tomex_cycle.proofs.Words.{length, max, trailing_zeros, events_of, AddressHappens, EndsHappen, StartsHappen}
+use Rattle.tomex_cycle.proofs.Words.{step_unit, Field, Value, Unread, cycle_of, is_memory, field_of, has, has_one}
+use Rattle.tomex_cycle.proofs.Words.{AreDone, AreEnding, finishes, events_in, IsInIssueOrder, AreIssuedBy, IsStarting}
+use Rattle.tomex_cycle.proofs.Words.{Clocks, holds_place, order_of, place_of, station_at, station_of, ShowsStations}
+use Rattle.tomex_cycle.proofs.Words.{has_base, is_value, is_there, Station, slot, ◌^◌, Some, ap, ◌⊎◌, length, max}
+use Rattle.tomex_cycle.proofs.Words.{trailing_zeros, AddressHappens, EndsHappen, StartsHappen}
 use Rattle.tomex_cycle.proofs.Runs.{done_is, rest_to, run_timed, AreLater, issued_up_to, starts_after, store_unit}
 use Rattle.tomex_cycle.proofs.EndsFetch.{done_in, ending_low}
 use Rattle.tomex_timing.specs.declared.tables.Field.TheVariants.{Waits}
@@ -127,23 +127,6 @@ cycle_answer {i} {config} {n} {next} {s} {over} {p} run shown filled e f = progr
 
 -- What a phase or a station shows is an event of the cycle.
 
--- One event.
-
-issue_event : (u : ℕ) (at : Times) → at.issue ≡ u → 0 < events_of u at
-issue_event u at e = rw (eq-eqb at.issue u e) (omega arith)
-
-address_event : (u : ℕ) (at : Times) → cycle_of at.address ≡ u → 0 < events_of u at
-address_event u at e = rw (eq-eqb (cycle_of at.address) u e) (omega arith)
-
-start_event : (u : ℕ) (at : Times) → at.start ≡ u → 0 < events_of u at
-start_event u at e = rw (eq-eqb at.start u e) (omega arith)
-
-finish_event : (u : ℕ) (at : Times) → at.finish ≡ u → 0 < events_of u at
-finish_event u at e = rw (eq-eqb at.finish u e) (omega arith)
-
-end_event : (u : ℕ) (at : Times) → at.end ≡ u → 0 < events_of u at
-end_event u at e = rw (eq-eqb at.end u e) (omega arith)
-
 pub quiet_none : (u : ℕ) (h : List Done) → AllQuiet u h → events_in u h ≡ 0
 quiet_none u [] quiet = refl
 quiet_none u (d ∷ h) quiet = rw (
@@ -162,7 +145,7 @@ events_older u (d ∷ newer) h = let l : events_in u h ≤ events_in u (newer ++
 pub over_happens : (u : ℕ) (h : List Done) → 0 < u → greatest_end h ≡ u → 0 < events_in u h
 over_happens u [] l e = omega arith
 over_happens u (d ∷ h) l e = elim (cases_Bool (d.at.end == u)) [
-  | inl k ↦ let one : 0 < events_of u d.at = end_event u d.at (eqb-true _ _ k) in omega arith
+  | inl k ↦ rw k (omega arith)
   | inr k ↦
       let f : greatest_end h ≡ u = rest d.at.end (greatest_end h) u e k in
       let more : 0 < events_in u h = over_happens u h l f in
@@ -177,10 +160,7 @@ over_happens u (d ∷ h) l e = elim (cases_Bool (d.at.end == u)) [
 starts_happen : (t u x : ℕ) (h : List Done) → starts_at t u h x ≡ true → 0 < events_in u h
 starts_happen t u x [] e = absurd (cc)
 starts_happen t u x (d ∷ h) e = elim (cases_Bool (holds_place t x d)) [
-  | inl k ↦
-      let two = and_parts (is_some (step_unit d.step)) (d.at.start == u) (rw k at e) in
-      let one : 0 < events_of u d.at = start_event u d.at (eqb-true _ _ two.1) in
-      omega arith
+  | inl k ↦ rw (and_parts (is_some (step_unit d.step)) (d.at.start == u) (rw k at e)).1 (omega arith)
   | inr k ↦ let more : 0 < events_in u h = starts_happen t u x h (rw k at e) in omega arith
 ]
 
@@ -205,10 +185,7 @@ start_happens {t = t} {u} {h = h} {starting} up shown filled begins e fits some 
 ends_happen : (u x : ℕ) (h : List Done) → ends_in u h x ≡ true → 0 < events_in u h
 ends_happen u x [] e = absurd (cc)
 ends_happen u x (d ∷ h) e = elim (cases_Bool (is_number (place_of d) x && (d.at.end == u))) [
-  | inl k ↦
-      let two = and_parts (is_number (place_of d) x) (d.at.end == u) k in
-      let one : 0 < events_of u d.at = end_event u d.at (eqb-true _ _ two.1) in
-      omega arith
+  | inl k ↦ rw (and_parts (is_number (place_of d) x) (d.at.end == u) k).1 (omega arith)
   | inr k ↦ let more : 0 < events_in u h = ends_happen u x h (rw k at e) in omega arith
 ]
 
@@ -229,8 +206,7 @@ finish_happens i c v x [] e = absurd (cc)
 finish_happens i c v x (d ∷ h) e = elim (cases_Bool (holds_place c.end x d)) [
   | inl k ↦
       let f : finishes v (Some (station_of i c d h)) ≡ true = rw k at e in
-      let one : 0 < events_of v d.at = finish_event v d.at (done_in c.start d.at.start d.at.finish v f) in
-      omega arith
+      rw (eq-eqb d.at.finish v (done_in c.start d.at.start d.at.finish v f)) (omega arith)
   | inr k ↦ let more : 0 < events_in v h = finish_happens i c v x h (rw k at e) in omega arith
 ]
 
@@ -258,12 +234,10 @@ issue_happens {i} {config} t u count more run e yet l few apart issued =
     rw rest.1.same (some_issue t u rest.0 (first_timed config i count) e rest.1.later (rw rest.1.same at issued)
     (let c : more ≡ length rest.0 + count = rest.1.count in omega arith))
   where
-    some_issue : (t u : ℕ) (newer h : List Done) → u ≡ t + 1 → Rattle.tomex_cycle.proofs.Runs.AreLater t newer
-        → AreIssuedBy u (newer ++ h) → 0 < length newer → 0 < events_in u (newer ++ h)
+    some_issue : (t u : ℕ) (newer h : List Done) → u ≡ t + 1 → AreLater t newer → AreIssuedBy u (newer ++ h)
+        → 0 < length newer → 0 < events_in u (newer ++ h)
     some_issue t u [] h e later issued l = absurd (omega arith)
-    some_issue t u (d ∷ newer) h e later issued l =
-        let one : 0 < events_of u d.at = issue_event u d.at (omega arith) in
-        omega arith
+    some_issue t u (d ∷ newer) h e later issued l = rw (eq-eqb d.at.issue u (omega arith)) (omega arith)
 
 -- Addresses.
 
@@ -297,8 +271,7 @@ chosen_happens {t = t} {u} {x} (d ∷ older) up e shown c base =
           let value : is_value (field_of t older (j_of d.step)) ≡ true = ap has_base (sym slot) ∙ base in
           let at : cycle_of d.at.address ≡ u = eqb-true _ _ (sym test ∙ there_by (field_of t older (j_of d.step)) value)
           in
-          let one : 0 < events_of u d.at = address_event u d.at at in
-          omega arith
+          rw (eq-eqb (cycle_of d.at.address) u at) (omega arith)
     ]
 
 -- the phase, by the search for the next address

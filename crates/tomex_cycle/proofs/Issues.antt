@@ -199,10 +199,11 @@ pub fetch_made : (i : Loaded) {config : Configuration} (t u : ℕ) (d : Done) (h
     → IsWithinLimits config → AreTimed config (d ∷ h) → d.at.issue ≡ u → u ≡ t + 1
     → ft ≡ fetch_after d.step (is_branch d.step) (end_of d.step) → ft ≡ fetch_of i t (d ∷ h)
 fetch_made i t u d h ft good timed at e is =
-    let late : is_branch d.step ≡ true → t < d.at.finish = λ b. ( let after : d.at.issue < d.at.start =
-    starts_after d timed.0 (unit_with_pool d.step ∙ pool_in (step_pool d.step) pools.Bru b) in
-    let r : d.at.start ≤ d.at.finish = (reach d h good timed).order in
-    omega arith) in
+    let order : d.at.start ≤ d.at.finish = (reach d h good timed).order in
+    let late : is_branch d.step ≡ true → t < d.at.finish = λ b. (
+        let unit = unit_with_pool d.step ∙ pool_in (step_pool d.step) pools.Bru b in
+        let after : d.at.issue < d.at.start = starts_after d timed.0 unit in
+        omega arith) in
     is ∙ ap (λ (w : Bool). fetch_after d.step w (end_of d.step)) (branch_late (is_branch d.step) t d.at.finish late)
 
 -- What comes after it.

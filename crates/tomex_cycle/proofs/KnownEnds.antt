@@ -1,13 +1,13 @@
 -- What is known of the finishes ahead once a cycle has ended: what was due is over or waits for a bus.
 use Rattle.tomex_cycle.proofs.Words.{nat_le, nat_lt, ◌==◌, ◌≢◌, ◌&&◌, not, is_some, and_parts, and_right, nat_tests}
-use Rattle.tomex_cycle.proofs.Words.{both_ways, cases_Bool, eqb-true, eqb-false, le-leb, leb-true, lt-leb, lt-ltb}
-use Rattle.tomex_cycle.proofs.Words.{ltb-true, ltb-false, get_or_past, dest_of, is_number, IsPicked, none_picked, has}
-use Rattle.tomex_cycle.proofs.Words.{is_due, none_in, hears, is_served, AreBusy, Pools, IsSetOf, writes, Station}
-use Rattle.tomex_cycle.proofs.Words.{AreDone, AreEnding, IsDoneBranch, after_ends, can_send, ends_alone, finishes}
+use Rattle.tomex_cycle.proofs.Words.{both_ways, cases_Bool, eqb-true, eqb-false, le-leb, leb-true, lt-ltb, ltb-true}
+use Rattle.tomex_cycle.proofs.Words.{ltb-false, get_or_past, dest_of, is_number, IsPicked, none_picked, has, is_due}
+use Rattle.tomex_cycle.proofs.Words.{none_in, hears, is_served, AreBusy, Pools, IsSetOf, writes, Station, AreDone}
+use Rattle.tomex_cycle.proofs.Words.{AreEnding, IsDoneBranch, after_ends, can_send, ends_alone, finishes}
 use Rattle.tomex_cycle.proofs.Words.{is_finished_by, is_finished_before, IsTimetableOf, HaveTurned, LeavesTimetable}
 use Rattle.tomex_cycle.proofs.Words.{has_stayed, Finishes, ◌||◌, slot, AreResults, ℕ, ◌+◌, ◌^◌, ◌<◌, ◌≤◌, ◌≡◌, ◌∙◌}
 use Rattle.tomex_cycle.proofs.Words.{Bool, true, false, arith, refl, ap, sym, inl, inr, List, Option, Some, None}
-use Rattle.tomex_cycle.proofs.Words.{length, option_map, agreed, member_some, of_busy, AreTurned, AreDue}
+use Rattle.tomex_cycle.proofs.Words.{length, agreed, member_some, of_busy, AreTurned, AreDue}
 use Rattle.tomex_cycle.proofs.Cycles.{member_of}
 use Rattle.tomex_cycle.proofs.Known.{all_ahead}
 use Rattle.tomex_cycle.proofs.Truth.{or_cases}
@@ -25,19 +25,7 @@ all_due {slots} {next} known turned x l = turned.due x ∙ elim (place_or_none s
 
 alone_test : (next : ℕ) (finish : Option ℕ) (d : Bool) → (not d && is_finished_before finish next) ≡ false
     → (is_number finish next && not (is_number finish next && d)) ≡ (not d && is_finished_by finish next)
-alone_test next None d e = sym (and_right (not d) false refl)
-alone_test next (Some v) true e = off (v == next)
-  where
-    off : (b : Bool) → (b && not (b && true)) ≡ false
-    off b = grind (arith, nat_tests)
-alone_test next (Some v) false e = on (v == next) ∙ elim (cases_Bool (v == next)) [
-  | inl k ↦ let f : v ≡ next = eqb-true v next k in k ∙ sym (le-leb v next (omega arith))
-  | inr k ↦ let f : v ≢ next = eqb-false v next k in let g : next ≤ v = ltb-false v next e in
-      k ∙ sym (lt-leb v next (omega arith))
-]
-  where
-    on : (b : Bool) → (b && not (b && false)) ≡ b
-    on b = grind (arith, nat_tests)
+alone_test next finish d e = grind (arith, nat_tests)
 
 alone_is : (next : ℕ) (o : Option Station) → has_stayed next o ≡ false
     → (finishes next o && not (finishes next o && writes o)) ≡ (is_some o && ends_alone next o)
@@ -102,17 +90,13 @@ are_ending st buses {next} {due} {found} {sending} {g = g} filled now choice =
           (alone_is next (slot st.slots x) (stayed_past x now.known)));
     }
 
-heard_same : (test : Option Station → Bool) (sent : ℕ → Option ℕ) (o : Option Station)
-    → ((s : Station) → test (Some (hears sent s)) ≡ test (Some s)) → test (option_map (hears sent) o) ≡ test o
-heard_same test sent None same = refl
-heard_same test sent (Some s) same = same s
-
 -- the content of a place after the end of a cycle passes a test if it did before and hasn't ended
 after_test : (test : Option Station → Bool) (sent : ℕ → Option ℕ) (ended : Bool) (o : Option Station)
     → test None ≡ false → ((s : Station) → test (Some (hears sent s)) ≡ test (Some s))
     → test (after_ends ended sent o) ≡ (not ended && test o)
 after_test test sent true o none same = none
-after_test test sent false o none same = heard_same test sent o same
+after_test test sent false None none same = refl
+after_test test sent false (Some s) none same = same s
 
 before_next : (next : ℕ) (finish : Option ℕ)
     → is_finished_before finish (next + 1) ≡ (is_finished_before finish next || is_number finish next)
@@ -218,11 +202,9 @@ no_branch slots next due branches served done serves both none x from to =
     sym (done x (omega arith)) ∙ elim (cases_Bool (has due x)) [
       | inr e ↦ e
       | inl e ↦ absurd (both_ways (has branches x) (rw none (none_in x))
-          (both x ∙ rw (e, serves x (omega arith), branch_place x from to) refl))
+          (both x ∙ rw (e, serves x (omega arith), branch_places x (omega arith), le-leb 80 x from, lt-ltb x 96 to)
+          refl))
     ]
-  where
-    branch_place : (x : ℕ) → 80 ≤ x → x < 96 → is_served units.Bru x ≡ true
-    branch_place x from to = branch_places x (omega arith) ∙ rw (le-leb 80 x from, lt-ltb x 96 to) refl
 
 pub one_branch : (slots : List (Option Station)) (next due branches served x : ℕ) → AreDone slots next due
     → ((x : ℕ) → x < 128 → has served x ≡ is_served units.Bru x)
@@ -294,10 +276,8 @@ are_results {slots} {next} {first} {results} known due split none x l e =
         | inl k ↦ ltb-true x 80 k
         | inr k ↦
             let high : 80 ≤ x = ltb-false x 80 k in
-            let branch : is_served units.Bru x ≡ true = branch_places x (omega arith) ∙ rw (
-              le-leb 80 x high,
-              lt-ltb x 96 l,
-            ) refl in
+            let branch : is_served units.Bru x ≡ true =
+                branch_places x (omega arith) ∙ rw (le-leb 80 x high, lt-ltb x 96 l) refl in
             absurd (cc)
       ],
     )
