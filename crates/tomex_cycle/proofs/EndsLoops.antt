@@ -51,16 +51,10 @@ heard_same f k (Waits tag) e = ap (λ o. value_or_tag o tag) (sym (e (place_of_t
 
 hears_then : (f g k : ℕ → Option ℕ) (s : Station) → ((y : ℕ) → k y ≡ or_else (f y) (g y))
     → hears g (hears f s) ≡ hears k s
-hears_then f g k s e =
-    let a : Field → Station = λ x. record s { j = x; k = field_after g (field_after f s.k) } in
-    let b : Field → Station = λ x. record s { j = field_after k s.j; k = x } in
-    ap a (heard_then f g k s.j e) ∙ ap b (heard_then f g k s.k e)
+hears_then f g k s e = rw (heard_then f g k s.j e, heard_then f g k s.k e) refl
 
 hears_same : (f k : ℕ → Option ℕ) (s : Station) → ((y : ℕ) → k y ≡ f y) → hears f s ≡ hears k s
-hears_same f k s e =
-    let a : Field → Station = λ x. record s { j = x; k = field_after f s.k } in
-    let b : Field → Station = λ x. record s { j = field_after k s.j; k = x } in
-    ap a (heard_same f k s.j e) ∙ ap b (heard_same f k s.k e)
+hears_same f k s e = rw (heard_same f k s.j e, heard_same f k s.k e) refl
 
 ends_then : (a b : Bool) (f g k : ℕ → Option ℕ) (o : Option Station) → ((y : ℕ) → k y ≡ or_else (f y) (g y))
     → after_ends b g (after_ends a f o) ≡ after_ends (b || a) k o
@@ -220,9 +214,7 @@ hears_sending p r slots s rg new here dest l made named =
     one_register o q r e f = cc
 
 none_sent : (sent : ℕ → Option ℕ) (f : Field) → ((y : ℕ) → sent y ≡ None) → f ≡ field_after sent f
-none_sent sent (Value v) none = refl
-none_sent sent Unread none = refl
-none_sent sent (Waits tag) none = sym (ap (λ o. value_or_tag o tag) (none (place_of_tag tag)))
+none_sent sent f h2 = grind (arith, nat_tests)
 
 pub hears_none : (sent : ℕ → Option ℕ) (o : Option Station) → ((y : ℕ) → sent y ≡ None) → o ≡ after_ends false sent o
 hears_none sent o h2 = grind (arith, nat_tests)

@@ -3,16 +3,15 @@ use Rattle.std.proofs.lemmas.Bool.{MatchBool-at_true, MatchBool-at_false}
 use Rattle.tomex_cycle.proofs.Words.{nat_lt, nat_le, if◌then◌else◌, ◌&&◌, ◌==◌, is_some, count_by, MatchOption}
 use Rattle.tomex_cycle.proofs.Words.{nat_tests, not, MatchBool, cases_Bool, ltb-true, ltb-false, lt-ltb, and_parts}
 use Rattle.tomex_cycle.proofs.Words.{eqb-true, ne_eqb, both_ways, Loaded, Configuration, IsWithinLimits, PoolId}
-use Rattle.tomex_cycle.proofs.Words.{unit_at, is_number, step_dest, step_pool, Done, AreTimed, IsLeast, can_end, tag_at}
-use Rattle.tomex_cycle.proofs.Words.{clocks, holds_place, order_of, place_of, station_at, station_of, ShowsStations}
+use Rattle.tomex_cycle.proofs.Words.{unit_at, is_number, step_dest, step_pool, Done, AreTimed, can_end, tag_at, clocks}
+use Rattle.tomex_cycle.proofs.Words.{holds_place, order_of, place_of, station_at, station_of, ShowsStations}
 use Rattle.tomex_cycle.proofs.Words.{is_finished_by, AreEnding, can_send, ends_alone, is_finished_before, place_at}
 use Rattle.tomex_cycle.proofs.Words.{Pools, AreBusy, Station, has, IsInIssueOrder, ◌||◌, IsUpTo, slot, le-ltb, le-leb}
-use Rattle.tomex_cycle.proofs.Words.{eqb-false, Operand, Step, register_after, j_of, k_of, operand, Field, Tag}
-use Rattle.tomex_cycle.proofs.Words.{field_from, field_of, producer, steps_in, sent_at, ShowsRegisters, after_ends}
-use Rattle.tomex_cycle.proofs.Words.{sends_of, sent_below, HaveReceived, hears, field_after, RegStatus, ℕ, ◌+◌, ◌<◌}
-use Rattle.tomex_cycle.proofs.Words.{◌≤◌, ◌≡◌, ◌∙◌, Bool, true, false, arith, refl, List, [], ◌∷◌, Option, Some, None}
-use Rattle.tomex_cycle.proofs.Words.{ap, sym, inl, inr, ◌⊎◌, ◌++◌, append_assoc, slice_index, slice_index_or}
-use Rattle.tomex_cycle.proofs.Words.{least_test}
+use Rattle.tomex_cycle.proofs.Words.{eqb-false, Operand, Step, register_after, j_of, k_of, operand, Tag, field_from}
+use Rattle.tomex_cycle.proofs.Words.{field_of, producer, steps_in, sent_at, ShowsRegisters, after_ends, sends_of}
+use Rattle.tomex_cycle.proofs.Words.{sent_below, HaveReceived, hears, field_after, RegStatus, ℕ, ◌+◌, ◌<◌, ◌≤◌, ◌≡◌}
+use Rattle.tomex_cycle.proofs.Words.{◌∙◌, Bool, true, false, arith, refl, List, [], ◌∷◌, Option, Some, None, ap, sym}
+use Rattle.tomex_cycle.proofs.Words.{inl, inr, ◌⊎◌, ◌++◌, append_assoc, slice_index, slice_index_or, least_test}
 use Rattle.tomex_cycle.proofs.Places.{is_vacant, vacant, held_place, ShowsPart, shows_part, held_here, older_shown}
 use Rattle.tomex_cycle.proofs.Places.{older_up_to, AreLow, low, place_low, vacant_none, number_is_some, part_up_to}
 use Rattle.tomex_cycle.proofs.Runs.{reach}
@@ -34,6 +33,7 @@ sends_in u d = is_some (step_dest d.step) && (d.at.end == u)
 
 -- The test of a turn.
 
+-- what holds a place is timed by the clause for steps with a unit
 end_clause : (pool : Option PoolId) (station : Option ℕ) (p : ℕ) (A B C : Type 0) (dest : Bool)
     → place_at (tag_at pool station) ≡ Some p → MatchOption (unit_at pool) A (λ u. MatchBool dest B C)
     → MatchBool dest B C
@@ -60,11 +60,9 @@ one_ends {config = config} t u p d older up place next late =
     elim (cases_Bool (is_some (step_dest d.step))) [
       | inl dest ↦ rw dest (or_false (d.at.end == u))
       | inr dest ↦
-          let clause = end_clause (step_pool d.step) d.at.station p (d.at.end ≡ d.at.issue) (IsLeast
-          (can_end config older d.at.finish) d.at.end) (d.at.end ≡ d.at.finish) (is_some (step_dest d.step)) place
-          up.timed.0.end in
-          let same : d.at.end ≡ d.at.finish = MatchBool-at_false (IsLeast (can_end config older d.at.finish) d.at.end)
-          (d.at.end ≡ d.at.finish) dest clause in
+          let clause =
+              end_clause (step_pool d.step) d.at.station p _ _ _ (is_some (step_dest d.step)) place up.timed.0.end in
+          let same : d.at.end ≡ d.at.finish = MatchBool-at_false _ _ dest clause in
           let done : is_finished_by (if nat_le d.at.start u then Some d.at.finish else None) u ≡ (d.at.end == u) =
           by_is u d.at.start d.at.finish l ∙ (ap (λ k. nat_le k u) (sym same) ∙ last_is t u d.at.end next late) in
           rw (dest, done) refl
@@ -77,10 +75,9 @@ one_sends : {i : Loaded} {config : Configuration} {s : ℕ} (t u p : ℕ) (d : D
 one_sends {config = config} t u p d older up place next late = elim (cases_Bool (is_some (step_dest d.step))) [
   | inr dest ↦ rw dest refl
   | inl dest ↦
-      let sent = IsLeast (can_end config older d.at.finish) d.at.end in
-      let clause = end_clause (step_pool d.step) d.at.station p (d.at.end ≡ d.at.issue) sent (d.at.end ≡ d.at.finish)
-          (is_some (step_dest d.step)) place up.timed.0.end in
-      let least = MatchBool-at_true sent (d.at.end ≡ d.at.finish) dest clause in
+      let clause =
+          end_clause (step_pool d.step) d.at.station p _ _ _ (is_some (step_dest d.step)) place up.timed.0.end in
+      let least = MatchBool-at_true _ _ dest clause in
       let test = least_test (can_end config older d.at.finish) d.at.end u least (omega arith) in
       rw dest (sym test)
 ]
@@ -249,15 +246,7 @@ station_hears {i} t u newer d older up e follows =
     (j_cases d.step) in
     let k = field_hears t u d.step.vk d.step.instr.rs2 (newer ++ (d ∷ [])) older (k_of d.step) up e follows.vk
     (k_cases d.step) in
-    let a : Field → Station = λ x. record (station_of i (clocks u u t) d older) {
-      j = x;
-      k = field_of u older (k_of d.step);
-    } in
-    let b : Field → Station = λ x. record (station_of i (clocks u u t) d older) {
-      j = field_after (sent_at i u ((newer ++ (d ∷ [])) ++ older)) (field_of t older (j_of d.step));
-      k = x;
-    } in
-    ap a (sym j) ∙ ap b (sym k)
+    rw (j, k) refl
 
 -- The stations after the cycle.
 

@@ -6,14 +6,13 @@ use Rattle.tomex_cycle.proofs.Words.{is_store, j_of, k_of, Tag, Done, cycle_of, 
 use Rattle.tomex_cycle.proofs.Words.{IsTimed, IsLeast, are_conflicts_finished, can_address, conflicts, field_from}
 use Rattle.tomex_cycle.proofs.Words.{is_clear, clocks, order_of, station_of, no_option, is_finished_before, lets_pass}
 use Rattle.tomex_cycle.proofs.Words.{bytes_in, is_waiting, step_in, is_there, value_in, Pools, Station, ◌||◌, IsUpTo}
-use Rattle.tomex_cycle.proofs.Words.{slot, ◌==◌, count_by, MatchOption, ltb-true, and_parts, and_right, ne_eqb}
-use Rattle.tomex_cycle.proofs.Words.{option_of, UnitId, place_of_unit, is_number, step_pool, step_unit, unit_with_pool}
-use Rattle.tomex_cycle.proofs.Words.{is_of, can_start, has_unit, tag_at, tag_of, wanted, kind_if, kind_of, IsStarting}
-use Rattle.tomex_cycle.proofs.Words.{ShowsStations, holds_place, place_of, place_at, AreBusy, IsInIssueOrder, has}
-use Rattle.tomex_cycle.proofs.Words.{PoolId, is_free, onto_end, ℕ, ◌+◌, ◌<◌, ◌≤◌, ◌≡◌, ◌∙◌, Bool, true, false, arith}
-use Rattle.tomex_cycle.proofs.Words.{refl, List, [], ◌∷◌, ◌++◌, Option, Some, None, ap, sym, inl, inr, append-nil}
-use Rattle.tomex_cycle.proofs.Words.{length, slice_index, append_assoc, MatchBool-at_false, bytes_of_memory, share_none}
-use Rattle.tomex_cycle.proofs.Words.{least_test}
+use Rattle.tomex_cycle.proofs.Words.{slot, ◌==◌, count_by, ltb-true, and_parts, and_right, ne_eqb, option_of, UnitId}
+use Rattle.tomex_cycle.proofs.Words.{place_of_unit, is_number, step_unit, unit_with_pool, is_of, can_start, has_unit}
+use Rattle.tomex_cycle.proofs.Words.{wanted, kind_if, kind_of, IsStarting, ShowsStations, holds_place, place_of}
+use Rattle.tomex_cycle.proofs.Words.{AreBusy, IsInIssueOrder, has, onto_end, ℕ, ◌+◌, ◌<◌, ◌≤◌, ◌≡◌, ◌∙◌, Bool, true}
+use Rattle.tomex_cycle.proofs.Words.{false, arith, refl, List, [], ◌∷◌, ◌++◌, Option, Some, None, ap, sym, inl, inr}
+use Rattle.tomex_cycle.proofs.Words.{append-nil, length, slice_index, append_assoc, MatchBool-at_false, bytes_of_memory}
+use Rattle.tomex_cycle.proofs.Words.{share_none, least_test}
 use Rattle.tomex_cycle.proofs.Addresses.{order_here, address_rises}
 use Rattle.tomex_cycle.proofs.Runs.{reach, start_least}
 use Rattle.tomex_cycle.proofs.Fields.{there_test}
@@ -24,20 +23,14 @@ use Rattle.tomex_cycle.proofs.IssueOrder.{no_access}
 use Rattle.tomex_cycle.proofs.Orders.{AreAlone, goes_at, AreServed, Serves, picked_goes, order_is}
 use Rattle.tomex_rvdec.specs.declared.pool.UnitId.TheVariants as units
 
-and_swap : (a b c : Bool) → (a && (b && c)) ≡ ((a && b) && c)
+and_swap : (a b c : Bool) → (a && (b && c)) ≡ (b && (a && c))
 and_swap a b c = grind (arith, nat_tests)
 
 clear-append : (slots : List (Option Station)) (xs : List ℕ) (x : ℕ) (s : Station) (next : ℕ)
     → is_clear slots (xs ++ (x ∷ [])) s next ≡ (lets_pass (slot slots x) s next && is_clear slots xs s next)
 clear-append slots [] x s next = refl
-clear-append slots (y ∷ xs) x s next =
-    let before = clear-append slots xs x s next in
-    ap (λ b. lets_pass (slot slots y) s next && b) before ∙ (and_swap
-    (lets_pass (slot slots y) s next) (lets_pass (slot slots x) s next)
-    (is_clear slots xs s next) ∙ (ap (λ b. b && is_clear slots xs s next)
-    (and_swapped (lets_pass (slot slots y) s next) (lets_pass (slot slots x) s next)) ∙ sym
-    (and_swap (lets_pass (slot slots x) s next) (lets_pass (slot slots y) s next)
-    (is_clear slots xs s next))))
+clear-append slots (y ∷ xs) x s next = rw (clear-append slots xs x s next)
+    (and_swap (lets_pass (slot slots y) s next) (lets_pass (slot slots x) s next) (is_clear slots xs s next))
 
 -- Readiness.
 
@@ -218,28 +211,10 @@ order_on t d older younger = elim (cases_Bool (nat_lt t d.at.end)) [
     onto None = refl
     onto (Some x) = append_assoc (order_of t older) (x ∷ []) younger
 
-none_with : (pool : Option PoolId) (station : Option ℕ) (p : PoolId) (R : PoolId → ℕ → Type 0) → pool ≡ Some p
-    → tag_at pool station ≡ None → MatchOption pool (station ≡ None) (λ p. (n : ℕ) × (station ≡ Some n) × R p n) → ⊥
-none_with None station p R e f s = cc
-none_with (Some q) None p R e f s = let g : None ≡ Some s.0 = s.1 in cc
-none_with (Some q) (Some n) p R e f s = cc
-
-place_none : (tag : Option Tag) → place_at tag ≡ None → tag ≡ None
-place_none None e = refl
-place_none (Some t) e = absurd (cc)
-
-pool_none : (pool : Option PoolId) → ((p : PoolId) → pool ≡ Some p → ⊥) → pool ≡ None
-pool_none None never = refl
-pool_none (Some p) never = absurd (never p refl)
-
 -- what has no station uses no unit
 no_pool_unit : {config : Configuration} (d : Done) {older : List Done} → IsTimed config older d.step d.at
     → place_of d ≡ None → step_unit d.step ≡ None
-no_pool_unit d {older} timed e =
-    let none : tag_of d ≡ None = place_none (tag_of d) e in
-    let pool : step_pool d.step ≡ None = pool_none (step_pool d.step) (λ p f. none_with (step_pool d.step) d.at.station
-    p (λ p n. IsLeast (is_free p older d.at.issue) n) f none timed.station) in
-    no_option (step_unit d.step) (unit_with_pool d.step ∙ ap is_some pool)
+no_pool_unit d timed e = grind (arith, nat_tests, unit_with_pool d.step)
 
 -- one step of a kind is served by the recurrence
 one_serves : {i : Loaded} {config : Configuration} {t u set : ℕ} {st : Pools} (unit : UnitId) (d : Done)
@@ -252,7 +227,7 @@ one_serves {i} {config} {t} {u} {st = st} unit d older up f shown wants = record
       let r : d.at.start ≤ d.at.end = (reach d older up.lawful up.timed).start in
       none_of_start u d.at.start unit (step_unit d.step)
       (ne_eqb d.at.start u (λ (z : d.at.start ≡ u). absurd (omega arith)));
-  nowhere = λ none. no_unit (step_unit d.step) (no_pool_unit d up.timed.0 none);
+  nowhere = λ none. rw (no_pool_unit d up.timed.0 none) refl;
   ready = λ x held.
       let at = held_here shown x held in
       let small : x < 96 = at.small in
@@ -264,9 +239,6 @@ one_serves {i} {config} {t} {u} {st = st} unit d older up f shown wants = record
       (λ v. nat_lt (count_of v u older) (option_of config v).units)
       (λ v some. begins_is d older v up f (older_shown shown) some));
 }
-  where
-    no_unit : (o : Option UnitId) → o ≡ None → (is_of unit o && (d.at.start == u)) ≡ false
-    no_unit o e = rw e refl
 
 all_serve : {i : Loaded} {config : Configuration} {t u set : ℕ} {st : Pools} (unit : UnitId) (part : List Done)
     (younger : List ℕ) → IsUpTo i config t part → u ≡ t + 1 → ShowsPart i (clocks t t t) st part
