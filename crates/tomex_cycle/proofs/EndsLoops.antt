@@ -10,8 +10,8 @@ use Rattle.tomex_cycle.proofs.Words.{slice_index_or, option_map, ◌≤◌, inl,
 use Rattle.tomex_cycle.proofs.Words.{registers_after}
 use Rattle.tomex_timing.specs.declared.tables.Field.TheVariants.{Waits}
 use Rattle.tomex_cycle.proofs.Addresses.{or_else}
-use Rattle.tomex_cycle.proofs.Truth.{IsTaken, turn_at, some_not_none}
-use Rattle.tomex_cycle.proofs.Places.{place_or_none}
+use Rattle.tomex_cycle.proofs.Truth.{IsTaken, turn_at}
+use Rattle.tomex_cycle.proofs.Known.{inside_of}
 
 -- A broadcast to registers.
 
@@ -219,18 +219,13 @@ none_sent sent f h2 = grind (arith, nat_tests)
 pub hears_none : (sent : ℕ → Option ℕ) (o : Option Station) → ((y : ℕ) → sent y ≡ None) → o ≡ after_ends false sent o
 hears_none sent o h2 = grind (arith, nat_tests)
 
-wait_sets : (xs : List (Option Station)) (x : ℕ) (s : Station) → length xs ≡ 96 → slot xs x ≡ Some s → x < 96
-wait_sets xs x s count e = elim (place_or_none xs x count) [
-  | inl l ↦ l
-  | inr none ↦ absurd (some_not_none s (sym e ∙ none))
-]
-
 -- registers still name who they named
 named_still : {picked k : ℕ} {old s : Pools} {first r : RegStatus} → AreNamed old.slots first
     → AreEndedBelow picked k old s → length s.slots ≡ 96 → HaveReceived (sent_below old.slots picked k) first r
     → AreNamed s.slots r
 named_still {picked} {k} {old} {s} {first} {r} named so count heard_ q x l e station here =
-    let low : x < 96 = wait_sets s.slots x station count here in
+    let inside : x < length s.slots = inside_of s.slots x station here in
+    let low : x < 96 = omega arith in
     let before = named_by (sent_below old.slots picked k) (slice_index first.values q) (slice_index r.values q)
     (slice_index_or first.tags q None) (slice_index_or r.tags q None) x (heard_.fields q l) e in
     let from = stood (nat_lt x k && has picked x) (sent_below old.slots picked k) (slot old.slots x) station

@@ -7,7 +7,7 @@ use Rattle.tomex_cycle.proofs.Words.{◌||◌, IsUpTo, if◌then◌else◌, ⊤,
 use Rattle.tomex_cycle.proofs.Words.{length-append, sum_by-cons, IsPicked, holds_place, ℕ, ◌+◌, ◌<◌, ◌≤◌, ◌≡◌, ◌∙◌, ◌^◌}
 use Rattle.tomex_cycle.proofs.Words.{true, false, arith, refl, List, [], ◌∷◌, ◌++◌, Option, Some, None, ap, sym, inl}
 use Rattle.tomex_cycle.proofs.Words.{inr, length, slice_index, zero, suc, Bool, append-nil, take, filter, min}
-use Rattle.tomex_cycle.proofs.Words.{take-append-le, take_all, filter-append, first_picked, or_right}
+use Rattle.tomex_cycle.proofs.Words.{take-append-le, take_all, filter-append, first_picked, or_right, and_right}
 use Rattle.tomex_cycle.proofs.Places.{low, place_low, AreLow, ShowsPart, shows_part, held_here, older_shown}
 use Rattle.tomex_cycle.proofs.Truth.{or_false}
 
@@ -32,10 +32,7 @@ in_order i c (d ∷ older) x = in_by i c d older x (place_of d) refl (in_order i
       | inr l ↦ rw (e, l) before
     ]
     in_by i c d older x (Some p) e before = elim (cases_Bool (nat_lt c.end d.at.end)) [
-      | inr l ↦ elim (cases_Bool (p == x)) [
-        | inl k ↦ rw (e, l, k) before
-        | inr k ↦ rw (e, l, k) before
-      ]
+      | inr l ↦ rw (e, l, and_right (p == x) false refl) before
       | inl l ↦ elim (cases_Bool (p == x)) [
         | inl k ↦ rw (e, l, k, in-append (order_of c.end older) (p ∷ []) x)
             (sym (or_right (is_listed (order_of c.end older) x) ((p == x) || false) (rw k refl)))
@@ -216,9 +213,6 @@ one_more xs p n x l =
     let before : take n xs ≡ xs = take_all n xs (omega arith) in
     rw (whole, before) (in-append xs (p ∷ []) x ∙ ap (λ b. is_listed xs x || b) (or_false (p == x)))
 
-no_more : (xs : List ℕ) (p n : ℕ) → n ≤ length xs → take n (xs ++ (p ∷ [])) ≡ take n xs
-no_more xs p n l = take-append-le n xs (p ∷ []) l
-
 -- a step that is ready goes if fewer than n do
 ready_by : {t n set : ℕ} (p : ℕ) {goes : Done → Bool} {d : Done} {older : List Done} → place_of d ≡ Some p
     → nat_lt t d.at.end ≡ true → has set p ≡ true → Serves t n set goes d older
@@ -260,7 +254,7 @@ ready_by {t} {n} {set} p {goes} {d} {older} place late member serves alone befor
           let off : goes d ≡ false = ready ∙ le-ltb (count_by goes older) n (omega arith) in
           record {
             count = count_off goes d older off ∙ (rw (order, e, length-append) (omega arith));
-            taken = λ x. rw (order, e, no_more xs p n full) (ap (λ (ys : List ℕ). is_listed (take n ys) x) (sym e)
+            taken = λ x. rw (order, e, take-append-le n xs (p ∷ []) full) (ap (λ (ys : List ℕ). is_listed (take n ys) x) (sym e)
                 ∙ (before.taken x ∙ elim (cases_Bool (holds_place t x d)) [
                   | inr h ↦ rw h refl
                   | inl h ↦ rw (h, off) (alone x h)
@@ -303,10 +297,7 @@ served t n set goes (d ∷ older) each alone =
 -- Some of a listing are listed in issue order too.
 
 in-filter : (q : ℕ → Bool) (xs : List ℕ) (x : ℕ) → is_listed (filter q xs) x ≡ (q x && is_listed xs x)
-in-filter q [] x = sym (and_none (q x))
-  where
-    and_none : (a : Bool) → (a && false) ≡ false
-    and_none a = grind (arith, nat_tests)
+in-filter q [] x = sym (and_right (q x) false refl)
 in-filter q (y ∷ xs) x = elim (cases_Bool (q y)) [
   | inl e ↦ elim (cases_Bool (y == x)) [
     | inl k ↦ let same : y ≡ x = eqb-true y x k in rw (e, k, ← same, e) refl

@@ -53,9 +53,6 @@ later_one d x s a o p e =
     let f : (not true || nat_lt d.at.finish s) ≡ true = rw k at e in
     ltb-true d.at.finish s f
 
-none_leaves : (u a : ℕ) (d : Done) → (starts_in u d && overwrites d.step a) ≡ false → leaves u a d ≡ None
-none_leaves u a d e = rw e refl
-
 -- a step that leaves no byte changes none in later cycles
 made_same : (t u a : ℕ) (d : Done) {older : List Done} {config : Configuration} → IsTimed config older d.step d.at
     → d.at.issue ≤ t → u ≡ t + 1 → (starts_in u d && overwrites d.step a) ≡ false
@@ -90,7 +87,7 @@ left_on : {i : Loaded} {config : Configuration} (t u a : ℕ) (d : Done) (older 
     → IsUpTo i config t (d ∷ older) → u ≡ t + 1 → (starts_in u d && overwrites d.step a) ≡ false → Left i t u a older
     → Left i t u a (d ∷ older)
 left_on t u a d older up e quiet (none others byte) = none (λ x. elim
-    (cases_Bool (holds_place t x d)) [ inl h ↦ rw h (none_leaves u a d quiet) | inr h ↦ rw h (others x) ])
+    (cases_Bool (holds_place t x d)) [ inl h ↦ rw (h, quiet) refl | inr h ↦ rw h (others x) ])
     (rw (made_same t u a d up.timed.0 up.issued.0 e quiet, byte) refl)
 left_on t u a d older up e quiet (one y v small here others byte later) =
     let free : holds_place t y d ≡ false = elim (cases_Bool (holds_place t y d)) [
@@ -108,7 +105,7 @@ left_on t u a d older up e quiet (one y v small here others byte later) =
           rw o (lt-leb d.at.start u l)
     ] in
     one y v small (rw free here) (λ x other. elim (cases_Bool (holds_place t x d))
-    [ inl h ↦ rw h (none_leaves u a d quiet) | inr h ↦ rw h (others x other) ]) (rw unmade byte) (λ x s o clear. later x
+    [ inl h ↦ rw (h, quiet) refl | inr h ↦ rw h (others x other) ]) (rw unmade byte) (λ x s o clear. later x
     s o (and_parts (not (conflicts d.step x) || nat_lt d.at.finish s) (are_conflicts_finished older x s) clear).1)
 
 pub left_is : {i : Loaded} {config : Configuration} (t u a : ℕ) (h : List Done) → IsUpTo i config t h → u ≡ t + 1
