@@ -1,37 +1,30 @@
 -- Operands: which are there, and what a broadcast makes of those that wait.
-use Rattle.std.proofs.Common.{ℕ, ◌+◌, ◌<◌, ◌≤◌, ◌≡◌, ◌∙◌, Bool, true, false, arith, refl, List, [], ◌∷◌, ◌++◌, Option}
-use Rattle.std.proofs.Common.{Some, None, ap, sym, inl, inr, append_assoc, ◌⊎◌}
-use Rattle.tomex_cycle.proofs.Words.{nat_lt, if◌then◌else◌, ◌&&◌, ◌==◌, not, is_some, is_none, MatchOption, cases_Bool}
-use Rattle.tomex_cycle.proofs.Words.{nat_tests}
+use Rattle.tomex_timing.proofs.Holders.{station_there}
+use Rattle.tomex_cycle.proofs.Words.{nat_lt, if◌then◌else◌, ◌&&◌, ◌==◌, not, is_some, is_none, cases_Bool, nat_tests}
 use Rattle.tomex_cycle.proofs.Words.{ltb-true, ltb-false, lt-ltb, le-ltb, and_parts, eqb-true, eqb-false, eq-eqb}
-use Rattle.tomex_cycle.proofs.Words.{Loaded, Configuration, IsWithinLimits, PoolId, UnitId, unit_at, dest_needs_pool}
-use Rattle.tomex_cycle.proofs.Words.{cycle_of, source_end, writer_end, IsLeast, can_start, AreTimed, IsTimed, Operand}
-use Rattle.tomex_cycle.proofs.Words.{result_of, byte_after, register_after, is_number, step_dest, step_pool, Value, Tag}
-use Rattle.tomex_cycle.proofs.Words.{Done, field_of, field_from, producer, tag_of, unsent_tag, AreIssuedBy, steps_in}
-use Rattle.tomex_cycle.proofs.Words.{holds_place, place_of, sent_at, field_after, is_there, place_at, place_of_tag}
-use Rattle.tomex_cycle.proofs.Cycles.{can_start_later}
+use Rattle.tomex_cycle.proofs.Words.{Loaded, Configuration, PoolId, dest_needs_pool, source_end, writer_end, IsTimed}
+use Rattle.tomex_cycle.proofs.Words.{Operand, result_of, byte_after, register_after, is_number, step_dest, step_pool}
+use Rattle.tomex_cycle.proofs.Words.{Value, Tag, Done, field_of, field_from, producer, tag_of, unsent_tag, steps_in}
+use Rattle.tomex_cycle.proofs.Words.{holds_place, place_of, sent_at, field_after, is_there, place_of_tag, IsUpTo}
+use Rattle.tomex_cycle.proofs.Words.{unit_with_pool, ℕ, ◌+◌, ◌<◌, ◌≤◌, ◌≡◌, ◌∙◌, true, false, arith, refl, List, []}
+use Rattle.tomex_cycle.proofs.Words.{◌∷◌, ◌++◌, Option, Some, None, ap, sym, inl, inr, append_assoc}
 use Rattle.tomex_timing.specs.declared.tables.Field.TheVariants.{Waits}
-use Rattle.tomex_cycle.proofs.Places.{is_vacant, vacant}
-use Rattle.tomex_cycle.proofs.Totals.{place_there, reach}
-
--- the tag of a step that hasn't ended
-tag_from : (tag : Option Tag) → is_some (place_at tag) ≡ true → (t : Tag) × (tag ≡ Some t)
-tag_from None e = absurd (cc)
-tag_from (Some t) e = (t, refl)
+use Rattle.tomex_cycle.proofs.Places.{is_vacant, vacant, not_vacant, older_up_to, part_up_to}
+use Rattle.tomex_cycle.proofs.Runs.{reach, starts_after}
 
 pub tag_there : {config : Configuration} (d : Done) {older : List Done} (t : ℕ) → IsTimed config older d.step d.at
     → d.at.issue ≤ t → t < d.at.end → (tag : Tag) × (tag_of d ≡ Some tag)
-tag_there d t timed l k = tag_from (tag_of d) (place_there d timed (omega arith))
+tag_there {config} d {older} t timed l k = station_there config d older timed (omega arith)
 
-none_test : (config : Configuration) (t : ℕ) (h : List Done) (r : ℕ) → AreTimed config h → AreIssuedBy t h
+none_test : {i : Loaded} {config : Configuration} (t : ℕ) (h : List Done) (r : ℕ) → IsUpTo i config t h
     → is_none (producer t h r) ≡ nat_lt (writer_end h r) (t + 1)
-none_test config t [] r timed issued = rw (lt-ltb 0 (t + 1) (omega arith)) refl
-none_test config t (d ∷ older) r timed issued = elim (cases_Bool (is_number (step_dest d.step) r)) [
-  | inr e ↦ rw e (none_test config t older r timed.1 issued.1)
+none_test t [] r up = rw (lt-ltb 0 (t + 1) (omega arith)) refl
+none_test t (d ∷ older) r up = elim (cases_Bool (is_number (step_dest d.step) r)) [
+  | inr e ↦ rw e (none_test t older r (older_up_to up))
   | inl e ↦ elim (cases_Bool (nat_lt t d.at.end)) [
     | inl l ↦
         let k : t < d.at.end = ltb-true _ _ l in
-        let tag = tag_there d t timed.0 issued.0 k in
+        let tag = tag_there d t up.timed.0 up.issued.0 k in
         rw (e, l, tag.1, le-ltb d.at.end (t + 1) (omega arith)) refl
     | inr l ↦
         let k : d.at.end ≤ t = ltb-false _ _ l in
@@ -44,11 +37,10 @@ there_from v None = refl
 there_from v (Some tag) = refl
 
 -- an operand is there after cycle t exactly if its producer has ended before the next one: the recurrence's test
-pub there_test : (config : Configuration) (t : ℕ) (h : List Done) (o : Option Operand) → AreTimed config h
-    → AreIssuedBy t h → is_there (field_of t h o) ≡ nat_lt (source_end h o) (t + 1)
-there_test config t h None timed issued = rw (lt-ltb 0 (t + 1) (omega arith)) refl
-there_test config t h (Some o) timed issued = there_from o.value (producer t h o.register)
-    ∙ none_test config t h o.register timed issued
+pub there_test : {i : Loaded} {config : Configuration} (t : ℕ) (h : List Done) (o : Option Operand)
+    → IsUpTo i config t h → is_there (field_of t h o) ≡ nat_lt (source_end h o) (t + 1)
+there_test t h None up = rw (lt-ltb 0 (t + 1) (omega arith)) refl
+there_test t h (Some o) up = there_from o.value (producer t h o.register) ∙ none_test t h o.register up
 
 -- who holds no place sends nothing from it
 pub silent : (i : Loaded) (t u x : ℕ) (h : List Done) → u ≡ t + 1 → is_vacant t x h ≡ true → sent_at i u h x ≡ None
@@ -69,51 +61,37 @@ silent i t u x (d ∷ older) e free =
 abbrev sends : Loaded → ℕ → Done → List Done → Option ℕ
 sends i u w older = if w.at.end == u then Some (result_of w.step (byte_after i (steps_in older))) else None
 
-sent_here : (i : Loaded) {config : Configuration} (t u x : ℕ) (w : Done) (older : List Done) → IsWithinLimits config
-    → AreTimed config (w ∷ older) → w.at.issue ≤ u → u ≡ t + 1 → is_some (step_dest w.step) ≡ true
-    → is_number (place_of w) x ≡ true → sent_at i u (w ∷ older) x ≡ sends i u w older
-sent_here i t u x w older good timed l e dest at = elim (cases_Bool (w.at.end == u)) [
+sent_here : {i : Loaded} {config : Configuration} (t u x : ℕ) (w : Done) (older : List Done)
+    → IsUpTo i config u (w ∷ older) → u ≡ t + 1 → is_some (step_dest w.step) ≡ true → is_number (place_of w) x ≡ true
+    → sent_at i u (w ∷ older) x ≡ sends i u w older
+sent_here {i} t u x w older up e dest at = elim (cases_Bool (w.at.end == u)) [
   | inl k ↦ rw (at, dest, k) refl
-  | inr k ↦ rw (at, dest, k) (silent i t u x older e (vacant w older t x good timed (omega arith) at))
+  | inr k ↦ rw (at, dest, k) (silent i t u x older e (vacant w older t x up (omega arith) at))
 ]
 
 -- and nothing younger is sent from it
-pub sent_newer : (i : Loaded) {config : Configuration} (t u x : ℕ) (newer h : List Done) → IsWithinLimits config
-    → AreTimed config (newer ++ h) → AreIssuedBy u (newer ++ h) → u ≡ t + 1
+pub sent_newer : {i : Loaded} {config : Configuration} (t u x : ℕ) (newer h : List Done)
+    → IsUpTo i config u (newer ++ h) → u ≡ t + 1
     → ((n : Done) (between : List Done) → is_vacant t x (between ++ h) ≡ true → ⊥)
     → sent_at i u (newer ++ h) x ≡ sent_at i u h x
-sent_newer i t u x [] h good timed issued e held = refl
-sent_newer i t u x (n ∷ newer) h good timed issued e held = elim (cases_Bool (is_number (place_of n) x)) [
-  | inl at ↦ absurd (held n newer (vacant n (newer ++ h) t x good timed (let l : n.at.issue ≤ u = issued.0 in
-      omega arith) at))
-  | inr at ↦ rw at (sent_newer i t u x newer h good timed.1 issued.1 e held)
+sent_newer t u x [] h up e held = refl
+sent_newer t u x (n ∷ newer) h up e held = elim (cases_Bool (is_number (place_of n) x)) [
+  | inl at ↦ absurd (held n newer (vacant n (newer ++ h) t x up (omega arith) at))
+  | inr at ↦ rw at (sent_newer t u x newer h (older_up_to up) e held)
 ]
-
-pub unit_later : (pool : Option PoolId) (issue start : ℕ) (P : UnitId → ℕ → Bool)
-    → ((u : UnitId) (x : ℕ) → P u x ≡ true → issue < x) → is_some pool ≡ true
-    → MatchOption (unit_at pool) (start ≡ issue) (λ u. IsLeast (P u) start) → issue < start
-unit_later None issue start P later some timed = absurd (cc)
-unit_later (Some pool) issue start P later some timed = later _ start timed.0
-
-pool_cases : (pool : Option PoolId) → (pool ≡ None) ⊎ (is_some pool ≡ true)
-pool_cases None = inl refl
-pool_cases (Some p) = inr refl
 
 -- what writes a register ends after its issue
-pub dest_later : {config : Configuration} (d : Done) (older : List Done) → IsWithinLimits config
-    → AreTimed config (d ∷ older) → is_some (step_dest d.step) ≡ true → d.at.issue < d.at.end
-dest_later {config} d older good timed dest = elim (pool_cases (step_pool d.step)) [
-  | inl e ↦
-      let z : step_dest d.step ≡ None = dest_needs_pool d.step e in
-      let f : is_some {T = ℕ} None ≡ true = rw z at dest in
-      absurd (cc)
-  | inr e ↦
-      let r = reach d older good timed in
-      let l : d.at.issue < d.at.start = unit_later (step_pool d.step) d.at.issue d.at.start
-      (λ u. can_start config older d.step u d.at.issue (cycle_of d.at.address)) (can_start_later config d older) e
-      timed.0.start in
-      omega arith
-]
+pub dest_later : {i : Loaded} {config : Configuration} {s : ℕ} (d : Done) (older : List Done)
+    → IsUpTo i config s (d ∷ older) → is_some (step_dest d.step) ≡ true → d.at.issue < d.at.end
+dest_later d older up dest =
+    let pool : is_some (step_pool d.step) ≡ true = of (step_pool d.step) refl in
+    let r = reach d older up.lawful up.timed in
+    let l : d.at.issue < d.at.start = starts_after d up.timed.0 (unit_with_pool d.step ∙ pool) in
+    omega arith
+  where
+    of : (o : Option PoolId) → step_pool d.step ≡ o → is_some o ≡ true
+    of None e = let z : true ≡ false = sym dest ∙ ap is_some (dest_needs_pool d.step e) in absurd (cc)
+    of (Some p) e = refl
 
 -- the youngest writer of a register, if any
 pub data Writer (i : Loaded) (r : ℕ) (h : List Done) : Type 0 where
@@ -138,33 +116,14 @@ writer_is i r (d ∷ older) = elim (cases_Bool (is_number (step_dest d.step) r))
   | inr e ↦ writer_on i r d older e (writer_is i r older)
 ]
 
-pub not_vacant : (t x : ℕ) (newer : List Done) (w : Done) (older : List Done) → holds_place t x w ≡ true
-    → is_vacant t x (newer ++ (w ∷ older)) ≡ true → ⊥
-not_vacant t x [] w older held free =
-    let z : not (holds_place t x w) ≡ true = (and_parts (not (holds_place t x w)) (is_vacant t x older) free).0 in
-    absurd (cc)
-not_vacant t x (n ∷ newer) w older held free = not_vacant t x newer w older held
-    (and_parts (not (holds_place t x n)) (is_vacant t x (newer ++ (w ∷ older))) free).1
-
-pub timed_part : (config : Configuration) (newer h : List Done) → AreTimed config (newer ++ h) → AreTimed config h
-timed_part config [] h timed = timed
-timed_part config (d ∷ newer) h timed = timed_part config newer h timed.1
-
-pub issued_part : (t : ℕ) (newer h : List Done) → AreIssuedBy t (newer ++ h) → AreIssuedBy t h
-issued_part t [] h issued = issued
-issued_part t (d ∷ newer) h issued = issued_part t newer h issued.1
-
 -- what is sent from the place of w, which holds it
-pub sent_by : (i : Loaded) {config : Configuration} (t u x : ℕ) (newer : List Done) (w : Done) (older : List Done)
-    → IsWithinLimits config → AreTimed config (newer ++ (w ∷ older)) → AreIssuedBy u (newer ++ (w ∷ older)) → u ≡ t + 1
-    → is_some (step_dest w.step) ≡ true → holds_place t x w ≡ true
-    → sent_at i u (newer ++ (w ∷ older)) x ≡ sends i u w older
-sent_by i {config} t u x newer w older good timed issued e dest held =
+pub sent_by : {i : Loaded} {config : Configuration} (t u x : ℕ) (newer : List Done) (w : Done) (older : List Done)
+    → IsUpTo i config u (newer ++ (w ∷ older)) → u ≡ t + 1 → is_some (step_dest w.step) ≡ true
+    → holds_place t x w ≡ true → sent_at i u (newer ++ (w ∷ older)) x ≡ sends i u w older
+sent_by t u x newer w older up e dest held =
     let at : is_number (place_of w) x ≡ true = (and_parts (is_number (place_of w) x) (nat_lt t w.at.end) held).0 in
-    let l : w.at.issue ≤ u = (issued_part u newer (w ∷ older) issued).0 in
-    sent_newer i t u x newer (w ∷ older) good timed issued e
-    (λ n between free. not_vacant t x between w older held free)
-    ∙ sent_here i t u x w older good (timed_part config newer (w ∷ older) timed) l e dest at
+    sent_newer t u x newer (w ∷ older) up e (λ n between free. not_vacant t x between w older held free)
+    ∙ sent_here t u x w older (part_up_to newer up) e dest at
 
 waits_of : (v : ℕ) (w : Done) (t : ℕ) (tag : Tag) → tag_of w ≡ Some tag → t < w.at.end
     → field_from v (unsent_tag t w) ≡ Waits tag
@@ -177,20 +136,20 @@ place_is : (w : Done) (tag : Tag) (t : ℕ) → tag_of w ≡ Some tag → t < w.
     → holds_place t (place_of_tag tag) w ≡ true
 place_is w tag t e l = rw (e, lt-ltb t w.at.end l, eq-eqb (place_of_tag tag) (place_of_tag tag) refl) refl
 
-heard_from : (i : Loaded) {config : Configuration} (t u v : ℕ) (newer : List Done) (w : Done) (older : List Done)
-    → IsWithinLimits config → AreTimed config (newer ++ (w ∷ older)) → AreIssuedBy u (newer ++ (w ∷ older)) → u ≡ t + 1
-    → is_some (step_dest w.step) ≡ true → v ≡ result_of w.step (byte_after i (steps_in older))
-    → field_after (sent_at i u (newer ++ (w ∷ older))) (field_from v (unsent_tag t w)) ≡ field_from v (unsent_tag u w)
-heard_from i {config} t u v newer w older good timed issued e dest value = elim (cases_Bool (nat_lt t w.at.end)) [
+heard_from : {i : Loaded} {config : Configuration} (t u v : ℕ) (newer : List Done) (w : Done) (older : List Done)
+    → IsUpTo i config u (newer ++ (w ∷ older)) → u ≡ t + 1 → is_some (step_dest w.step) ≡ true
+    → v ≡ result_of w.step (byte_after i (steps_in older)) → field_after (sent_at i u (newer ++ (w ∷ older)))
+    (field_from v (unsent_tag t w)) ≡ field_from v (unsent_tag u w)
+heard_from {i} {config} t u v newer w older up e dest value = elim (cases_Bool (nat_lt t w.at.end)) [
   | inr l ↦
       let k : w.at.end ≤ t = ltb-false _ _ l in
       rw (value_of v w t k, value_of v w u (omega arith)) refl
   | inl l ↦
       let k : t < w.at.end = ltb-true _ _ l in
-      let late : w.at.issue < w.at.end = dest_later w older good (timed_part config newer (w ∷ older) timed) dest in
-      let tag = tag_from (tag_of w) (place_there w (timed_part config newer (w ∷ older) timed).0 late) in
-      let sent : sent_at i u (newer ++ (w ∷ older)) (place_of_tag tag.0) ≡ sends i u w older =
-      sent_by i t u (place_of_tag tag.0) newer w older good timed issued e dest (place_is w tag.0 t tag.1 k) in
+      let part = part_up_to newer up in
+      let tag = station_there config w older part.timed.0 (dest_later w older part dest) in
+      let sent : sent_at i u (newer ++ (w ∷ older)) (place_of_tag tag.0) ≡ sends i u w older = sent_by t u
+      (place_of_tag tag.0) newer w older up e dest (place_is w tag.0 t tag.1 k) in
       elim (cases_Bool (w.at.end == u)) [
         | inl m ↦
             let n : w.at.end ≡ u = eqb-true _ _ m in
@@ -203,21 +162,19 @@ heard_from i {config} t u v newer w older good timed issued e dest value = elim 
       ]
 ]
 
-heard_by : (i : Loaded) {config : Configuration} (t u : ℕ) (newer older : List Done) (o : Operand)
-    → IsWithinLimits config → AreTimed config (newer ++ older) → AreIssuedBy u (newer ++ older) → u ≡ t + 1
-    → o.value ≡ register_after i (steps_in older) o.register → Writer i o.register older
-    → field_after (sent_at i u (newer ++ older)) (field_of t older (Some o)) ≡ field_of u older (Some o)
-heard_by i t u newer older o good timed issued e value (nobody none) = rw (none t, none u) refl
-heard_by i t u newer older o good timed issued e value (writes between w behind split dest from result) =
+heard_by : {i : Loaded} {config : Configuration} (t u : ℕ) (newer older : List Done) (o : Operand)
+    → IsUpTo i config u (newer ++ older) → u ≡ t + 1 → o.value ≡ register_after i (steps_in older) o.register
+    → Writer i o.register older → field_after (sent_at i u (newer ++ older))
+    (field_of t older (Some o)) ≡ field_of u older (Some o)
+heard_by t u newer older o up e value (nobody none) = rw (none t, none u) refl
+heard_by {i} {config} t u newer older o up e value (writes between w behind split dest from result) =
     let whole = ap (λ xs. newer ++ xs) split ∙ sym (append_assoc newer between (w ∷ behind)) in
-    let one = heard_from i t u o.value (newer ++ between) w behind good (rw (← whole) timed) (rw (← whole) issued) e
-    dest (value ∙ result) in
-    rw (from t, from u, whole) one
+    let all : IsUpTo i config u ((newer ++ between) ++ (w ∷ behind)) = rw (← whole) up in
+    rw (from t, from u, whole)
+    (heard_from t u o.value (newer ++ between) w behind all e dest (value ∙ result))
 
 -- the broadcasts of a cycle make each operand what it is after that cycle
-pub heard_is : (i : Loaded) (config : Configuration) (t u : ℕ) (newer older : List Done) (o : Operand)
-    → IsWithinLimits config → AreTimed config (newer ++ older) → AreIssuedBy u (newer ++ older) → u ≡ t + 1
-    → o.value ≡ register_after i (steps_in older) o.register
+pub heard_is : {i : Loaded} {config : Configuration} (t u : ℕ) (newer older : List Done) (o : Operand)
+    → IsUpTo i config u (newer ++ older) → u ≡ t + 1 → o.value ≡ register_after i (steps_in older) o.register
     → field_after (sent_at i u (newer ++ older)) (field_of t older (Some o)) ≡ field_of u older (Some o)
-heard_is i config t u newer older o good timed issued e value =
-    heard_by i t u newer older o good timed issued e value (writer_is i o.register older)
+heard_is {i} t u newer older o up e value = heard_by t u newer older o up e value (writer_is i o.register older)

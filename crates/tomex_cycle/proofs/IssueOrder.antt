@@ -1,14 +1,10 @@
 -- A search by issue order finds what a pass over the busy places, the oldest first, finds.
-use Rattle.std.proofs.Common.{ℕ, ◌<◌, ◌≤◌, ◌≡◌, ◌∙◌, Bool, true, false, arith, refl, ap, sym, inl, inr, List, [], ◌∷◌}
-use Rattle.std.proofs.Common.{◌++◌, Option, Some, None, slice_index, slice_index_or}
-use Rattle.std.specs.Prelude.{Decides}
 use Rattle.tomex_cycle.proofs.Words.{◌==◌, if◌then◌else◌, is_some, cases_Bool, both_ways, eqb-true, has, IsInIssueOrder}
 use Rattle.tomex_cycle.proofs.Words.{Rises, is_listed, Station, bytes_in, lacks_address, AreBusy, has_address, has_base}
-use Rattle.tomex_cycle.proofs.Words.{lets_pass, is_clear}
-use Rattle.tomex_membuf.specs.Addresses.{IsNextAddress, IsOldestLacking}
-use Rattle.tomex_membuf.specs.Order.{HasAtMostOneAccess, IsClear}
-use Rattle.tomex_membuf.proofs.Older.{lets_no_address, lets_none}
-use Rattle.tomex_bus.proofs.Listings.{in_head, in_tail}
+use Rattle.tomex_cycle.proofs.Words.{lets_pass, is_clear, slot, ℕ, ◌<◌, ◌≤◌, ◌≡◌, ◌∙◌, Bool, true, false, arith, refl}
+use Rattle.tomex_cycle.proofs.Words.{ap, sym, inl, inr, List, [], ◌∷◌, ◌++◌, Option, Some, None, slice_index, Decides}
+use Rattle.tomex_cycle.proofs.Words.{IsNextAddress, IsOldestLacking, HasAtMostOneAccess, IsClear, lets_no_address}
+use Rattle.tomex_cycle.proofs.Words.{lets_none, in_head, in_tail}
 
 -- Lists that rise.
 
@@ -49,26 +45,25 @@ part_in (z ∷ older) younger x y h = elim (cases_Bool (z == y)) [
 -- Older accesses.
 
 all_clear : (slots : List (Option Station)) (xs : List ℕ) (s : Station) (next : ℕ)
-    → ((x : ℕ) → is_listed xs x ≡ true → lets_pass (slice_index_or slots x None) s next ≡ true)
-    → is_clear slots xs s next ≡ true
+    → ((x : ℕ) → is_listed xs x ≡ true → lets_pass (slot slots x) s next ≡ true) → is_clear slots xs s next ≡ true
 all_clear slots [] s next each = refl
 all_clear slots (x ∷ xs) s next each =
     rw (each x (in_head x xs), all_clear slots xs s next (λ y h. each y (in_tail x y xs h))) refl
 
 not_clear : (slots : List (Option Station)) (xs : List ℕ) (s : Station) (next y : ℕ) → is_listed xs y ≡ true
-    → lets_pass (slice_index_or slots y None) s next ≡ false → is_clear slots xs s next ≡ false
+    → lets_pass (slot slots y) s next ≡ false → is_clear slots xs s next ≡ false
 not_clear slots [] s next y h e = absurd (cc)
 not_clear slots (x ∷ xs) s next y h e = elim (cases_Bool (x == y)) [
   | inl k ↦ let same : x ≡ y = eqb-true x y k in rw (same, e) refl
-  | inr k ↦ elim (cases_Bool (lets_pass (slice_index_or slots x None) s next)) [
+  | inr k ↦ elim (cases_Bool (lets_pass (slot slots x) s next)) [
     | inl l ↦ rw (l, not_clear slots xs s next y (rw k at h) e) refl
     | inr l ↦ rw l refl
   ]
 ]
 
 let_by : (slots : List (Option Station)) (xs : List ℕ) (s : Station) (next x : ℕ) → is_clear slots xs s next ≡ true
-    → is_listed xs x ≡ true → lets_pass (slice_index_or slots x None) s next ≡ true
-let_by slots xs s next x clear h = elim (cases_Bool (lets_pass (slice_index_or slots x None) s next)) [
+    → is_listed xs x ≡ true → lets_pass (slot slots x) s next ≡ true
+let_by slots xs s next x clear h = elim (cases_Bool (lets_pass (slot slots x) s next)) [
   | inl e ↦ e
   | inr e ↦ absurd (both_ways (is_clear slots xs s next) (not_clear slots xs s next x h e) clear)
 ]
@@ -90,7 +85,7 @@ clear_all : {slots : List (Option Station)} {busy : ℕ} {issue_numbers : List �
     → IsClear slots issue_numbers place s next
 clear_all {slots} {busy} {issue_numbers} older younger place s next filled by clear x l less = elim
     (cases_Bool (has busy x)) [
-      | inr e ↦ lets_free (slice_index_or slots x None) s next (sym (filled.each x l) ∙ e)
+      | inr e ↦ lets_free (slot slots x) s next (sym (filled.each x l) ∙ e)
       | inl e ↦ let_by slots older s next x clear
           (older_in issue_numbers older younger place x by.rises (sym (by.members x l) ∙ e) less)
     ]
@@ -111,16 +106,16 @@ clear_is false {slots} older younger place s next filled by says = elim (cases_B
 pub no_access : (slots : List (Option Station)) (xs : List ℕ) (s : Station) (next : ℕ) → bytes_in s ≡ None
     → is_clear slots xs s next ≡ true
 no_access slots [] s next e = refl
-no_access slots (x ∷ xs) s next e = rw (lets_none (slice_index_or slots x None) s next e) (no_access slots xs s next e)
+no_access slots (x ∷ xs) s next e = rw (lets_none (slot slots x) s next e) (no_access slots xs s next e)
 
 -- the one access with an address is in no way but its own
 pub alone_clear : (slots : List (Option Station)) {busy : ℕ} {issue_numbers : List ℕ} (older younger : List ℕ)
-    (place next : ℕ) (s : Station) → HasAtMostOneAccess slots → place < 128 → slice_index_or slots place None ≡ Some s
+    (place next : ℕ) (s : Station) → HasAtMostOneAccess slots → place < 128 → slot slots place ≡ Some s
     → has_address (Some s) ≡ true → IsInIssueOrder busy issue_numbers (older ++ (place ∷ younger))
     → is_clear slots older s next ≡ true
 alone_clear slots {issue_numbers} older younger place next s single l here access by = clear_by slots older younger
-    place s next by (λ x low less. elim (cases_Bool (has_address (slice_index_or slots x None))) [
-      | inr e ↦ lets_no_address (slice_index_or slots x None) s next e
+    place s next by (λ x low less. elim (cases_Bool (has_address (slot slots x))) [
+      | inr e ↦ lets_no_address (slot slots x) s next e
       | inl e ↦
           let same : x ≡ place = single x place low l e (ap has_address here ∙ access) in
           let none : slice_index issue_numbers place < slice_index issue_numbers place = rw same at less in
@@ -132,30 +127,28 @@ alone_clear slots {issue_numbers} older younger place next s single l here acces
 -- of the stations in these places, the first without its address
 abbrev pub first_waiting : List (Option Station) → List ℕ → Option ℕ
 first_waiting slots [] = None
-first_waiting slots (x ∷ xs) = if lacks_address (slice_index_or slots x None) then Some x else first_waiting slots xs
+first_waiting slots (x ∷ xs) = if lacks_address (slot slots x) then Some x else first_waiting slots xs
 
 abbrev pub where_base_is_there : List (Option Station) → Option ℕ → Option ℕ
 where_base_is_there slots None = None
-where_base_is_there slots (Some x) = if has_base (slice_index_or slots x None) then Some x else None
+where_base_is_there slots (Some x) = if has_base (slot slots x) then Some x else None
 
 -- over the busy places, the oldest first
 abbrev pub next_address : List (Option Station) → List ℕ → Option ℕ
 next_address slots order = where_base_is_there slots (first_waiting slots order)
 
 none_waits : (slots : List (Option Station)) (xs : List ℕ)
-    → ((x : ℕ) → is_listed xs x ≡ true → lacks_address (slice_index_or slots x None) ≡ false)
-    → first_waiting slots xs ≡ None
+    → ((x : ℕ) → is_listed xs x ≡ true → lacks_address (slot slots x) ≡ false) → first_waiting slots xs ≡ None
 none_waits slots [] each = refl
 none_waits slots (x ∷ xs) each = rw (each x (in_head x xs)) (none_waits slots xs (λ y h. each y (in_tail x y xs h)))
 
 oldest_waits : (slots : List (Option Station)) (issue_numbers xs : List ℕ) (x : ℕ) → Rises issue_numbers xs
-    → is_listed xs x ≡ true → lacks_address (slice_index_or slots x None) ≡ true
-    → ((y : ℕ) → is_listed xs y ≡ true → lacks_address (slice_index_or slots y None) ≡ true
-    → slice_index issue_numbers x ≤ slice_index issue_numbers y) → first_waiting slots xs ≡ Some x
+    → is_listed xs x ≡ true → lacks_address (slot slots x) ≡ true → ((y : ℕ) → is_listed xs y ≡ true → lacks_address
+    (slot slots y) ≡ true → slice_index issue_numbers x ≤ slice_index issue_numbers y) → first_waiting slots xs ≡ Some x
 oldest_waits slots issue_numbers [] x rises h e least = absurd (cc)
 oldest_waits slots issue_numbers (z ∷ zs) x rises h e least = elim (cases_Bool (z == x)) [
   | inl k ↦ let same : z ≡ x = eqb-true z x k in rw (same, e) refl
-  | inr k ↦ elim (cases_Bool (lacks_address (slice_index_or slots z None))) [
+  | inr k ↦ elim (cases_Bool (lacks_address (slot slots z))) [
     | inl m ↦
         let older : slice_index issue_numbers x ≤ slice_index issue_numbers z = least z (in_head z zs) m in
         let younger : slice_index issue_numbers z < slice_index issue_numbers x = rises.0 x (rw k at h) in
@@ -172,7 +165,7 @@ first_is : {slots : List (Option Station)} {busy : ℕ} {issue_numbers order : L
     → AreBusy slots busy issue_numbers → IsInIssueOrder busy issue_numbers order → IsOldestLacking slots issue_numbers x
     → first_waiting slots order ≡ Some x
 first_is {slots} {busy} {issue_numbers} {order} {x} filled by oldest =
-    let busy_there = filled.each x oldest.low ∙ lacks_busy (slice_index_or slots x None) oldest.lacks in
+    let busy_there = filled.each x oldest.low ∙ lacks_busy (slot slots x) oldest.lacks in
     oldest_waits slots issue_numbers order x by.rises (sym (by.members x oldest.low) ∙ busy_there) oldest.lacks
     (λ y h e. oldest.oldest y (by.low y h) e)
 

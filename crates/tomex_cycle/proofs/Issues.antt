@@ -1,33 +1,28 @@
 -- What the issue of a step makes of the stations, the register status and fetch.
-use Rattle.std.proofs.Common.{ℕ, ◌+◌, ◌<◌, ◌≤◌, ◌≡◌, ◌∙◌, Bool, true, arith, refl, List, ◌∷◌, Option, Some, None}
-use Rattle.std.proofs.Common.{ap, sym, inl, inr, length, slice_index_or, slice_set}
+use Rattle.tomex_timing.proofs.Orders.{address_rises as timed_address_rises}
 use Rattle.tomex_cycle.proofs.Words.{nat_lt, nat_le, ◌&&◌, ◌==◌, if◌then◌else◌, slice_index, option_map, IfSome}
-use Rattle.tomex_cycle.proofs.Words.{nat_tests, MatchOption, cases_Bool, ltb-true, lt-ltb, lt-leb, and_parts, eqb-true}
-use Rattle.tomex_cycle.proofs.Words.{eqb-false, get_or-set_same, get_or-set_other, length-set, Loaded, Configuration}
+use Rattle.tomex_cycle.proofs.Words.{nat_tests, MatchOption, cases_Bool, lt-ltb, lt-leb, eqb-true, eqb-false}
+use Rattle.tomex_cycle.proofs.Words.{get_or-set_same, get_or-set_other, length-set, Loaded, Configuration}
 use Rattle.tomex_cycle.proofs.Words.{IsWithinLimits, Form, PoolId, Instruction, form_of, sources_at, sources_of, Step}
-use Rattle.tomex_cycle.proofs.Words.{end_of, result_of, byte_after, register_after, address_of, is_branch, is_in}
-use Rattle.tomex_cycle.proofs.Words.{is_number, j_of, k_of, operand, step_dest, step_pool, dest_needs_pool, Field, Tag}
-use Rattle.tomex_cycle.proofs.Words.{Done, cycle_of, is_memory, AreTimed, IsTimed, IsLeast, can_issue}
-use Rattle.tomex_cycle.proofs.Words.{is_free, field_of, tag_at, tag_of, unsent_tag, issue_from, Fetch, IsYetToIssue}
-use Rattle.tomex_cycle.proofs.Words.{first_timed, steps_in, Clocks, ShowsRegisters, ShowsStations, clocks, fetch_after}
-use Rattle.tomex_cycle.proofs.Words.{fetch_of, place_of, station_at, station_of, issue_number_at, place_at, new_station}
-use Rattle.tomex_cycle.proofs.Words.{Pools, operand_in, tags_with, RegStatus, Station}
-use Rattle.tomex_rvdec.specs.declared.pool.PoolId.TheVariants as pools
+use Rattle.tomex_cycle.proofs.Words.{end_of, result_of, byte_after, register_after, address_of, is_branch, is_number}
+use Rattle.tomex_cycle.proofs.Words.{j_of, k_of, operand, step_dest, step_pool, dest_needs_pool, Field, Tag, Done}
+use Rattle.tomex_cycle.proofs.Words.{cycle_of, is_memory, AreTimed, IsTimed, IsLeast, can_issue, is_free, field_of}
+use Rattle.tomex_cycle.proofs.Words.{tag_at, tag_of, unsent_tag, issue_from, Fetch, IsYetToIssue, first_timed, steps_in}
+use Rattle.tomex_cycle.proofs.Words.{Clocks, ShowsRegisters, ShowsStations, clocks, fetch_after, fetch_of, place_of}
+use Rattle.tomex_cycle.proofs.Words.{station_at, station_of, issue_number_at, place_at, new_station, Pools, operand_in}
+use Rattle.tomex_cycle.proofs.Words.{tags_with, RegStatus, Station, is_some, unit_with_pool, ℕ, ◌+◌, ◌<◌, ◌≤◌, ◌≡◌, ◌∙◌}
+use Rattle.tomex_cycle.proofs.Words.{Bool, true, arith, refl, List, ◌∷◌, Option, Some, None, ap, sym, inl, inr, length}
+use Rattle.tomex_cycle.proofs.Words.{slice_index_or, slice_set}
 use Rattle.tomex_rvexec.specs.History.{Follows}
-use Rattle.tomex_cycle.proofs.AddressChosen.{address_is}
-use Rattle.tomex_cycle.proofs.Cycles.{can_start_later}
-use Rattle.tomex_cycle.proofs.Totals.{reach}
+use Rattle.tomex_cycle.proofs.Runs.{reach, starts_after}
+use Rattle.tomex_cycle.proofs.Truth.{pool_in, some_not_none}
+use Rattle.tomex_rvdec.specs.declared.pool.PoolId.TheVariants as pools
 
 -- The times of what issues lie after the cycle.
 
-starts_after : {config : Configuration} (d : Done) {older : List Done} (p : PoolId) → IsTimed config older d.step d.at
-    → step_pool d.step ≡ Some p → d.at.issue < d.at.start
-starts_after {config} d {older} p timed e = grind (arith, nat_tests, can_start_later config d older)
-
 address_after : {config : Configuration} (d : Done) {older : List Done} → IsTimed config older d.step d.at
     → is_memory d.step ≡ true → d.at.issue < cycle_of d.at.address
-address_after d timed e =
-    ltb-true d.at.issue (cycle_of d.at.address) (and_parts _ _ (and_parts _ _ (address_is d timed e).0).0).0
+address_after {config} d {older} timed e = (timed_address_rises config d older timed e).0
 
 -- Operands.
 
@@ -69,18 +64,16 @@ made_from : (instr : Instruction) (pc : ℕ) (j k : Field) (start u finish value
       j = j;
       k = k;
       address = address;
-      finish = if nat_le start u
-          then Some finish else None;
+      finish = if nat_le start u then Some finish else None;
       value = if nat_le start u then value else 0;
     }) (new_station instr pc j k)
 made_from instr pc j k start u finish value address l e = rw (lt-leb start u l, e) refl
 
 pub station_made : (i : Loaded) {config : Configuration} (t u : ℕ) (d : Done) {h : List Done} (p : PoolId)
-    → IsTimed config h d.step d.at → d.at.issue ≡ u → step_pool d.step ≡ Some p
-    → station_of i (clocks u u t) d h ≡ new_station d.step.instr d.step.pc (field_of t h (j_of d.step)) (field_of t h (k_of
-    d.step))
+    → IsTimed config h d.step d.at → d.at.issue ≡ u → step_pool d.step ≡ Some p → station_of i (clocks u u t) d h
+    ≡ new_station d.step.instr d.step.pc (field_of t h (j_of d.step)) (field_of t h (k_of d.step))
 station_made i t u d {h} p timed at pool =
-    let after : d.at.issue < d.at.start = starts_after d p timed pool in
+    let after : d.at.issue < d.at.start = starts_after d timed (unit_with_pool d.step ∙ ap is_some pool) in
     made_from d.step.instr d.step.pc (field_of t h (j_of d.step)) (field_of t h (k_of d.step)) d.at.start u d.at.finish
     (result_of d.step (byte_after i (steps_in h)))
     (if is_memory d.step && nat_le (cycle_of d.at.address) u then Some (address_of d.step) else None) (omega arith)
@@ -89,8 +82,8 @@ station_made i t u d {h} p timed at pool =
 
 -- its tag
 tag_from : (pool : Option PoolId) (station : Option ℕ) (p : PoolId) (n issue : ℕ) (older : List Done) → pool ≡ Some p
-    → IsLeast (is_free p older issue) n
-    → MatchOption pool (station ≡ None) (λ p. (n : ℕ) × (station ≡ Some n) × IsLeast (is_free p older issue) n)
+    → IsLeast (is_free p older issue) n → MatchOption pool (station ≡ None)
+    (λ p. (n : ℕ) × (station ≡ Some n) × IsLeast (is_free p older issue) n)
     → tag_at pool station ≡ Some (record { pool = p; number = n })
 tag_from pool station p n issue older h6 h7 h8 = grind (arith, nat_tests)
 
@@ -106,8 +99,8 @@ slot_with : (i : Loaded) (c : Clocks) (x y : ℕ) (d : Done) (h : List Done) →
     → station_at i c (d ∷ h) y ≡ (if x == y then Some (station_of i c d h) else station_at i c h y)
 slot_with i c x y d h e l = rw (lt-ltb c.end d.at.end l, e) (turned (x == y))
   where
-    turned : (b : Bool) → (if b && true then Some (station_of i c d h) else station_at i c h y)
-        ≡ (if b then Some (station_of i c d h) else station_at i c h y)
+    turned : (b : Bool) → (if b && true then Some (station_of i c d h) else station_at i c h y) ≡ (if b then Some
+        (station_of i c d h) else station_at i c h y)
     turned b = grind (arith, nat_tests)
 
 set_slot : (xs : List (Option Station)) (x y : ℕ) (s : Station) → x < length xs
@@ -126,17 +119,17 @@ number_with x y n d h issue_numbers place small count same before = elim (cases_
   | inr e ↦ rw (place, e) (get_or-set_other issue_numbers x y n 0 (λ z. eqb-false x y e (sym z)) ∙ before)
 ]
 
-pub stations_with : {i : Loaded} {c : Clocks} (x n : ℕ) (d : Done) {h : List Done} {old : Pools} (new : Pools)
-    (s : Station) → ShowsStations i c h old → place_of d ≡ Some x → x < 96 → c.end < d.at.end → n ≡ length h
-    → s ≡ station_of i c d h → new.slots ≡ slice_set old.slots x (Some s)
-    → new.issue_numbers ≡ slice_set old.issue_numbers x n → ShowsStations i c (d ∷ h) new
-stations_with {i} {c} x n d {h} {old} new s shown place small late count_is same slots issue_numbers = record {
-  places = ap length slots ∙ (length-set old.slots x (Some s) ∙ shown.places);
-  slots = λ y l. ap (λ xs. slice_index_or xs y None) slots ∙ (set_slot old.slots x y s (omega arith)
-      ∙ (rw (same, shown.slots y l) refl ∙ sym (slot_with i c x y d h place late)));
-  order_count = ap length issue_numbers ∙ (length-set old.issue_numbers x n ∙ shown.order_count);
-  issue_numbers = λ y l. ap (λ xs. slice_index xs y) issue_numbers
-      ∙ number_with x y n d h old.issue_numbers place small shown.order_count count_is (shown.issue_numbers y l);
+pub stations_with : {i : Loaded} {c : Clocks} (x : ℕ) (d : Done) {h : List Done} {old new : Pools}
+    → ShowsStations i c h old → place_of d ≡ Some x → x < 96 → c.end < d.at.end
+    → new.slots ≡ slice_set old.slots x (Some (station_of i c d h))
+    → new.issue_numbers ≡ slice_set old.issue_numbers x (length h) → ShowsStations i c (d ∷ h) new
+stations_with {i} {c} x d {h} {old} shown place small late slots issue_numbers = record {
+  places = ap length slots ∙ (length-set old.slots x (Some (station_of i c d h)) ∙ shown.places);
+  slots = λ y l. ap (λ xs. slice_index_or xs y None) slots ∙ (set_slot old.slots x y (station_of i c d h) (omega arith)
+      ∙ (rw (shown.slots y l) refl ∙ sym (slot_with i c x y d h place late)));
+  order_count = ap length issue_numbers ∙ (length-set old.issue_numbers x (length h) ∙ shown.order_count);
+  issue_numbers = λ y l. ap (λ xs. slice_index xs y) issue_numbers ∙ number_with x y (length h) d h old.issue_numbers
+      place small shown.order_count refl (shown.issue_numbers y l);
 }
 
 none_place : (pool : Option PoolId) (station : Option ℕ) → pool ≡ None → tag_at pool station ≡ None
@@ -158,8 +151,8 @@ stations_same d shown none =
 -- The registers.
 
 tags_at : (tags : List (Option Tag)) (dest : Option ℕ) (tag : Tag) (r : ℕ) → length tags ≡ 32
-    → IfSome dest (λ q. q < 32) → slice_index_or (tags_with tags dest tag) r None
-    ≡ (if is_number dest r then Some tag else slice_index_or tags r None)
+    → IfSome dest (λ q. q < 32) → slice_index_or (tags_with tags dest tag) r None ≡ (if is_number dest r then Some tag
+    else slice_index_or tags r None)
 tags_at tags None tag r count low = refl
 tags_at tags (Some q) tag r count low = elim (cases_Bool (q == r)) [
   | inl e ↦ let f : q ≡ r = eqb-true q r e in rw (e, ← f) (get_or-set_same tags q (Some tag) None (rw count low))
@@ -169,9 +162,6 @@ tags_at tags (Some q) tag r count low = elim (cases_Bool (q == r)) [
 tags_count : (tags : List (Option Tag)) (dest : Option ℕ) (tag : Tag) → length (tags_with tags dest tag) ≡ length tags
 tags_count tags None tag = refl
 tags_count tags (Some q) tag = length-set tags q (Some tag)
-
-some_none_tag : (tag : Tag) → Some tag ≡ None → ⊥
-some_none_tag tag e = cc
 
 pub registers_with : {i : Loaded} {t : ℕ} (tag : Tag) (d : Done) {h : List Done} {old : RegStatus} (new : RegStatus)
     → ShowsRegisters i t h old → tag_of d ≡ Some tag → t < d.at.end → IfSome (step_dest d.step) (λ q. q < 32)
@@ -184,7 +174,7 @@ registers_with {t} tag d {old} new shown is late low values tags =
       tags = λ r l. ap (λ xs. slice_index_or xs r None) tags
           ∙ (tags_at old.tags (step_dest d.step) tag r shown.status low ∙ rw (sent, shown.tags r l) refl);
       values = λ r l none. elim (cases_Bool (is_number (step_dest d.step) r)) [
-        | inl e ↦ absurd (some_none_tag tag (sym sent ∙ (rw e at none)))
+        | inl e ↦ absurd (some_not_none tag (sym sent ∙ (rw e at none)))
         | inr e ↦ rw e (ap (λ xs. slice_index xs r) values ∙ shown.values r l (rw e at none))
       ];
     }
@@ -202,10 +192,6 @@ registers_same d shown none =
 
 -- Fetch.
 
-branch_pool : (pool : Option PoolId) (p : PoolId) → is_in p pool ≡ true → (q : PoolId) × (pool ≡ Some q)
-branch_pool None p e = absurd (cc)
-branch_pool (Some q) p e = (q, refl)
-
 branch_late : (b : Bool) (t finish : ℕ) → (b ≡ true → t < finish) → b ≡ (b && nat_lt t finish)
 branch_late b t finish l = grind (arith, nat_tests)
 
@@ -213,11 +199,11 @@ pub fetch_made : (i : Loaded) {config : Configuration} (t u : ℕ) (d : Done) (h
     → IsWithinLimits config → AreTimed config (d ∷ h) → d.at.issue ≡ u → u ≡ t + 1
     → ft ≡ fetch_after d.step (is_branch d.step) (end_of d.step) → ft ≡ fetch_of i t (d ∷ h)
 fetch_made i t u d h ft good timed at e is =
+    let order : d.at.start ≤ d.at.finish = (reach d h good timed).order in
     let late : is_branch d.step ≡ true → t < d.at.finish = λ b. (
-    let q = branch_pool (step_pool d.step) pools.Bru b in
-    let after : d.at.issue < d.at.start = starts_after d q.0 timed.0 q.1 in
-    let r : d.at.start ≤ d.at.finish = (reach d h good timed).order in
-    omega arith) in
+        let unit = unit_with_pool d.step ∙ pool_in (step_pool d.step) pools.Bru b in
+        let after : d.at.issue < d.at.start = starts_after d timed.0 unit in
+        omega arith) in
     is ∙ ap (λ (w : Bool). fetch_after d.step w (end_of d.step)) (branch_late (is_branch d.step) t d.at.finish late)
 
 -- What comes after it.

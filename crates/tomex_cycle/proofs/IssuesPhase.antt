@@ -1,23 +1,17 @@
 -- The issues of a cycle: the first, and those that the width leaves after it.
-use Rattle.std.proofs.Common.{ℕ, suc, ◌+◌, ◌%◌, ◌<◌, ◌≤◌, ◌≡◌, ◌∙◌, Bool, true, false, arith, refl, List, [], ◌∷◌, ap}
-use Rattle.std.proofs.Common.{inl, inr, subst}
-use Rattle.std.specs.Result.{result_unwrap_or}
+use Rattle.tomex_cycle.proofs.IssuesTest.{last_by, yet_more}
 use Rattle.tomex_cycle.proofs.Words.{nat_lt, ◌&&◌, Result, Ok, Err, cases_Bool, ltb-true, ltb-false, lt-ltb, le-ltb}
-use Rattle.tomex_cycle.proofs.Words.{nat_tests}
-use Rattle.tomex_cycle.proofs.Words.{le-leb, both_ways, eq-eqb, sum_by-cons, Loaded, Configuration, IsWithinLimits}
-use Rattle.tomex_cycle.proofs.Words.{Fault, Step, step_pool, Done, last_issue, AreTimed, are_branches_finished}
-use Rattle.tomex_cycle.proofs.Words.{can_issue, can_issue_another, times_of, has_station, width_low, times_are}
-use Rattle.tomex_cycle.proofs.Words.{none_later, Fetch, IsIssuing, IssuesNext, IssuesOn, IsIssuedTo, IsYetToIssue}
-use Rattle.tomex_cycle.proofs.Words.{MakesIssue, RunEndsAfter, AreIssuedBy, first_timed, clocks, Pools, RegStatus}
-use Rattle.tomex_cycle.specs.Issue.{HaveIssued, IssuesMore, count_after, issued_in}
-use Rattle.tomex_cycle.proofs.Totals.{issued_more}
+use Rattle.tomex_cycle.proofs.Words.{nat_tests, le-leb, both_ways, eq-eqb, sum_by-cons, Loaded, Configuration}
+use Rattle.tomex_cycle.proofs.Words.{IsWithinLimits, Fault, Step, step_pool, Done, last_issue, AreTimed}
+use Rattle.tomex_cycle.proofs.Words.{are_branches_finished, can_issue, can_issue_another, times_of, has_station}
+use Rattle.tomex_cycle.proofs.Words.{width_low, times_are, none_later, IsIssuing, IssuesNext, IssuesOn, IsIssuedTo}
+use Rattle.tomex_cycle.proofs.Words.{IsYetToIssue, MakesIssue, RunEndsAfter, AreIssuedBy, first_timed, clocks, Front}
+use Rattle.tomex_cycle.proofs.Words.{IsNextCycle, ℕ, suc, ◌+◌, ◌%◌, ◌<◌, ◌≤◌, ◌≡◌, ◌∙◌, Bool, true, false, arith, refl}
+use Rattle.tomex_cycle.proofs.Words.{List, ◌∷◌, ap, inl, inr, subst, result_unwrap_or, HaveIssued, IssuesMore}
+use Rattle.tomex_cycle.proofs.Words.{count_after, issued_in}
 use Rattle.tomex_cycle.proofs.Runs.{next_done, run_next, run_timed, step_is}
-use Rattle.tomex_cycle.proofs.IssuesTest.{yet_more}
 use Rattle.tomex_cycle.proofs.Truth.{ok_not_err, ok_same}
-
-last_by : (t : ℕ) (h : List Done) → AreIssuedBy t h → last_issue h ≤ t
-last_by t [] issued = omega arith
-last_by t (d ∷ older) issued = issued.0
+use Rattle.tomex_cycle.proofs.Places.{issued_more}
 
 -- none has issued in the cycle yet
 none_first : (config : Configuration) (t u : ℕ) (h : List Done) → AreTimed config h → AreIssuedBy t h → u ≡ t + 1
@@ -26,16 +20,20 @@ none_first config t u h timed issued e = let l : last_issue h ≤ t = last_by t 
     none_later config h u timed (omega arith)
 
 -- as long as fewer than the width have issued in it, one more may
-slot_there : (config : Configuration) (u : ℕ) (h : List Done) → AreIssuedBy u h → issued_in u h < config.width
-    → can_issue_another config h u ≡ true
-slot_there config u h issued l =
-    rw (le-leb (last_issue h) u (last_by u h issued), lt-ltb (issued_in u h) config.width l) refl
+open_slot : {i : Loaded} {config : Configuration} {n t u count made : ℕ} {s : Front}
+    → HaveIssued i config n t u count made s → made < config.width
+    → can_issue_another config (first_timed config i count) u ≡ true
+open_slot {i} {config} {u = u} {count} {made} have l =
+    let h : List Done = first_timed config i count in
+    rw (le-leb (last_issue h) u (last_by u h have.now.issued), have.in_cycle, lt-ltb made config.width l) refl
 
 -- and then none
-slot_gone : (config : Configuration) (u : ℕ) (h : List Done) → AreIssuedBy u h → config.width ≤ issued_in u h
-    → can_issue_another config h u ≡ false
-slot_gone config u h issued l =
-    rw (le-leb (last_issue h) u (last_by u h issued), le-ltb (issued_in u h) config.width l) refl
+no_slot : {i : Loaded} {config : Configuration} {n t u count made : ℕ} {s : Front}
+    → HaveIssued i config n t u count made s → config.width ≤ made
+    → can_issue_another config (first_timed config i count) u ≡ false
+no_slot {i} {config} {u = u} {count} {made} have l =
+    let h : List Done = first_timed config i count in
+    rw (le-leb (last_issue h) u (last_by u h have.now.issued), have.in_cycle, le-ltb made config.width l) refl
 
 without_slot : (config : Configuration) (u : ℕ) (h : List Done) (y : Step) → can_issue_another config h u ≡ false
     → can_issue config h y u ≡ false
@@ -84,168 +82,141 @@ none_is (Err fault) made e is = absurd (cc)
 
 -- The issue of one more: it is made, or it can't be, in the cycle.
 
-pub record IsTried (i : Loaded) (config : Configuration) (n t u count : ℕ) (more : Bool) (st : Pools) (rg : RegStatus)
-    (ft : Fetch) : Type 0 where
-  pub on : IsIssuing i config n t u (count_after more count) st rg ft
+pub record IsTried (i : Loaded) (config : Configuration) (n t u count : ℕ) (more : Bool) (s : Front) : Type 0 where
+  pub on : IsIssuing i config n t u (count_after more count) s
   pub yet : more ≡ false → count ≤ n → IsYetToIssue i config count u
 
-tried : {i : Loaded} {config : Configuration} {n t u count made : ℕ} {st : Pools} (new : Pools) {rg : RegStatus}
-    (status : RegStatus) {ft : Fetch} (from : Fetch) (result : Result Bool Fault) (more : Bool)
-    → HaveIssued i config n t u count made st rg ft → made < config.width
-    → IssuesNext i config count st rg ft result new status from → result ≡ Ok more → RunEndsAfter i config n → u ≡ t + 1
-    → IsTried i config n t u count more new status from
-tried {i} {config} {n} {t} {u} {count} {made} new status from result more have left issues is run at =
-    let d = issues n t u run at (slot_there config u (first_timed config i count) have.now.issued (omega arith))
-    have.now in
-    let m : d.0 ≡ more = ok_same result d.0 more d.1 is in
+tried : {i : Loaded} {config : Configuration} {n t u count made : ℕ} {old : Front} (new : Front) (more : Bool)
+    → IsNextCycle i config n t u → HaveIssued i config n t u count made old → made < config.width
+    → IssuesNext i config count old (Ok more) new → IsTried i config n t u count more new
+tried {i} {config} {n} {t} {u} {count} new more at have left issues =
+    let d = issues n t u at (open_slot have left) have.now in
+    let m : d.0 ≡ more = ok_same (Ok more) d.0 more d.1 refl in
     record {
-      on = subst (λ (b : Bool). IsIssuing i config n t u (count_after b count) new status from) m d.2;
+      on = subst (λ (b : Bool). IsIssuing i config n t u (count_after b count) new) m d.2;
       yet = λ none. d.3 (m ∙ none);
     }
 
 -- nothing faults
-answers : {i : Loaded} {config : Configuration} {n t u count made : ℕ} {st : Pools} (new : Pools) {rg : RegStatus}
-    (status : RegStatus) {ft : Fetch} (from : Fetch) (result : Result Bool Fault)
-    → HaveIssued i config n t u count made st rg ft → made < config.width
-    → IssuesNext i config count st rg ft result new status from → RunEndsAfter i config n → u ≡ t + 1
-    → (more : Bool) × (result ≡ Ok more)
-answers {i} {config} {n} {t} {u} {count} {made} new status from result have left issues run at =
-    let d = issues n t u run at (slot_there config u (first_timed config i count) have.now.issued (omega arith))
-    have.now in
+answers : {i : Loaded} {config : Configuration} {n t u count made : ℕ} {old : Front} (new : Front)
+    (result : Result Bool Fault) → IsNextCycle i config n t u → HaveIssued i config n t u count made old
+    → made < config.width → IssuesNext i config count old result new → (more : Bool) × (result ≡ Ok more)
+answers {n = n} {t} {u} new result at have left issues =
+    let d = issues n t u at (open_slot have left) have.now in
     (d.0, d.1)
 
-issued_again : {i : Loaded} {config : Configuration} {n t u count made : ℕ} {st new : Pools} {rg status : RegStatus}
-    {ft from : Fetch} → HaveIssued i config n t u count made st rg ft
-    → IsTried i config n t u count true new status from → RunEndsAfter i config n → u ≡ t + 1
-    → HaveIssued i config n t u (count + 1) (made + 1) new status from
-issued_again {i} {config} {n} {t} {u} {count} {made} have more run e =
+issued_again : {i : Loaded} {config : Configuration} {n t u count made : ℕ} {old new : Front}
+    → IsNextCycle i config n t u → HaveIssued i config n t u count made old → IsTried i config n t u count true new
+    → HaveIssued i config n t u (count + 1) (made + 1) new
+issued_again {i} {config} {n} {t} {u} {count} {made} at have more =
     let few : count + 1 ≤ n + 1 = more.on.few in
-    let counted = one_more count t u run e have.now.next more.on.issued few in
+    let before : issued_in u (first_timed config i count) ≡ made = have.in_cycle in
+    let counted = one_more count t u at.run at.next have.now.next more.on.issued few in
     record { now = more.on; in_cycle = omega arith }
 
 -- no run counts as far as a word goes
-word_of : {i : Loaded} {config : Configuration} {n t u count made : ℕ} (word : ℕ) {st : Pools} {rg : RegStatus}
-    {ft : Fetch} → HaveIssued i config n t u count made st rg ft → n < 262144 → word ≡ count % 4294967296 → count ≡ word
+word_of : {i : Loaded} {config : Configuration} {n t u count made : ℕ} (word : ℕ) {s : Front}
+    → HaveIssued i config n t u count made s → n < 262144 → word ≡ count % 4294967296 → count ≡ word
 word_of {n} {count} word have l e = let few : count ≤ n + 1 = have.now.few in omega (arith, e)
 
 -- the width leaves no more
-full : {i : Loaded} {config : Configuration} {n t u count made : ℕ} {st : Pools} {rg : RegStatus} {ft : Fetch}
-    → HaveIssued i config n t u count made st rg ft → config.width ≤ made → u ≡ t + 1 → count ≤ n
-    → IsYetToIssue i config count u
-full {i} {config} {t} {u} {count} {made} have most e less =
-    yet_more i config count t u (have.now.next less) (λ y is. without_slot config u (first_timed config i count) y
-    (slot_gone config u (first_timed config i count) have.now.issued (omega arith))) e
+full : {i : Loaded} {config : Configuration} {n t u count made : ℕ} {s : Front} → HaveIssued i config n t u count made s
+    → config.width ≤ made → u ≡ t + 1 → count ≤ n → IsYetToIssue i config count u
+full {i} {config} {u = u} {count} have most e less = yet_more i config count (have.now.next less)
+    (λ y is. without_slot config u (first_timed config i count) y (no_slot have most)) e
 
 -- The turns of the loop.
 
-pub on_first : (i : Loaded) (config : Configuration) (count : ℕ) (st : Pools) (rg : RegStatus) (ft : Fetch)
-    → IssuesOn i config count st rg ft 1 count st rg ft
-on_first i config count st rg ft n t u run e have = (omega arith, have)
+pub on_first : (i : Loaded) (config : Configuration) (count : ℕ) (s : Front) → IssuesOn i config count s 1 count s
+on_first i config count s n t u at have = (omega arith, have)
 
-pub on_more : (i : Loaded) (config : Configuration) (count made counted : ℕ) {word : ℕ} {st0 st new : Pools}
-    {rg0 rg status : RegStatus} {ft0 ft from : Fetch} (result : Result Bool Fault)
-    → IssuesOn i config count st0 rg0 ft0 made counted st rg ft → made < config.width
-    → IssuesNext i config counted st rg ft result new status from → result ≡ Ok true → word ≡ (counted + 1) % 4294967296
-    → IssuesOn i config count st0 rg0 ft0 (made + 1) word new status from
-on_more i config count made counted {word} {new} {status} {from} result on less issues is e n t u run at first =
-    let have = on n t u run at first in
-    let more = tried new status from result true have.1 less issues is run at in
-    let again = issued_again have.1 more run at in
-    let same : counted + 1 ≡ word = word_of word again run.few e in
-    (omega (arith, same), subst (λ (k : ℕ). HaveIssued i config n t u k (made + 1) new status from) same again)
+pub on_more : (i : Loaded) (config : Configuration) (count made counted : ℕ) {word : ℕ} {old mid new : Front}
+    → IssuesOn i config count old made counted mid → made < config.width
+    → IssuesNext i config counted mid (Ok true) new → word ≡ (counted + 1) % 4294967296
+    → IssuesOn i config count old (made + 1) word new
+on_more i config count made counted {word} {new = new} on less issues e n t u at first =
+    let have = on n t u at first in
+    let again = issued_again at have.1 (tried new true at have.1 less issues) in
+    let same : counted + 1 ≡ word = word_of word again at.run.few e in
+    (omega (arith, same), subst (λ (k : ℕ). HaveIssued i config n t u k (made + 1) new) same again)
 
-pub on_wait : (i : Loaded) (config : Configuration) (count made : ℕ) {counted : ℕ} {st0 st new : Pools}
-    {rg0 rg status : RegStatus} {ft0 ft from : Fetch} (result : Result Bool Fault)
-    → IssuesOn i config count st0 rg0 ft0 made counted st rg ft → made < config.width
-    → IssuesNext i config counted st rg ft result new status from → result_unwrap_or result false ≡ false
-    → IssuesMore i config count st0 rg0 ft0 counted new status from
-on_wait i config count made {new} {status} {from} result on less issues none n t u run at first =
-    let have = on n t u run at first in
-    let d = answers new status from result have.1 less issues run at in
-    let more = tried new status from result false have.1 less issues (none_is result d.0 none d.1) run at in
+pub on_wait : (i : Loaded) (config : Configuration) (count made : ℕ) {counted : ℕ} {old mid new : Front}
+    (result : Result Bool Fault) → IssuesOn i config count old made counted mid → made < config.width
+    → IssuesNext i config counted mid result new → result_unwrap_or result false ≡ false
+    → IssuesMore i config count old counted new
+on_wait i config count made {new = new} result on less issues none n t u at first =
+    let have = on n t u at first in
+    let d = answers new result at have.1 less issues in
+    let more = tried new false at have.1 less (rw (none_is result d.0 none d.1) at issues) in
     (have.0, more.on, more.yet refl)
 
-pub on_full : (i : Loaded) (config : Configuration) (count made counted : ℕ) {st0 st : Pools} {rg0 rg : RegStatus}
-    {ft0 ft : Fetch} → IssuesOn i config count st0 rg0 ft0 made counted st rg ft → config.width ≤ made
-    → IssuesMore i config count st0 rg0 ft0 counted st rg ft
-on_full i config count made counted on most n t u run e first =
-    let have = on n t u run e first in
-    (have.0, have.1.now, full have.1 most e)
+pub on_full : (i : Loaded) (config : Configuration) (count made counted : ℕ) {old s : Front}
+    → IssuesOn i config count old made counted s → config.width ≤ made → IssuesMore i config count old counted s
+on_full i config count made counted on most n t u at first =
+    let have = on n t u at first in
+    (have.0, have.1.now, full have.1 most at.next)
 
 -- The phase.
 
-before_one : {i : Loaded} {config : Configuration} {n count t : ℕ} (u : ℕ) {st : Pools} {rg : RegStatus} {ft : Fetch}
-    → IsWithinLimits config → u ≡ t + 1 → IsIssuedTo i config n t (clocks u u t) count st rg ft
-    → HaveIssued i config n t u count 0 st rg ft
-before_one {i} {config} {count} {t} u good e old = record {
-  now = record {
-    few = old.few;
-    slots = old.slots;
-    status = old.status;
-    from = old.from;
-    issued = issued_more t u (first_timed config i count) (omega arith) old.issued;
-    next = old.next;
-  };
-  in_cycle = none_first config t u (first_timed config i count) (run_timed i count good) old.issued e;
-}
+before_one : {i : Loaded} {config : Configuration} {n count t : ℕ} (u : ℕ) {s : Front} → IsNextCycle i config n t u
+    → IsIssuedTo i config n t t (clocks u u t) count s → HaveIssued i config n t u count 0 s
+before_one {i} {config} {count = count} {t} u at old =
+    let e : u ≡ t + 1 = at.next in
+    record {
+      now = record {
+        few = old.few;
+        shown = old.shown;
+        issued = issued_more t u (first_timed config i count) (omega arith) old.issued;
+        next = old.next;
+      };
+      in_cycle = none_first config t u (first_timed config i count) (run_timed i count at.run.lawful) old.issued e;
+    }
 
-first_made : {i : Loaded} {config : Configuration} {n t : ℕ} (u : ℕ) {count : ℕ} (word : ℕ) {st : Pools} (new : Pools)
-    {rg : RegStatus} (status : RegStatus) {ft : Fetch} (from : Fetch) (result : Result Bool Fault)
-    → IsIssuedTo i config n t (clocks u u t) count st rg ft → IssuesNext i config count st rg ft result new status from
-    → result ≡ Ok true → word ≡ (count + 1) % 4294967296 → RunEndsAfter i config n → u ≡ t + 1
-    → (count < word) × HaveIssued i config n t u word 1 new status from
-first_made {i} {config} {n} {t} u {count} word new status from result old issues is e run at =
-    let have = before_one u run.lawful at old in
-    let first = tried new status from result true have (width_low config run.lawful) issues is run at in
-    let made = issued_again have first run at in
-    let same : count + 1 ≡ word = word_of word made run.few e in
-    (omega (arith, same), subst (λ (k : ℕ). HaveIssued i config n t u k 1 new status from) same made)
+first_made : {i : Loaded} {config : Configuration} {n t : ℕ} (u : ℕ) {count : ℕ} (word : ℕ) {old : Front} (new : Front)
+    → IsNextCycle i config n t u → IsIssuedTo i config n t t (clocks u u t) count old
+    → IssuesNext i config count old (Ok true) new → word ≡ (count + 1) % 4294967296
+    → (count < word) × HaveIssued i config n t u word 1 new
+first_made {i} {config} {n} {t} u {count} word new at old issues e =
+    let have = before_one u at old in
+    let made = issued_again at have (tried new true at have (width_low config at.run.lawful) issues) in
+    let same : count + 1 ≡ word = word_of word made at.run.few e in
+    (omega (arith, same), subst (λ (k : ℕ). HaveIssued i config n t u k 1 new) same made)
 
-issued_to : {i : Loaded} {config : Configuration} {n t u count : ℕ} {st : Pools} {rg : RegStatus} {ft : Fetch}
-    → IsIssuing i config n t u count st rg ft → (count ≤ n → IsYetToIssue i config count u)
-    → IsIssuedTo i config n u (clocks u u t) count st rg ft
-issued_to on yet =
-    record { few = on.few; slots = on.slots; status = on.status; from = on.from; issued = on.issued; next = yet }
+issued_to : {i : Loaded} {config : Configuration} {n t u count : ℕ} {s : Front} → IsIssuing i config n t u count s
+    → (count ≤ n → IsYetToIssue i config count u) → IsIssuedTo i config n u u (clocks u u t) count s
+issued_to on yet = record { few = on.few; shown = on.shown; issued = on.issued; next = yet }
 
 -- none issues
-pub phase_none : (i : Loaded) (config : Configuration) (u count : ℕ) {st new : Pools} {rg status : RegStatus}
-    {ft from : Fetch} (result : Result Bool Fault) → IssuesNext i config count st rg ft result new status from
-    → result ≡ Ok false → MakesIssue i config u count st rg ft (Ok false) count new status from
-phase_none i config u count {new} {status} {from} result issues is n t run e old = grind (
-  arith,
-  nat_tests,
-  tried new status from result false (before_one u run.lawful e old) (width_low config run.lawful) issues is run e,
-)
+pub phase_none : (i : Loaded) (config : Configuration) (u count : ℕ) {old new : Front}
+    → IssuesNext i config count old (Ok false) new → MakesIssue i config u count old (Ok false) count new
+phase_none i config u count {new = new} issues n t at old =
+    let one = tried new false at (before_one u at old) (width_low config at.run.lawful) issues in
+    (rw (le-ltb count count (omega arith)) refl, omega arith, issued_to one.on (one.yet refl))
 
 -- one does, and the width is one
-pub phase_one : (i : Loaded) (config : Configuration) (u count : ℕ) {word : ℕ} {st new : Pools} {rg status : RegStatus}
-    {ft from : Fetch} (result : Result Bool Fault) → IssuesNext i config count st rg ft result new status from
-    → result ≡ Ok true → word ≡ (count + 1) % 4294967296 → config.width ≡ 1
-    → MakesIssue i config u count st rg ft (Ok true) word new status from
-phase_one i config u count {word} {new} {status} {from} result issues is w one n t run e old =
-    let made = first_made u word new status from result old issues is w run e in
-    let more : count < word = made.0 in (
-      rw (lt-ltb count word more) refl,
-      omega arith,
-      issued_to made.1.now (full made.1 (omega arith) e),
-    )
+pub phase_one : (i : Loaded) (config : Configuration) (u count : ℕ) {word : ℕ} {old new : Front}
+    → IssuesNext i config count old (Ok true) new → word ≡ (count + 1) % 4294967296 → config.width ≡ 1
+    → MakesIssue i config u count old (Ok true) word new
+phase_one i config u count {word} {new = new} issues w one n t at old =
+    let made = first_made u word new at old issues w in
+    let more : count < word = made.0 in
+    (rw (lt-ltb count word more) refl, omega arith, issued_to made.1.now (full made.1 (omega arith) at.next))
 
 -- one does, and more after it
-pub phase_more : (i : Loaded) (config : Configuration) (u count : ℕ) {word counted : ℕ} {st mid new : Pools}
-    {rg between status : RegStatus} {ft next from : Fetch} (result : Result Bool Fault)
-    → IssuesNext i config count st rg ft result mid between next → result ≡ Ok true → word ≡ (count + 1) % 4294967296
-    → IssuesMore i config word mid between next counted new status from
-    → MakesIssue i config u count st rg ft (Ok true) counted new status from
-phase_more i config u count {word} {mid} {between} {next} result issues is w more n t run e old =
-    let made = first_made u word mid between next result old issues is w run e in
-    let d = more n t u run e made.1 in
-    grind (arith, nat_tests)
+pub phase_more : (i : Loaded) (config : Configuration) (u count : ℕ) {word counted : ℕ} {old mid new : Front}
+    → IssuesNext i config count old (Ok true) mid → word ≡ (count + 1) % 4294967296
+    → IssuesMore i config word mid counted new → MakesIssue i config u count old (Ok true) counted new
+phase_more i config u count {word} {counted} {mid = mid} issues w more n t at old =
+    let made = first_made u word mid at old issues w in
+    let d = more n t u at made.1 in
+    let low : count < word = made.0 in
+    let high : word ≤ counted = d.0 in
+    (rw (lt-ltb count counted (omega arith)) refl, omega arith, issued_to d.1 d.2)
 
 -- and none faults
-pub phase_fault : (i : Loaded) (config : Configuration) (u count : ℕ) {counted : ℕ} {st new : Pools}
-    {rg status : RegStatus} {ft from : Fetch} (result : Result Bool Fault) {fault : Fault} {last : Result Bool Fault}
-    → IssuesNext i config count st rg ft result new status from → result ≡ Err fault
-    → MakesIssue i config u count st rg ft last counted new status from
-phase_fault i config u count {new} {status} {from} result {fault} issues is n t run e old =
-    let d = answers new status from result (before_one u run.lawful e old) (width_low config run.lawful) issues run e in
-    absurd (ok_not_err result d.0 fault d.1 is)
+pub phase_fault : (i : Loaded) (config : Configuration) (u count : ℕ) {counted : ℕ} {old new last : Front}
+    {fault : Fault} {result : Result Bool Fault} → IssuesNext i config count old (Err fault) new
+    → MakesIssue i config u count old result counted last
+phase_fault i config u count {new = new} {fault = fault} issues n t at old =
+    let d = answers new (Err fault) at (before_one u at old) (width_low config at.run.lawful) issues in
+    absurd (ok_not_err (Err fault) d.0 fault d.1 refl)

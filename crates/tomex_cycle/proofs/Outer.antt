@@ -1,29 +1,121 @@
+-- What contracts see of a machine follows from what holds of each one.
+use Rattle.tomex_cycle.proofs.Words.{nat_lt, if◌then◌else◌, cases_Bool, ltb-true, ltb-false, le-ltb, Loaded}
+use Rattle.tomex_cycle.proofs.Words.{Configuration, EndsWithin, greatest_end, Inner, Progress, Running, Ended, IsAt}
+use Rattle.tomex_cycle.proofs.Words.{RunEndsAfter, first_timed, Seen, seen_after, IsSound, IsNextCycle, slice_index}
+use Rattle.tomex_cycle.proofs.Words.{map, filter_map, range_with_len, cases_order, lt-ltb, lt-leb, le-leb}
+use Rattle.tomex_cycle.proofs.Words.{get_or-replicate, IsWithinLimits, EndKind, byte_after, register_after, Bytes}
+use Rattle.tomex_cycle.proofs.Words.{is_number, step_dest, is_store, Tag, Done, Tables, tables_of, shown, qi_of}
+use Rattle.tomex_cycle.proofs.Words.{all_tags, producer, At, Stopped, run_of, steps_in, byte_at, clocks, ShowsRegisters}
+use Rattle.tomex_cycle.proofs.Words.{ShowsStations, IsSnapshot, IsYetToIssue, overwrites, step_ends_it, step_follows}
+use Rattle.tomex_cycle.proofs.Words.{step_joins, timed_by, Pools, Core, Front, IsUpTo, core, core_of, slot, ℕ, ◌+◌, ◌<◌}
+use Rattle.tomex_cycle.proofs.Words.{◌≤◌, ◌≡◌, ◌∙◌, ◌^◌, true, arith, refl, ap, inl, inr, min, subst, false, List, []}
+use Rattle.tomex_cycle.proofs.Words.{◌∷◌, ◌++◌, Option, None, sym, length, replicate, slice_index_or, total, is_end}
+use Rattle.tomex_cycle.proofs.Words.{IsLoaded, Leaves, State, start_of, IsFresh, IsState, end_is, same_registers}
+use Rattle.tomex_cycle.proofs.Words.{same_memory, run_state, end_writes_no_register, end_writes_no_byte, AllBy}
+use Rattle.tomex_cycle.proofs.Runs.{run_whole, run_timed, steps_are, run_none, rest_to, AreLater, issued_up_to}
+use Rattle.tomex_cycle.proofs.Runs.{more_left, stops}
+use Rattle.tomex_rvexec.specs.History.{history as first_steps}
+use Rattle.tomex_cycle.proofs.Shows.{same_tables}
+use Rattle.tomex_cycle.specs.Views.{front}
+
+-- while the answer is Running the total lies ahead
+pub running_low : (cycle all : ℕ) (last : Progress) → last ≡ (if nat_lt cycle all then Running else Ended)
+    → last ≡ Running → cycle < all
+running_low cycle all last e f = elim (cases_Bool (nat_lt cycle all)) [
+  | inl l ↦ ltb-true _ _ l
+  | inr l ↦ let g : last ≡ Ended = rw l at e in absurd (cc)
+]
+
+other_high : (cycle all : ℕ) (last : Progress) → last ≡ (if nat_lt cycle all then Running else Ended)
+    → (last ≡ Running → ⊥) → all ≤ cycle
+other_high cycle all last e f = elim (cases_Bool (nat_lt cycle all)) [
+  | inl l ↦ let g : last ≡ Running = rw l at e in absurd (f g)
+  | inr l ↦ ltb-false _ _ l
+]
+
+-- what is seen, of its parts
+abbrev pub seen_at : Loaded → Configuration → ℕ → Progress → Seen
+seen_at i config cycle last = record { image = i; config = config; cycle = cycle; status = last }
+
+same_seen : (i : Loaded) (config : Configuration) (a b : ℕ) (x y : Progress) → a ≡ b → x ≡ y
+    → seen_at i config a x ≡ seen_at i config b y
+same_seen i config a b x y e f = rw (e, f) refl
+
+-- the run of a sound machine whose program ends
+pub sound_run : {A : Type 0} {i : Loaded} {config : Configuration} {cycle : ℕ} {last : Progress} {inner : Inner A}
+    → IsSound i config cycle last inner → (ends : EndsWithin i 262144) → RunEndsAfter i config ends.0
+sound_run sound ends = record {
+  lawful = sound.lawful;
+  loaded = sound.loaded;
+  few = ends.3;
+  state = ends.1;
+  kind = ends.2;
+  ends = ends.4;
+}
+
+-- the machine is as it is after as many ticks as its cycle says
+pub seen_is : {A : Type 0} {i : Loaded} {config : Configuration} {cycle : ℕ} {last : Progress} {inner : Inner A}
+    → IsSound i config cycle last inner → EndsWithin i 262144
+    → seen_at i config cycle last ≡ seen_after i config cycle
+seen_is {i} {config} {cycle} {last} sound ends =
+    let run : RunEndsAfter i config ends.0 = sound_run sound ends in
+    let after = sound.after ends.0 run in
+    let e : total config i ≡ greatest_end (first_timed config i (ends.0 + 1)) = ap greatest_end (run_whole run) in
+    same_seen i config cycle (min cycle (total config i)) last
+    (if nat_lt cycle (total config i) then Running else Ended) (omega arith) (rw e after.answer)
+
+-- a cycle keeps what holds
+pub sound_next : {A : Type 0} {i : Loaded} {config : Configuration} {cycle : ℕ} {old : Inner A} (now : Progress)
+    (new : Inner A) → IsSound i config cycle Running old → cycle < 2 ^ 40
+    → ((n t : ℕ) → IsNextCycle i config n t (cycle + 1) → IsAt i config n t old → IsAt i config n (cycle + 1) new
+    × (now ≡ (if nat_lt (cycle + 1) (greatest_end (first_timed config i (n + 1))) then Running else Ended)))
+    → IsSound i config (cycle + 1) now new
+sound_next {i} {config} {cycle} now new sound low made = record {
+  lawful = sound.lawful;
+  loaded = sound.loaded;
+  low = omega arith;
+  after = λ n run.
+      let before = sound.after n run in
+      let k : cycle < greatest_end (first_timed config i (n + 1)) = running_low cycle _ Running before.answer refl in
+      let next = made n cycle (record { run = run; next = refl }) before.snapshot in
+      record { high = omega arith; answer = next.1; snapshot = next.0 };
+}
+
+-- the same, of a value that is seen
+pub now_seen : {A : Type 0} {i : Loaded} {config : Configuration} {cycle : ℕ} {last : Progress} {inner : Inner A}
+    {seen : Seen} → seen_at i config cycle last ≡ seen → IsSound i config cycle last inner
+    → EndsWithin seen.image 262144 → seen ≡ seen_after seen.image seen.config seen.cycle
+now_seen e sound =
+    let P : Seen → Type 0 = λ x. EndsWithin x.image 262144 → x ≡ seen_after x.image x.config x.cycle in
+    subst P e (λ ends. seen_is sound ends)
+
+-- a machine that has ended is as it is after any more ticks
+pub over_seen : (i : Loaded) (config : Configuration) (k to : ℕ) (seen : Seen) → seen ≡ seen_after i config k
+    → (seen.status ≡ Running → ⊥) → k ≤ to → seen ≡ seen_after i config to
+over_seen i config k to seen e over l =
+    let last : seen.status ≡ (if nat_lt k (total config i) then Running else Ended) = ap (λ (x : Seen). x.status) e in
+    let low : total config i ≤ k = other_high k (total config i) seen.status last over in
+    e ∙ same_seen i config (min k (total config i)) (min to (total config i))
+    (if nat_lt k (total config i) then Running else Ended) (if nat_lt to (total config i) then Running else Ended)
+    (omega arith) (rw (le-ltb k (total config i) low, le-ltb to (total config i) (omega arith)) refl)
+
+end_is_not_running : (last : Progress) → is_end last ≡ true → last ≡ Running → ⊥
+end_is_not_running last e f = let g : is_end Running ≡ true = rw f at e in absurd (cc)
+
+-- a machine that has ended hands out the end of the run
+pub finish_seen : {A : Type 0} {i : Loaded} {config : Configuration} {cycle : ℕ} {last : Progress} {inner : Inner A}
+    {seen : Seen} (P : Loaded → Type 0) → seen_at i config cycle last ≡ seen
+    → ((i : Loaded) (config : Configuration) (n t : ℕ) → RunEndsAfter i config n → IsAt i config n t inner
+    → greatest_end (first_timed config i (n + 1)) ≤ t → P i)
+    → IsSound i config cycle last inner → is_end seen.status ≡ true → EndsWithin seen.image 262144 → P seen.image
+finish_seen {i} {config} {cycle} {last} P e made sound =
+    let Q : Seen → Type 0 = λ x. is_end x.status ≡ true → EndsWithin x.image 262144 → P x.image in
+    subst Q e (λ over ends.
+    let after = sound.after ends.0 (sound_run sound ends) in
+    made i config ends.0 cycle (sound_run sound ends) after.snapshot
+    (other_high cycle _ last after.answer (end_is_not_running last over)))
+
 -- The first snapshot, the end and the tables.
-use Rattle.std.proofs.Common.{ℕ, ◌+◌, ◌<◌, ◌≤◌, ◌≡◌, ◌∙◌, false, arith, refl, List, [], ◌∷◌, ◌++◌, Option, Some, None}
-use Rattle.std.proofs.Common.{ap, sym, inl, inr, length, replicate, slice_index_or, subst}
-use Rattle.tomex_cycle.proofs.Words.{slice_index, map, filter_map, range_with_len, cases_Bool, cases_order, lt-ltb}
-use Rattle.tomex_cycle.proofs.Words.{le-ltb, lt-leb, le-leb, get_or-replicate, Loaded, Configuration, IsWithinLimits}
-use Rattle.tomex_cycle.proofs.Words.{EndKind, Step, step_after, byte_after, register_after, Bytes, EndsWithin}
-use Rattle.tomex_cycle.proofs.Words.{is_number, step_dest, is_store, Busy, Tag, Done, greatest_end, Tables, tables_of}
-use Rattle.tomex_cycle.proofs.Words.{shown, qi_of, all_tags, producer, Inner, IsAt, Fetch, At, Stopped, Progress}
-use Rattle.tomex_cycle.proofs.Words.{Running, RunEndsAfter, first_timed, run_of, AreIssuedBy, IsHistory, steps_in}
-use Rattle.tomex_cycle.proofs.Words.{byte_at, clocks, ShowsRegisters, ShowsStations, IsSnapshot, IsYetToIssue, Seen}
-use Rattle.tomex_cycle.proofs.Words.{overwrites, step_ends_it, step_follows, step_joins, timed_by, IsSound, Pools}
-use Rattle.tomex_cycle.proofs.Words.{RegStatus, Station}
-use Rattle.tomex_image.specs.Image.{IsLoaded}
-use Rattle.tomex_rvexec.specs.History.{Leaves, history as first_steps}
-use Rattle.tomex_rvexec.specs.Machine.{State}
-use Rattle.tomex_rvexec.specs.Run.{start_of}
-use Rattle.tomex_cycle.specs.Inner.{IsFresh}
-use Rattle.tomex_cycle.proofs.Ticks.{sound_run}
-use Rattle.tomex_rvexec.specs.Flow.{IsState}
-use Rattle.tomex_rvexec.proofs.FlowEnds.{end_is}
-use Rattle.tomex_rvexec.proofs.FlowHistories.{same_registers, same_memory}
-use Rattle.tomex_rvexec.proofs.FlowRuns.{run_state}
-use Rattle.tomex_rvexec.proofs.FlowStates.{end_writes_no_register, end_writes_no_byte}
-use Rattle.tomex_timing.proofs.Settled.{AllBy}
-use Rattle.tomex_cycle.proofs.Runs.{run_timed, steps_are, run_none, run_whole, run_history, rest_to, AreLater}
-use Rattle.tomex_cycle.proofs.Totals.{more_left, stops}
 
 none_issued : (config : Configuration) (i : Loaded) → IsYetToIssue i config 0 0
 none_issued config i x e s l =
@@ -34,9 +126,8 @@ none_at : {A : Type 0} (n : ℕ) (xs : List (Option A)) → xs ≡ replicate n N
     → slice_index_or xs x None ≡ None
 none_at n xs e x l = rw (e, get_or-replicate) refl
 
-shows_none : (i : Loaded) (st : Pools) → length st.slots ≡ 96
-    → ((x : ℕ) → x < 96 → slice_index_or st.slots x None ≡ None) → st.issue_numbers ≡ replicate 128 0
-    → ShowsStations i (clocks 0 0 0) [] st
+shows_none : (i : Loaded) (st : Pools) → length st.slots ≡ 96 → ((x : ℕ) → x < 96 → slot st.slots x ≡ None)
+    → st.issue_numbers ≡ replicate 128 0 → ShowsStations i (clocks 0 0 0) [] st
 shows_none i st places slots issue_numbers = record {
   places = places;
   slots = slots;
@@ -44,33 +135,26 @@ shows_none i st places slots issue_numbers = record {
   issue_numbers = λ x l. rw issue_numbers (get_or-replicate 128 x 0 0 (omega arith));
 }
 
-slots_count : length (replicate {A = Option Station} 96 None) ≡ 96
-slots_count = refl
-
-tags_count : length (replicate {A = Option Tag} 32 None) ≡ 32
-tags_count = refl
-
-start_count : (i : Loaded) → length (start_of i).regs ≡ 32
-start_count i = refl
-
 -- before the first cycle
-pub start_shown : {config : Configuration} {n : ℕ} {st : Pools} {rg : RegStatus} {ft : Fetch} {m : Bytes} (i : Loaded)
-    → st.slots ≡ replicate 96 None → st.issue_numbers ≡ replicate 128 0 → rg.tags ≡ replicate 32 None
-    → rg.values ≡ (start_of i).regs → ft ≡ At i.entry → m.base ≡ i.window.base → m.bytes ≡ i.memory
-    → length i.memory ≡ i.window.size → IsSnapshot i config n 0 0 st rg ft m
-start_shown {config} {st = st} {rg} i slots issue_numbers tags values from base bytes size =
+pub start_shown : {config : Configuration} {n : ℕ} {s : Front} {m : Bytes} (i : Loaded)
+    → s.pools.slots ≡ replicate 96 None → s.pools.issue_numbers ≡ replicate 128 0 → s.registers.tags ≡ replicate 32 None
+    → s.registers.values ≡ (start_of i).regs → s.fetch ≡ At i.entry → m.base ≡ i.window.base → m.bytes ≡ i.memory
+    → length i.memory ≡ i.window.size → IsSnapshot i config n 0 (core 0 s m)
+start_shown {config} {s = s} i slots issue_numbers tags values from base bytes size =
     let e : first_timed config i 0 ≡ [] = run_none config i in
     record {
       issue = record {
         few = omega arith;
-        slots = rw e (shows_none i st (ap length slots ∙ slots_count) (none_at 96 st.slots slots) issue_numbers);
-        status = rw e (record {
-          count = ap length values ∙ start_count i;
-          status = ap length tags ∙ tags_count;
-          tags = none_at 32 rg.tags tags;
-          values = λ r l q. ap (λ xs. slice_index xs r) values;
+        shown = rw e (record {
+          slots = shows_none i s.pools (ap length slots) (none_at 96 s.pools.slots slots) issue_numbers;
+          status = record {
+            count = ap length values;
+            status = ap length tags;
+            tags = none_at 32 s.registers.tags tags;
+            values = λ r l q. ap (λ xs. slice_index xs r) values;
+          };
+          from = from;
         });
-        from = rw e from;
         issued = rw e tt;
         next = λ l. none_issued config i;
       };
@@ -84,8 +168,8 @@ sound_start {i} {config} {inner} good loaded fresh = record {
   loaded = loaded;
   low = omega arith;
   after = λ n run.
-      let k : 0 < greatest_end (first_timed config i (n + 1)) = more_left inner.issued 0 run
-      (let none : inner.issued ≡ 0 = fresh.none in omega arith) (fresh.start config n).issue.next in
+      let k : 0 < greatest_end (first_timed config i (n + 1)) = more_left inner.issued 0 run (let none : inner.issued
+      ≡ 0 = fresh.none in omega arith) (fresh.start config n).issue.next in
       record {
         high = omega arith;
         answer = rw (lt-ltb 0 (greatest_end (first_timed config i (n + 1))) k) refl;
@@ -112,21 +196,14 @@ map_same f g same [] = refl
 map_same f g same (x ∷ xs) = rw (same x, map_same f g same xs) refl
 
 tables_later : (t : ℕ) (newer h : List Done) → AreLater t newer → tables_of t (newer ++ h) ≡ tables_of t h
-tables_later t newer h later =
-    let a = filter_same (shown t (newer ++ h)) (shown t h) (λ tag. shown_later t newer h tag later) all_tags in
-    let b = map_same (qi_of t (newer ++ h)) (qi_of t h) (λ r. qi_later t newer h r later) (range_with_len 0 32) in
-    let f : List Busy → Tables = λ x. record {
-      cycle = t;
-      busy = x;
-      registers = map (qi_of t (newer ++ h)) (range_with_len 0 32);
-    } in
-    let g : List (Option Tag) → Tables =
-    λ x. record { cycle = t; busy = filter_map (shown t h) all_tags; registers = x } in
-    ap f a ∙ ap g b
+tables_later t newer h later = same_tables (tables_of t (newer ++ h)) t (filter_map (shown t h) all_tags)
+    (map (qi_of t h) (range_with_len 0 32)) refl
+    (filter_same (shown t (newer ++ h)) (shown t h) (λ tag. shown_later t newer h tag later) all_tags)
+    (map_same (qi_of t (newer ++ h)) (qi_of t h) (λ r. qi_later t newer h r later) (range_with_len 0 32))
 
 -- the tables of the whole run are those of what has issued
-tables_whole : {config : Configuration} {i : Loaded} {n : ℕ} (count t : ℕ) → RunEndsAfter i config n
-    → count ≤ n + 1 → (count ≤ n → IsYetToIssue i config count t)
+tables_whole : {config : Configuration} {i : Loaded} {n : ℕ} (count t : ℕ) → RunEndsAfter i config n → count ≤ n + 1
+    → (count ≤ n → IsYetToIssue i config count t)
     → tables_of t (run_of config i) ≡ tables_of t (first_timed config i count)
 tables_whole {config} {i} {n} count t run few next =
     let rest = rest_to count (n + 1) t run next few (omega arith) in
@@ -135,9 +212,8 @@ tables_whole {config} {i} {n} count t run few next =
 
 -- the machine's tables, pointwise
 pub tables_seen : {A : Type 0} {config : Configuration} {i : Loaded} {cycle : ℕ} {last : Progress} {seen : Seen}
-    {inner : Inner A} {tables : Tables}
-    → ◌≡◌ {A = Seen} (record { image = i; config = config; cycle = cycle; status = last }) seen
-    → ((i : Loaded) (h : List Done) (config : Configuration) → IsHistory i config h → AreIssuedBy cycle h
+    {inner : Inner A} {tables : Tables} → seen_at i config cycle last ≡ seen
+    → ((i : Loaded) (h : List Done) (config : Configuration) → IsUpTo i config cycle h
     → ShowsStations i (clocks cycle cycle cycle) h inner.pools → ShowsRegisters i cycle h inner.registers
     → tables ≡ tables_of cycle h) → IsSound i config cycle last inner → EndsWithin seen.image 262144
     → tables ≡ tables_of seen.cycle (run_of seen.config seen.image)
@@ -146,8 +222,7 @@ tables_seen {config = config} {i} {cycle} {inner = inner} {tables} e made sound 
     subst P e (λ ends.
     let run : RunEndsAfter i config ends.0 = sound_run sound ends in
     let shot = (sound.after ends.0 run).snapshot.issue in
-    let h : IsHistory i config (first_timed config i inner.issued) = run_history inner.issued run shot.few in
-    made i (first_timed config i inner.issued) config h shot.issued shot.slots shot.status
+    made i (first_timed config i inner.issued) config (issued_up_to run shot) shot.shown.slots shot.shown.status
     ∙ sym (tables_whole inner.issued cycle run shot.few shot.next))
 
 no_writer : (t : ℕ) (h : List Done) (r : ℕ) → greatest_end h ≤ t → producer t h r ≡ None
@@ -157,10 +232,6 @@ no_writer t (d ∷ older) r l = elim (cases_Bool (is_number (step_dest d.step) r
   | inr e ↦ rw e (no_writer t older r (omega arith))
 ]
 
-end_values : (i : Loaded) (x : Step) (steps : List Step) (r : ℕ) → step_dest x ≡ None
-    → register_after i (x ∷ steps) r ≡ register_after i steps r
-end_values i x steps r e = rw e refl
-
 bytes_ended : (i : Loaded) (t g a : ℕ) (h : List Done) → AllBy g h → g ≤ t
     → byte_at i t h a ≡ byte_after i (steps_in h) a
 bytes_ended i t g a [] by l = refl
@@ -169,18 +240,14 @@ bytes_ended i t g a (d ∷ older) by l = elim (cases_Bool (overwrites d.step a))
   | inr e ↦ rw e (bytes_ended i t g a older by.1 l)
 ]
 
-bytes_kept : (i : Loaded) (x : Step) (steps : List Step) (a : ℕ) → is_store x ≡ false
-    → byte_after i (x ∷ steps) a ≡ byte_after i steps a
-bytes_kept i x steps a e = rw e refl
-
 -- what a run that is over leaves
-pub record IsOver (i : Loaded) (n : ℕ) (s : State) (kind : EndKind) (count : ℕ) (rg : RegStatus) (ft : Fetch)
-    (m : Bytes) : Type 0 where
-  pub steps : count ≡ n + 1
-  pub stopped : ft ≡ Stopped kind s.pc
-  pub regs : rg.values ≡ s.regs
-  pub base : m.base ≡ s.image.window.base
-  pub bytes : m.bytes ≡ s.memory
+pub record IsOver {i : Loaded} {config : Configuration} {n : ℕ} (run : RunEndsAfter i config n) (s : Core) : Type 0
+  where
+    pub steps : s.issued ≡ n + 1
+    pub stopped : s.front.fetch ≡ Stopped run.kind run.state.pc
+    pub regs : s.front.registers.values ≡ run.state.regs
+    pub base : s.memory.base ≡ run.state.image.window.base
+    pub bytes : s.memory.bytes ≡ run.state.memory
 
 all_issued : {config : Configuration} {i : Loaded} {n : ℕ} (t count : ℕ) → RunEndsAfter i config n → count ≤ n + 1
     → (count ≤ n → IsYetToIssue i config count t) → greatest_end (first_timed config i (n + 1)) ≤ t → count ≡ n + 1
@@ -191,49 +258,44 @@ all_issued {config} {i} {n} t count run few next l = elim (cases_order count (n 
   | inr (inr more) ↦ absurd (omega arith)
 ]
 
-steps_last : (config : Configuration) (i : Loaded) (n : ℕ) (x : Step) → step_after i n ≡ Some x
-    → steps_in (first_timed config i (n + 1)) ≡ x ∷ first_steps i n
-steps_last config i n x e = steps_are config i (n + 1) ∙ step_joins i n x e
-
-over_at : {config : Configuration} {i : Loaded} {n : ℕ} {st : Pools} {rg : RegStatus} {ft : Fetch} {m : Bytes} (t : ℕ)
-    → (run : RunEndsAfter i config n) → IsSnapshot i config n t (n + 1) st rg ft m
-    → greatest_end (first_timed config i (n + 1)) ≤ t → IsOver i n run.state run.kind (n + 1) rg ft m
-over_at {config} {i} {n} {rg = rg} {ft} {m} t run shot l =
+over_at : {config : Configuration} {i : Loaded} {n : ℕ} (t : ℕ) (s : Front) (m : Bytes) (run : RunEndsAfter i config n)
+    → IsSnapshot i config n t (core (n + 1) s m) → greatest_end (first_timed config i (n + 1)) ≤ t
+    → IsOver run (core (n + 1) s m)
+over_at {config} {i} {n} t rest m run shot l =
     let s : State = run.state in
     let kind : EndKind = run.kind in
     let h : List Done = first_timed config i (n + 1) in
     let last = stops t run in
     let kind_is = step_ends_it i n s kind last.0 run.ends last.1 in
-    let steps = steps_last config i n last.0 last.1 in
+    let steps = steps_are config i (n + 1) ∙ step_joins i n last.0 last.1 in
     let leaves : Leaves i (first_steps i n) s = end_is i n s kind run.loaded run.ends in
     let state : IsState s = run_state i n s run.loaded run.ends.leads in
-    let follows = step_follows i n n s kind last.0 run.loaded run.ends (omega arith) last.1 in
-    let pc : last.0.pc ≡ s.pc = follows.pc ∙ sym leaves.pc in
+    let pc = (step_follows i n n s kind last.0 run.loaded run.ends (omega arith) last.1).pc ∙ sym leaves.pc in
     let no_dest : step_dest last.0 ≡ None = end_writes_no_register last.0 kind kind_is in
     let no_store : is_store last.0 ≡ false = end_writes_no_byte last.0 kind kind_is in
     let by = timed_by config h run.lawful (run_timed i (n + 1) run.lawful) in
-    let fetch : ft ≡ Stopped kind last.0.pc = shot.issue.from ∙ last.2 in
-    let size : length m.bytes ≡ i.window.size = shot.bytes.size in
+    let status : ShowsRegisters i t h rest.registers = shot.issue.shown.status in
     let base : m.base ≡ i.window.base = shot.bytes.base in
     record {
       steps = refl;
-      stopped = fetch ∙ ap (λ (x : ℕ). Stopped kind x) pc;
-      regs = same_registers i (first_steps i n) s rg.values leaves state shot.issue.status.count
-          (λ r k. shot.issue.status.values r k (no_writer t h r l)
-          ∙ (ap (λ xs. register_after i xs r) steps ∙ end_values i last.0 (first_steps i n) r no_dest));
+      stopped = shot.issue.shown.from ∙ last.2 ∙ ap (λ (x : ℕ). Stopped kind x) pc;
+      regs = same_registers i (first_steps i n) s rest.registers.values leaves state status.count
+          (λ r k. status.values r k (no_writer t h r l)
+          ∙ (ap (λ xs. register_after i xs r) steps ∙ rw no_dest refl));
       base = base ∙ sym (ap (λ x. x.window.base) leaves.image);
       bytes = same_memory i (first_steps i n) s m.bytes leaves state (record {
-        count = size;
+        count = shot.bytes.size;
         each = λ a low high. rw base at (shot.bytes.bytes a low high) ∙ (bytes_ended i t (greatest_end h) a h by l
-            ∙ (ap (λ xs. byte_after i xs a) steps ∙ bytes_kept i last.0 (first_steps i n) a no_store));
+            ∙ (ap (λ xs. byte_after i xs a) steps ∙ rw no_store refl));
       });
     }
 
 pub is_over_at : {A : Type 0} {config : Configuration} {i : Loaded} {n : ℕ} (t : ℕ) (at : Inner A)
-    → (run : RunEndsAfter i config n) → IsAt i config n t at → greatest_end (first_timed config i (n + 1)) ≤ t
-    → IsOver i n run.state run.kind at.issued at.registers at.fetch at.memory
+    (run : RunEndsAfter i config n) → IsAt i config n t at → greatest_end (first_timed config i (n + 1)) ≤ t
+    → IsOver run (core_of at)
 is_over_at {config = config} {i} {n} t at run shot l =
     let e : at.issued ≡ n + 1 = all_issued t at.issued run shot.issue.few shot.issue.next l in
-    let P : ℕ → Type 0 = λ x. IsSnapshot i config n t x at.pools at.registers at.fetch at.memory
-    → IsOver i n run.state run.kind x at.registers at.fetch at.memory in
-    subst P (sym e) (λ seen. over_at t run seen l) shot
+    let s : Core = core_of at in
+    let P : ℕ → Type 0 = λ x. IsSnapshot i config n t (core x s.front s.memory) → IsOver run (core x s.front s.memory)
+    in
+    subst P (sym e) (λ seen. over_at t s.front s.memory run seen l) shot

@@ -1,20 +1,18 @@
 -- Where nothing happens in a cycle and nothing finishes for a while, nothing happens for that while.
-use Rattle.std.proofs.Common.{ℕ, zero, suc, ◌+◌, ◌-◌, ◌<◌, ◌≤◌, ◌≡◌, ◌∙◌, Bool, true, false, arith, refl, List, [], ◌∷◌}
-use Rattle.std.proofs.Common.{Option, Some, None, ap, sym, inl, inr}
-use Rattle.tomex_cycle.proofs.Words.{◌≢◌, nat_lt, nat_le, ◌==◌, not, ◌&&◌, ◌||◌, is_some, count_by, if◌then◌else◌}
-use Rattle.tomex_cycle.proofs.Words.{nat_tests, MatchOption, MatchBool, AllByRecursion, cases_Bool}
-use Rattle.tomex_cycle.proofs.Words.{both_ways, lt-ltb, ltb-true, le-leb, leb-true, leb-false, ne_eqb, and_parts}
-use Rattle.tomex_cycle.proofs.Words.{and_from, and_right, sum_by-cons, Configuration, IsWithinLimits, option_of, PoolId}
-use Rattle.tomex_cycle.proofs.Words.{UnitId, step_pool, step_unit, step_dest, j_of, k_of, is_branch, is_in, is_number}
-use Rattle.tomex_cycle.proofs.Words.{Operand, Step, Done, Times, is_of, is_memory, cycle_of, writer_end, source_end}
-use Rattle.tomex_cycle.proofs.Words.{last_issue, last_address, is_held, has_station, AreTimed, IsLeast, can_issue}
-use Rattle.tomex_cycle.proofs.Words.{can_address, can_start, can_end, can_issue_another, has_unit, has_operands}
-use Rattle.tomex_cycle.proofs.Words.{are_branches_finished, conflicts, are_conflicts_finished, units_low, width_low}
-use Rattle.tomex_cycle.proofs.Words.{none_later, AllSettled, IsSettled}
-use Rattle.tomex_timing.specs.Recurrence.{has_bus}
-use Rattle.tomex_timing.proofs.Limits.{buses_low}
-use Rattle.tomex_timing.proofs.Settled.{count_none}
-use Rattle.tomex_cycle.proofs.Totals.{reach}
+use Rattle.tomex_cycle.proofs.Words.{◌≢◌, nat_le, ◌==◌, ◌&&◌, is_some, count_by, if◌then◌else◌, nat_tests, MatchOption}
+use Rattle.tomex_cycle.proofs.Words.{MatchBool, AllByRecursion, cases_Bool, both_ways, leb-true, leb-false, ne_eqb}
+use Rattle.tomex_cycle.proofs.Words.{and_right, sum_by-cons, Configuration, IsWithinLimits, option_of, PoolId, UnitId}
+use Rattle.tomex_cycle.proofs.Words.{step_pool, step_unit, step_dest, j_of, k_of, is_branch, is_in, is_number, Operand}
+use Rattle.tomex_cycle.proofs.Words.{Step, Done, Times, is_of, is_memory, cycle_of, writer_end, source_end, last_issue}
+use Rattle.tomex_cycle.proofs.Words.{last_address, is_held, AreTimed, IsLeast, can_issue, can_address, can_start}
+use Rattle.tomex_cycle.proofs.Words.{can_end, conflicts, units_low, width_low, none_later, AllSettled, IsSettled}
+use Rattle.tomex_cycle.proofs.Words.{IfSome, stations_of, ℕ, zero, suc, ◌+◌, ◌-◌, ◌<◌, ◌≤◌, ◌≡◌, ◌∙◌, Bool, true, false}
+use Rattle.tomex_cycle.proofs.Words.{arith, refl, List, [], ◌∷◌, Option, Some, None, ap, sym, inl, inr, buses_low}
+use Rattle.tomex_cycle.proofs.Words.{count_none, can_address_from, can_address_is, can_end_from, can_end_is}
+use Rattle.tomex_cycle.proofs.Words.{can_issue_from, can_issue_is, can_start_from, All, IsTrue, All-from_recursion}
+use Rattle.tomex_cycle.proofs.Words.{recursion_from_All}
+use Rattle.tomex_cycle.proofs.Runs.{reach}
+use Rattle.tomex_timing.proofs.Tests.{can_start_is}
 
 -- nothing of the step falls in the cycle but perhaps its start
 pub record IsAtRest (v : ℕ) (d : Done) : Type 0 where
@@ -52,40 +50,27 @@ IsSteady v d = IsQuietBut HasResult v d
 abbrev pub AllSteady : ℕ → List Done → Type 0
 AllSteady v h = AllByRecursion (IsSteady v) h
 
+-- what holds of each step follows of each from what follows of one
+all_so : {P Q : Done → Type 0} (h : List Done) → ((d : Done) → P d → Q d) → AllByRecursion P h → AllByRecursion Q h
+all_so [] one all = tt
+all_so (d ∷ h) one all = (one d all.0, all_so h one all.1)
+
 pub quiet_steady : (v : ℕ) (h : List Done) → AllQuiet v h → AllSteady v h
-quiet_steady v [] quiet = tt
-quiet_steady v (d ∷ h) quiet = (
-  record {
-    issue = quiet.0.issue;
-    address = quiet.0.address;
-    start = quiet.0.start;
-    finish = λ e. absurd (quiet.0.finish e);
-    end = quiet.0.end;
-  },
-  quiet_steady v h quiet.1,
-)
+quiet_steady v h = all_so h (λ d q. record {
+  issue = q.issue;
+  address = q.address;
+  start = q.start;
+  finish = λ e. absurd (q.finish e);
+  end = q.end;
+})
 
 quiet_rests : (v : ℕ) (h : List Done) → AllQuiet v h → AllAtRest v h
-quiet_rests v [] quiet = tt
-quiet_rests v (d ∷ h) quiet = (
-  record {
-    issue = quiet.0.issue;
-    address = quiet.0.address;
-    finish = quiet.0.finish;
-    end = quiet.0.end;
-  },
-  quiet_rests v h quiet.1,
-)
+quiet_rests v h =
+    all_so h (λ d q. record { issue = q.issue; address = q.address; finish = q.finish; end = q.end })
 
 pub settled_rests : (v : ℕ) (h : List Done) → AllSettled v h → AllAtRest v h
-settled_rests v [] settled = tt
-settled_rests v (d ∷ h) settled = (
-  record { issue = settled.0.issue; address = settled.0.address; finish = settled.0.finish; end = settled.0.end },
-  settled_rests v h settled.1,
-)
-
-less : (a v : ℕ) → nat_lt a (v + 1) ≡ true → a ≢ v → nat_lt a v ≡ true
-less a v e apart = let k : a < v + 1 = ltb-true a (v + 1) e in lt-ltb a v (omega arith)
+settled_rests v h =
+    all_so h (λ d q. record { issue = q.issue; address = q.address; finish = q.finish; end = q.end })
 
 last_issue_quiet : (v : ℕ) (h : List Done) → 0 < v → AllAtRest v h → last_issue h ≢ v
 last_issue_quiet v [] l quiet e = omega arith
@@ -113,24 +98,19 @@ source_quiet : (v : ℕ) (h : List Done) (o : Option Operand) → 0 < v → AllA
 source_quiet v h None l quiet e = omega arith
 source_quiet v h (Some o) l quiet e = writer_quiet v o.register h l quiet e
 
-or_less : (a : Bool) (f v : ℕ) → (not a || nat_lt f (v + 1)) ≡ true → f ≢ v → (not a || nat_lt f v) ≡ true
-or_less a f v e apart = grind (arith, nat_tests)
-
 -- what has finished before the next cycle has before this one
-branches_quiet : (v : ℕ) (h : List Done) → AllAtRest v h → are_branches_finished h (v + 1) ≡ true
-    → are_branches_finished h v ≡ true
-branches_quiet v [] quiet e = refl
-branches_quiet v (d ∷ h) quiet e =
-    let two = and_parts (not (is_branch d.step) || nat_lt d.at.finish (v + 1)) (are_branches_finished h (v + 1)) e in
-    and_from _ _ (or_less (is_branch d.step) d.at.finish v two.0 quiet.0.finish) (branches_quiet v h quiet.1 two.1)
-
-conflicts_quiet : (v : ℕ) (h : List Done) (s : Step) → AllAtRest v h → are_conflicts_finished h s (v + 1) ≡ true
-    → are_conflicts_finished h s v ≡ true
-conflicts_quiet v [] s quiet e = refl
-conflicts_quiet v (d ∷ h) s quiet e =
-    let two = and_parts (not (conflicts d.step s) || nat_lt d.at.finish (v + 1)) (are_conflicts_finished h s (v + 1)) e
-    in
-    and_from _ _ (or_less (conflicts d.step s) d.at.finish v two.0 quiet.0.finish) (conflicts_quiet v h s quiet.1 two.1)
+finished_before : (p : Done → Bool) (v : ℕ) (h : List Done) → AllAtRest v h
+    → All (λ d. IsTrue (p d) → d.at.finish < v + 1) h → All (λ d. IsTrue (p d) → d.at.finish < v) h
+finished_before p v h quiet all = All-from_recursion (λ d. IsTrue (p d) → d.at.finish < v) h
+    (go h quiet (recursion_from_All (λ d. IsTrue (p d) → d.at.finish < v + 1) h all))
+  where
+    go : (h : List Done) → AllAtRest v h → AllByRecursion (λ d. IsTrue (p d) → d.at.finish < v + 1) h
+        → AllByRecursion (λ d. IsTrue (p d) → d.at.finish < v) h
+    go [] quiet all = tt
+    go (d ∷ h) quiet all = (
+      (λ is. let l : d.at.finish < v + 1 = all.0 is in let apart : d.at.finish ≢ v = quiet.0.finish in omega arith),
+      go h quiet.1 all.1,
+    )
 
 held_quiet : (v end : ℕ) → end ≢ v → nat_le (v + 1) end ≡ nat_le v end
 held_quiet v end apart = grind (arith, nat_tests)
@@ -144,81 +124,73 @@ holders_quiet v pool (d ∷ h) quiet =
     ∙ sym (sum_by-cons (λ (e : Done). if is_held pool v e then 1 else 0) d h))
 
 station_quiet : (config : Configuration) (v : ℕ) (h : List Done) (pool : Option PoolId) → AllAtRest v h
-    → has_station config h pool (v + 1) ≡ true → has_station config h pool v ≡ true
-station_quiet config v h None quiet e = refl
+    → IfSome pool (λ p. count_by (is_held p (v + 1)) h < stations_of config p)
+    → IfSome pool (λ p. count_by (is_held p v) h < stations_of config p)
+station_quiet config v h None quiet e = tt
 station_quiet config v h (Some pool) quiet e = rw (holders_quiet v pool h quiet) at e
 
 unit_quiet : {config : Configuration} (v : ℕ) (h : List Done) (unit : UnitId) → IsWithinLimits config → AllQuiet v h
-    → has_unit config h unit v ≡ true
+    → count_by (λ d. is_of unit (step_unit d.step) && d.at.start == v) h < (option_of config unit).units
 unit_quiet {config} v h unit good quiet =
     rw (count_none (λ (d : Done). is_of unit (step_unit d.step) && d.at.start == v) (IsQuiet v)
     (λ d s. and_right (is_of unit (step_unit d.step)) (d.at.start == v) (ne_eqb d.at.start v s.start)) h quiet)
-    (lt-ltb 0 (option_of config unit).units (units_low config unit good))
+    (units_low config unit good)
 
 bus_quiet : {config : Configuration} (v : ℕ) (h : List Done) → IsWithinLimits config → AllAtRest v h
-    → has_bus config h v ≡ true
+    → count_by (λ d. is_some (step_dest d.step) && d.at.end == v) h < config.buses
 bus_quiet {config} v h good quiet = rw (count_none (λ (d : Done). is_some (step_dest d.step) && d.at.end == v)
     (IsAtRest v) (λ d s. and_right (is_some (step_dest d.step)) (d.at.end == v) (ne_eqb d.at.end v s.end)) h quiet)
-    (lt-ltb 0 config.buses (buses_low config good))
+    (buses_low config good)
 
 -- What passes a test of the next cycle passes it in a cycle in which nothing happens.
 
 -- if none has issued in either of the two, all slots of this one are left
-slot_quiet : {config : Configuration} (v : ℕ) (h : List Done) → 0 < v → IsWithinLimits config → AreTimed config h
-    → AllAtRest v h → last_issue h ≢ v + 1 → can_issue_another config h (v + 1) ≡ true
-    → can_issue_another config h v ≡ true
-slot_quiet {config} v h l good timed quiet apart e =
-    let by : last_issue h ≤ v + 1 = leb-true (last_issue h) (v + 1) (and_parts _ _ e).0 in
-    let here : last_issue h ≢ v = last_issue_quiet v h l quiet in
-    let earlier : last_issue h < v = before (last_issue h) v by here apart in
-    and_from _ _ (le-leb (last_issue h) v (omega arith))
-    (rw (none_later config h v timed earlier) (lt-ltb 0 config.width (width_low config good)))
-  where
-    before : (a v : ℕ) → a ≤ v + 1 → a ≢ v → a ≢ v + 1 → a < v
-    before a v e f g = grind (arith, nat_tests)
-
 pub issue_quiet : {config : Configuration} (v : ℕ) (h : List Done) (s : Step) → 0 < v → IsWithinLimits config
     → AreTimed config h → AllAtRest v h → last_issue h ≢ v + 1 → can_issue config h s (v + 1) ≡ true
     → can_issue config h s v ≡ true
 issue_quiet {config} v h s l good timed quiet apart e =
-    let a = and_parts (nat_lt 0 (v + 1) && can_issue_another config h (v + 1) && are_branches_finished h (v + 1))
-    (has_station config h (step_pool s) (v + 1)) e in
-    let b = and_parts (nat_lt 0 (v + 1) && can_issue_another config h (v + 1)) (are_branches_finished h (v + 1)) a.0 in
-    let c = and_parts (nat_lt 0 (v + 1)) (can_issue_another config h (v + 1)) b.0 in
-    and_from _ _ (and_from _ _ (and_from _ _ (lt-ltb 0 v l) (slot_quiet v h l good timed quiet apart c.1))
-    (branches_quiet v h quiet b.1)) (station_quiet config v h (step_pool s) quiet a.1)
+    let can = can_issue_is config h s (v + 1) e in
+    let here : last_issue h ≢ v = last_issue_quiet v h l quiet in
+    let by : last_issue h ≤ v + 1 = can.in_order in
+    can_issue_from config h s v (record {
+      first = l;
+      in_order = omega arith;
+      slot_left = rw (none_later config h v timed (omega arith)) (width_low config good);
+      branches_finished = finished_before (λ d. is_branch d.step) v h quiet can.branches_finished;
+      station_left = station_quiet config v h (step_pool s) quiet can.station_left;
+    })
 
 address_quiet : (v : ℕ) (h : List Done) (s : Step) (issue : ℕ) → 0 < v → AllAtRest v h → issue ≢ v
     → can_address h s issue (v + 1) ≡ true → can_address h s issue v ≡ true
 address_quiet v h s issue l quiet apart e =
-    let a = and_parts (nat_lt issue (v + 1) && nat_lt (source_end h (j_of s)) (v + 1)) (nat_lt (last_address h) (v + 1))
-    e in
-    let b = and_parts (nat_lt issue (v + 1)) (nat_lt (source_end h (j_of s)) (v + 1)) a.0 in
-    and_from _ _ (and_from _ _ (less issue v b.0 apart)
-    (less (source_end h (j_of s)) v b.1 (source_quiet v h (j_of s) l quiet)))
-    (less (last_address h) v a.1 (last_address_quiet v h l quiet))
+    let can = can_address_is h s issue (v + 1) e in
+    let base : source_end h (j_of s) ≢ v = source_quiet v h (j_of s) l quiet in
+    let last : last_address h ≢ v = last_address_quiet v h l quiet in
+    can_address_from h s issue v
+    (record { after_issue = omega arith; after_base = omega arith; in_order = omega arith })
 
 start_quiet : {config : Configuration} (v : ℕ) (h : List Done) (s : Step) (unit : UnitId) (issue address : ℕ) → 0 < v
     → IsWithinLimits config → AllQuiet v h → issue ≢ v → address ≢ v
     → can_start config h s unit issue address (v + 1) ≡ true → can_start config h s unit issue address v ≡ true
 start_quiet {config} v h s unit issue address l good quiet i a e =
-    let p = and_parts (nat_lt issue (v + 1) && nat_lt address (v + 1) && has_operands h s (v + 1) &&
-    are_conflicts_finished h s (v + 1)) (has_unit config h unit (v + 1)) e in
-    let q = and_parts (nat_lt issue (v + 1) && nat_lt address (v + 1) && has_operands h s (v + 1))
-    (are_conflicts_finished h s (v + 1)) p.0 in
-    let r = and_parts (nat_lt issue (v + 1) && nat_lt address (v + 1)) (has_operands h s (v + 1)) q.0 in
-    let two = and_parts (nat_lt issue (v + 1)) (nat_lt address (v + 1)) r.0 in
-    let ops = and_parts (nat_lt (source_end h (j_of s)) (v + 1)) (nat_lt (source_end h (k_of s)) (v + 1)) r.1 in
-    and_from _ _ (and_from _ _ (and_from _ _ (and_from _ _ (less issue v two.0 i) (less address v two.1 a))
-    (and_from _ _ (less (source_end h (j_of s)) v ops.0 (source_quiet v h (j_of s) l (quiet_rests v h quiet)))
-    (less (source_end h (k_of s)) v ops.1 (source_quiet v h (k_of s) l (quiet_rests v h quiet)))))
-    (conflicts_quiet v h s (quiet_rests v h quiet) q.1)) (unit_quiet v h unit good quiet)
+    let can = can_start_is config h s unit issue address (v + 1) e in
+    let rest : AllAtRest v h = quiet_rests v h quiet in
+    let j : source_end h (j_of s) ≢ v = source_quiet v h (j_of s) l rest in
+    let k : source_end h (k_of s) ≢ v = source_quiet v h (k_of s) l rest in
+    can_start_from config h s unit issue address v (record {
+      after_issue = omega arith;
+      after_address = omega arith;
+      after_j = omega arith;
+      after_k = omega arith;
+      conflicts_finished = finished_before (λ d. conflicts d.step s) v h rest can.conflicts_finished;
+      unit_left = unit_quiet v h unit good quiet;
+    })
 
 end_quiet : {config : Configuration} (v : ℕ) (h : List Done) (finish : ℕ) → IsWithinLimits config → AllAtRest v h
     → finish ≢ v → can_end config h finish (v + 1) ≡ true → can_end config h finish v ≡ true
 end_quiet {config} v h finish good quiet apart e =
-    let two = and_parts (nat_lt finish (v + 1)) (has_bus config h (v + 1)) e in
-    and_from _ _ (less finish v two.0 apart) (bus_quiet v h good quiet)
+    let can = can_end_is config h finish (v + 1) e in
+    can_end_from config h finish v (record { after_finish = omega arith; bus_left = bus_quiet v h good quiet })
 
 -- so the least cycle that passes it isn't the next one
 pub not_least : (p : ℕ → Bool) (a v : ℕ) → (p (v + 1) ≡ true → p v ≡ true) → IsLeast p a → a ≢ v + 1
@@ -242,9 +214,9 @@ abbrev pub AllQuietTo : ℕ → ℕ → List Done → Type 0
 AllQuietTo u v h = (k : ℕ) → u ≤ k → k ≤ v → AllQuiet k h
 
 start_by : {config : Configuration} (v : ℕ) (h : List Done) (x : Step) (at : Times) (unit : Option UnitId) → 0 < v
-    → IsWithinLimits config → AllQuiet v h → at.issue ≢ v → cycle_of at.address ≢ v → at.issue ≢ v + 1
-    → MatchOption unit (at.start ≡ at.issue) (λ u. IsLeast (can_start config h x u at.issue (cycle_of at.address))
-    at.start) → at.start ≢ v + 1
+    → IsWithinLimits config → AllQuiet v h → at.issue ≢ v → cycle_of at.address ≢ v → at.issue ≢ v + 1 → MatchOption
+    unit (at.start ≡ at.issue) (λ u. IsLeast (can_start config h x u at.issue (cycle_of at.address)) at.start)
+    → at.start ≢ v + 1
 start_by v h x at None l good quiet i a next timed e = let f : at.start ≡ at.issue = timed in next (omega arith)
 start_by {config} v h x at (Some unit) l good quiet i a next timed e =
     not_least (can_start config h x unit at.issue (cycle_of at.address)) at.start v
@@ -252,8 +224,8 @@ start_by {config} v h x at (Some unit) l good quiet i a next timed e =
 
 end_by : {config : Configuration} (v : ℕ) (h : List Done) (at : Times) (unit : Option UnitId) (dest : Bool)
     → IsWithinLimits config → AllAtRest v h → at.finish ≢ v → at.issue ≢ v + 1 → (dest ≡ false → at.finish ≢ v + 1)
-    → MatchOption unit (at.end ≡ at.issue) (λ u. MatchBool dest (IsLeast (can_end config h at.finish) at.end) (at.end ≡
-    at.finish)) → at.end ≢ v + 1
+    → MatchOption unit (at.end ≡ at.issue)
+    (λ u. MatchBool dest (IsLeast (can_end config h at.finish) at.end) (at.end ≡ at.finish)) → at.end ≢ v + 1
 end_by v h at None dest good quiet f i g timed e = let k : at.end ≡ at.issue = timed in i (omega arith)
 end_by {config} v h at (Some unit) true good quiet f i g timed e =
     not_least (can_end config h at.finish) at.end v (end_quiet v h at.finish good quiet f) timed e
@@ -283,14 +255,14 @@ quiet_next {config} u v (d ∷ h) good timed l m quiet free =
     let rest : AllAtRest v h = quiet_rests v h before in
     let low : 0 < v = omega arith in
     let apart : last_issue h ≢ v + 1 = last_issue_quiet (v + 1) h (omega arith) (quiet_rests (v + 1) h older) in
-    let issue : d.at.issue ≢ v + 1 = not_least (can_issue config h d.step) d.at.issue v
-    (issue_quiet v h d.step low good timed.1 rest apart) timed.0.issue in
+    let issue : d.at.issue ≢ v + 1 = not_least (can_issue config h d.step) d.at.issue v (issue_quiet v h d.step low good
+    timed.1 rest apart) timed.0.issue in
     let address = address_by v h d.step d.at (is_memory d.step) low rest now.issue timed.0.address in
     let start = start_by v h d.step d.at (step_unit d.step) low good before now.issue now.address issue timed.0.start in
     let order : d.at.start ≤ d.at.finish = (reach d h good timed).order in
     let finish = finish_by u v d.at.start d.at.finish m (λ k a b. (quiet k a b).0.start) start order free.0 in
-    let end : d.at.end ≢ v + 1 = end_by v h d.at (step_unit d.step) (is_some (step_dest d.step)) good rest
-    now.finish issue (λ silent. finish) timed.0.end in
+    let end : d.at.end ≢ v + 1 = end_by v h d.at (step_unit d.step) (is_some (step_dest d.step)) good rest now.finish
+    issue (λ silent. finish) timed.0.end in
     (record { issue = issue; address = address; start = start; finish = finish; end = end }, older)
 
 -- if nothing happens in the cycle u, and nothing that had started finishes in the next ones, nothing happens in them
@@ -371,7 +343,7 @@ pub settled_quiet : {config : Configuration} (u n : ℕ) (h : List Done) → IsW
     → 0 < u → AllSettled u h → ((w : ℕ) → u < w → w ≤ u + n → AllFree u w h) → (k : ℕ) → u < k → k ≤ u + n
     → AllQuiet k h
 settled_quiet u n h good timed l settled free k a b =
-    let first : AllQuiet (u + 1) h =
-    settled_next (λ d. ⊥) u h (λ d none. absurd none) good timed l settled (free (u + 1) (omega arith) (omega arith)) in
+    let first : AllQuiet (u + 1) h = settled_next (λ d. ⊥) u h (λ d none. absurd none) good timed l settled
+    (free (u + 1) (omega arith) (omega arith)) in
     quiet_on (u + 1) (n - 1) h good timed (omega arith) first
     (λ w c d. free_on u w h settled (free w (omega arith) (omega arith))) k (omega arith) (omega arith)

@@ -1,24 +1,18 @@
 -- The sets of the operations that can start, by kind of unit.
-use Rattle.std.proofs.Common.{ℕ, ◌<◌, ◌≡◌, ◌∙◌, Bool, true, false, refl, List, [], ◌∷◌, ◌++◌, Option, Some, None, ap}
-use Rattle.std.proofs.Common.{arith, sym, inl, inr, slice_index, slice_index_or}
-use Rattle.tomex_cycle.proofs.Words.{◌==◌, ◌≢◌, ◌&&◌, ◌||◌, not, is_none, is_some, cases_Bool, both_ways, and_parts}
+use Rattle.tomex_cycle.proofs.Words.{◌==◌, ◌≢◌, ◌&&◌, not, is_none, is_some, cases_Bool, both_ways, and_parts}
 use Rattle.tomex_cycle.proofs.Words.{nat_tests, eqb-true, eqb-false, is_in, is_number, has, IsWithout, IsInIssueOrder}
 use Rattle.tomex_cycle.proofs.Words.{IsPicked, Configuration, option_of, pool_of, unit_at, unit_of, place_of_unit}
 use Rattle.tomex_cycle.proofs.Words.{PoolId, UnitId, is_of, none_in, inside_left, none_picked, no_option, is_memory_op}
-use Rattle.tomex_cycle.proofs.Words.{is_waiting, AreBusy, Pools, IsSetOf, has_address, waits, Station, AreStartable}
-use Rattle.tomex_cycle.proofs.Words.{IsStarting, is_clear, kind_if, kind_of, wanted}
-use Rattle.tomex_steps.specs.Steps.{bytes_at}
-use Rattle.tomex_steps.proofs.Fields.{bytes_of_op}
-use Rattle.tomex_sets.specs.Sets.{IsWith}
+use Rattle.tomex_cycle.proofs.Words.{is_waiting, AreBusy, Pools, IsSetOf, has_address, waits, Station, IsStarting}
+use Rattle.tomex_cycle.proofs.Words.{is_clear, kind_if, kind_of, wanted, ◌||◌, slot, ℕ, ◌<◌, ◌≡◌, ◌∙◌, Bool, true}
+use Rattle.tomex_cycle.proofs.Words.{false, refl, List, [], ◌∷◌, ◌++◌, Option, Some, None, ap, arith, sym, inl, inr}
+use Rattle.tomex_cycle.proofs.Words.{slice_index, bytes_at, bytes_of_op, IsWith, none_rest, single_picked}
+use Rattle.tomex_cycle.proofs.Words.{is_busy_there, bytes_from, is_ready, AreStartableFor, IsWanted}
+use Rattle.tomex_cycle.proofs.IssueOrder.{no_access}
+use Rattle.tomex_tags.specs.WaitSets.{waits_for}
+use Rattle.tomex_cycle.proofs.Truth.{or_false}
 use Rattle.tomex_rvdec.specs.declared.pool.PoolId.TheVariants as pools
 use Rattle.tomex_rvdec.specs.declared.pool.UnitId.TheVariants as units
-use Rattle.tomex_sets.proofs.Members.{none_rest}
-use Rattle.tomex_bus.proofs.Picking.{single_picked}
-use Rattle.tomex_cycle.proofs.IssueOrder.{no_access}
-use Rattle.tomex_tags.proofs.Entering.{is_busy_there}
-use Rattle.tomex_tags.specs.Contents.{bytes_from, is_ready}
-use Rattle.tomex_tags.specs.WaitSets.{waits_for}
-use Rattle.tomex_cycle.specs.Starts.{AreStartableFor, IsWanted}
 
 no_kind : (w c : Bool) (u : Option UnitId) (unit : UnitId) → (w && is_of unit u) ≡ false
     → is_number (kind_if (w && c) (kind_of u)) (place_of_unit unit) ≡ false
@@ -58,7 +52,7 @@ first_cleared st next waiting of = record {
   inside = λ x l e. e;
   found = λ x l e. absurd (both_ways (has 0 x) (none_in x) e);
   wants = λ x l e older younger by. none_in x
-      ∙ sym (wants_not st.slots older next units.Mem (slice_index_or st.slots x None) (sym (of x l) ∙ e));
+      ∙ sym (wants_not st.slots older next units.Mem (slot st.slots x) (sym (of x l) ∙ e));
   later = λ x l e. none_in x;
 }
 
@@ -118,23 +112,23 @@ addressed_one : (s : Station) → waits_for units.Mem (Some s) ≡ true → has_
 addressed_one s w =
     let two = and_parts (is_waiting s) (is_of units.Mem (unit_of s.instr.op)) w in
     let memory : is_memory_op s.instr.op ≡ true = memory_unit (pool_of s.instr.op) ∙ two.1 in
-    let address : (not (is_memory_op s.instr.op) || is_some s.address) ≡ true =
-    (and_parts (is_none s.finish && is_ready s) (not (is_memory_op s.instr.op) || is_some s.address) two.0).1 in
+    let address : (not (is_memory_op s.instr.op) || is_some s.address) ≡ true = (and_parts (is_none s.finish && is_ready
+    s) (not (is_memory_op s.instr.op) || is_some s.address) two.0).1 in
     rw memory (rw memory at address)
 
 -- all that wait are clear if each of them is
 pub all_waiting : (st : Pools) (next waiting : ℕ) → AreBusy st.slots st.busy st.issue_numbers
     → IsSetOf (waits_for units.Mem) st.slots waiting
     → ((place next : ℕ) (s : Station) (older younger : List ℕ) → place < 128
-    → slice_index_or st.slots place None ≡ Some s → has_address (Some s) ≡ true
+    → slot st.slots place ≡ Some s → has_address (Some s) ≡ true
     → IsInIssueOrder st.busy st.issue_numbers (older ++ (place ∷ younger)) → is_clear st.slots older s next ≡ true)
     → AreStartableFor st next units.Mem waiting
 all_waiting st next waiting filled of clear = record {
   inside = is_busy_there (waits_for units.Mem) st.slots st.busy st.issue_numbers waiting (none_waits units.Mem) filled
       of;
-  wants = λ x l older younger by. of x l ∙ elim (cases_Bool (waits_for units.Mem (slice_index_or st.slots x None))) [
-    | inr e ↦ e ∙ sym (wants_not st.slots older next units.Mem (slice_index_or st.slots x None) e)
-    | inl e ↦ e ∙ wants_clear st.slots older next units.Mem (slice_index_or st.slots x None) true e (λ s here. sym
+  wants = λ x l older younger by. of x l ∙ elim (cases_Bool (waits_for units.Mem (slot st.slots x))) [
+    | inr e ↦ e ∙ sym (wants_not st.slots older next units.Mem (slot st.slots x) e)
+    | inl e ↦ e ∙ wants_clear st.slots older next units.Mem (slot st.slots x) true e (λ s here. sym
         (clear x next s older younger l here (addressed_one s (ap (waits_for units.Mem) (sym here) ∙ e)) by))
   ];
 }
@@ -167,14 +161,14 @@ pub ready_for : (st : Pools) (next set : ℕ) (unit : UnitId) → AreBusy st.slo
     → IsSetOf (waits_for unit) st.slots set → unit ≢ units.Mem → AreStartableFor st next unit set
 ready_for st next set unit filled of apart = record {
   inside = is_busy_there (waits_for unit) st.slots st.busy st.issue_numbers set (none_waits unit) filled of;
-  wants = λ x l older younger by. of x l ∙ wants_unit st.slots older next unit (slice_index_or st.slots x None) apart;
+  wants = λ x l older younger by. of x l ∙ wants_unit st.slots older next unit (slot st.slots x) apart;
 }
 
 -- all that wait for a unit of a kind, if at most one operation waits
 pub single_of : (unit : UnitId) (slots : List (Option Station)) (waiting set n : ℕ) (issue_numbers : List ℕ)
     → ((a b : ℕ) → a < 128 → b < 128 → has waiting a ≡ true → has waiting b ≡ true → a ≡ b)
     → IsSetOf waits slots waiting → 0 < n
-    → ((x : ℕ) → x < 128 → has set x ≡ true → waits_for unit (slice_index_or slots x None) ≡ true)
+    → ((x : ℕ) → x < 128 → has set x ≡ true → waits_for unit (slot slots x) ≡ true)
     → IsPicked set issue_numbers n set
 single_of unit slots waiting set n issue_numbers single are some wait =
     single_picked set n issue_numbers some (λ a b l m e f. single a b l m (among a l e) (among b m f))
@@ -183,63 +177,77 @@ single_of unit slots waiting set n issue_numbers single are some wait =
     waits_too o e = grind (arith, nat_tests)
 
     among : (x : ℕ) → x < 128 → has set x ≡ true → has waiting x ≡ true
-    among x l e = are x l ∙ waits_too (slice_index_or slots x None) (wait x l e)
+    among x l e = are x l ∙ waits_too (slot slots x) (wait x l e)
 
 pub all_of : (unit : UnitId) (slots : List (Option Station)) (set : ℕ) → IsSetOf (waits_for unit) slots set → (x : ℕ)
-    → x < 128 → has set x ≡ true → waits_for unit (slice_index_or slots x None) ≡ true
+    → x < 128 → has set x ≡ true → waits_for unit (slot slots x) ≡ true
 all_of unit slots set of x l e = sym (of x l) ∙ e
 
 pub found_waiting : {st : Pools} {next waiting rest clear : ℕ} → IsSetOf (waits_for units.Mem) st.slots waiting
     → AreCleared st next waiting rest clear → (x : ℕ) → x < 128 → has clear x ≡ true
-    → waits_for units.Mem (slice_index_or st.slots x None) ≡ true
+    → waits_for units.Mem (slot st.slots x) ≡ true
 found_waiting of so x l e = sym (of x l) ∙ so.found x l e
 
--- the oldest of each kind together
-pub are_starting : (config : Configuration) {st : Pools} {next ra rb rc rd re : ℕ} (a b c d e all : ℕ)
-    → AreStartableFor st next units.Alu ra → AreStartableFor st next units.Mul rb → AreStartableFor st next units.Div rc
-    → AreStartableFor st next units.Mem rd → AreStartableFor st next units.Bru re
-    → IsPicked ra st.issue_numbers (option_of config units.Alu).units a
-    → IsPicked rb st.issue_numbers (option_of config units.Mul).units b
-    → IsPicked rc st.issue_numbers (option_of config units.Div).units c
-    → IsPicked rd st.issue_numbers (option_of config units.Mem).units d
-    → IsPicked re st.issue_numbers (option_of config units.Bru).units e
-    → ((x : ℕ) → has all x ≡ (has a x || (has b x || (has c x || (has d x || has e x)))))
+-- the oldest of the operations that can start, of a kind of unit
+pub record AreServedBy (config : Configuration) (st : Pools) (next : ℕ) (unit : UnitId) : Type 0 where
+  pub ready : ℕ
+  pub set : ℕ
+  pub startable : AreStartableFor st next unit ready
+  pub picked : IsPicked ready st.issue_numbers (option_of config unit).units set
+
+abbrev pub are_served : (config : Configuration) (st : Pools) (next : ℕ) (unit : UnitId) (ready set : ℕ)
+    → AreStartableFor st next unit ready → IsPicked ready st.issue_numbers (option_of config unit).units set
+    → AreServedBy config st next unit
+are_served config st next unit ready set startable picked =
+    record { ready = ready; set = set; startable = startable; picked = picked }
+
+-- those of each kind together
+pub are_starting : {config : Configuration} {st : Pools} {next : ℕ} (all : ℕ)
+    (alu : AreServedBy config st next units.Alu) (mul : AreServedBy config st next units.Mul)
+    (div : AreServedBy config st next units.Div) (mem : AreServedBy config st next units.Mem)
+    (bru : AreServedBy config st next units.Bru) → ((x : ℕ) → has all x
+    ≡ (has alu.set x || (has mul.set x || (has div.set x || (has mem.set x || has bru.set x)))))
     → IsStarting config st next all
-are_starting config {st} {next} {ra} {rb} {rc} {rd} {re} a b c d e all is_alu is_mul is_div is_mem is_bru alu mul div
-    mem bru together = record {
-      startable = ra ∷ rb ∷ rc ∷ rd ∷ re ∷ [];
-      kinds = a ∷ b ∷ c ∷ d ∷ e ∷ [];
-      are_startable = kinds;
-      units = each;
-      count = refl;
-      all = λ x l. together x ∙ ap (λ z. has a x || (has b x || (has c x || (has d x || z)))) (sym (or_none (has e x)));
-    }
+are_starting {config} {st} {next} all alu mul div mem bru together = record {
+  startable = alu.ready ∷ mul.ready ∷ div.ready ∷ mem.ready ∷ bru.ready ∷ [];
+  kinds = alu.set ∷ mul.set ∷ div.set ∷ mem.set ∷ bru.set ∷ [];
+  are_startable = λ unit. (each unit).0;
+  units = λ unit. (each unit).1;
+  count = refl;
+  all = λ x l. together x ∙ ap (λ z. has alu.set x || (has mul.set x || (has div.set x || (has mem.set x || z))))
+      (sym (or_false (has bru.set x)));
+}
   where
-    or_none : (z : Bool) → (z || false) ≡ z
-    or_none z = grind (arith, nat_tests)
-
-    kinds : AreStartable st next (ra ∷ rb ∷ rc ∷ rd ∷ re ∷ [])
-    kinds = grind (arith, nat_tests)
-
-    each : (unit : UnitId) → IsPicked (slice_index (ra ∷ rb ∷ rc ∷ rd ∷ re ∷ []) (place_of_unit unit)) st.issue_numbers
-        (option_of config unit).units (slice_index (a ∷ b ∷ c ∷ d ∷ e ∷ []) (place_of_unit unit))
-    each unit = grind (arith, nat_tests)
+    each : (unit : UnitId) → AreStartableFor st next unit (slice_index (alu.ready ∷ mul.ready ∷ div.ready ∷ mem.ready
+        ∷ bru.ready ∷ []) (place_of_unit unit)) × IsPicked (slice_index (alu.ready ∷ mul.ready ∷ div.ready ∷ mem.ready
+        ∷ bru.ready ∷ []) (place_of_unit unit)) st.issue_numbers (option_of config unit).units (slice_index
+        (alu.set ∷ mul.set ∷ div.set ∷ mem.set ∷ bru.set ∷ []) (place_of_unit unit))
+    each units.Alu = (alu.startable, alu.picked)
+    each units.Mul = (mul.startable, mul.picked)
+    each units.Div = (div.startable, div.picked)
+    each units.Mem = (mem.startable, mem.picked)
+    each units.Bru = (bru.startable, bru.picked)
 
 -- if nothing waits, nothing starts
 pub none_starts : (config : Configuration) (st : Pools) (next waiting : ℕ) → AreBusy st.slots st.busy st.issue_numbers
     → IsSetOf waits st.slots waiting → waiting ≡ 0 → IsStarting config st next 0
 none_starts config st next waiting filled of empty =
-    are_starting config 0 0 0 0 0 0 (ready_for st next 0 units.Alu filled (none_for units.Alu) (λ e. absurd (cc)))
-    (ready_for st next 0 units.Mul filled (none_for units.Mul) (λ e. absurd (cc)))
-    (ready_for st next 0 units.Div filled (none_for units.Div) (λ e. absurd (cc)))
-    (all_cleared filled (none_for units.Mem) (first_cleared st next 0 (none_for units.Mem)) refl)
-    (ready_for st next 0 units.Bru filled (none_for units.Bru) (λ e. absurd (cc)))
-    (none_picked 0 _ st.issue_numbers refl) (none_picked 0 _ st.issue_numbers refl)
-    (none_picked 0 _ st.issue_numbers refl) (none_picked 0 _ st.issue_numbers refl)
-    (none_picked 0 _ st.issue_numbers refl) (λ x. rw (none_in x) refl)
+    are_starting 0 (are_served config st next units.Alu 0 0 (other units.Alu (λ e. absurd (cc))) (picked units.Alu))
+    (are_served config st next units.Mul 0 0 (other units.Mul (λ e. absurd (cc))) (picked units.Mul))
+    (are_served config st next units.Div 0 0 (other units.Div (λ e. absurd (cc))) (picked units.Div))
+    (are_served config st next units.Mem 0 0
+    (all_cleared filled (none_for units.Mem) (first_cleared st next 0 (none_for units.Mem)) refl) (picked units.Mem))
+    (are_served config st next units.Bru 0 0 (other units.Bru (λ e. absurd (cc))) (picked units.Bru))
+    (λ x. rw (none_in x) refl)
   where
     none_too : (unit : UnitId) (o : Option Station) → waits o ≡ false → waits_for unit o ≡ false
     none_too unit o e = grind (arith, nat_tests)
 
     none_for : (unit : UnitId) → IsSetOf (waits_for unit) st.slots 0
     none_for unit = grind (arith, nat_tests)
+
+    other : (unit : UnitId) → unit ≢ units.Mem → AreStartableFor st next unit 0
+    other unit apart = ready_for st next 0 unit filled (none_for unit) apart
+
+    picked : (unit : UnitId) → IsPicked 0 st.issue_numbers (option_of config unit).units 0
+    picked unit = none_picked 0 _ st.issue_numbers refl

@@ -13,11 +13,16 @@ use Rattle.tomex_cycle.specs.CycleOutcome.{progress_of}
 use Rattle.tomex_cycle.specs.Events.{events_in}
 use Rattle.tomex_cycle.specs.Phases.{IsSnapshot}
 use Rattle.tomex_cycle.specs.Settled.{AllSettled}
-use Rattle.tomex_cycle.specs.Run.{RunEndsAfter, first_timed, most_steps}
+use Rattle.tomex_cycle.specs.Run.{IsNextCycle, RunEndsAfter, first_timed, most_steps}
+use Rattle.tomex_cycle.specs.Views.{Core, core, front}
+
+-- an inner state without what is counted and noted
+abbrev pub core_of : {A : Type 0} → Inner A → Core
+core_of inner = core inner.issued (front inner.pools inner.registers inner.fetch) inner.memory
 
 -- the inner state is the one after cycle t of a run whose last step has n others before it
 abbrev pub IsAt : {A : Type 0} → Loaded → Configuration → (n t : ℕ) → Inner A → Type 0
-IsAt i config n t inner = IsSnapshot i config n t inner.issued inner.pools inner.registers inner.fetch inner.memory
+IsAt i config n t inner = IsSnapshot i config n t (core_of inner)
 
 -- the inner state is the one before the first cycle of an image, on any configuration
 pub record IsFresh {A : Type 0} (i : Loaded) (inner : Inner A) : Type 0 where
@@ -32,7 +37,7 @@ pub record IsFresh {A : Type 0} (i : Loaded) (inner : Inner A) : Type 0 where
 abbrev pub MakesCycle : {A : Type 0}
     → Loaded → Configuration → (cycle : ℕ) → Inner A → CycleOutcome → Inner A → Type 0
 MakesCycle i config cycle old outcome new =
-    (n t : ℕ) → RunEndsAfter i config n → cycle ≡ t + 1 → IsAt i config n t old
+    (n t : ℕ) → IsNextCycle i config n t cycle → IsAt i config n t old
     → IsAt i config n cycle new
     × (progress_of outcome ≡ (if nat_lt cycle (greatest_end (first_timed config i (n + 1))) then Running else Ended))
     × (outcome ≡ Active → 0 < events_in cycle (first_timed config i (n + 1)))

@@ -6,36 +6,24 @@ use Rattle.tomex_rvexec.specs.declared.outcome.Fault.{Fault}
 use Rattle.tomex_config.specs.Configuration.{Configuration}
 use Rattle.tomex_timing.specs.declared.times.Done.{Done}
 use Rattle.tomex_timing.specs.Recurrence.{can_issue_another}
-use Rattle.tomex_cycle.specs.declared.fetch.Fetch.{Fetch}
-use Rattle.tomex_cycle.specs.Phases.{IsYetToIssue}
-use Rattle.tomex_cycle.specs.Run.{AreIssuedBy, RunEndsAfter, first_timed}
-use Rattle.tomex_cycle.specs.Views.{clocks, ShowsRegisters, ShowsStations, fetch_of}
-use Rattle.tomex_tags.specs.Pools.{Pools}
-use Rattle.tomex_tags.specs.declared.register_status.RegStatus.{RegStatus}
+use Rattle.tomex_cycle.specs.Phases.{IsIssuedTo, IsYetToIssue}
+use Rattle.tomex_cycle.specs.Run.{IsNextCycle, first_timed}
+use Rattle.tomex_cycle.specs.Views.{Front, clocks}
 
--- During the issues of cycle u, the one after t: count steps of the run, which ends after n others, are issued, and the
--- next one couldn't issue by t.
-pub record IsIssuing (i : Loaded) (config : Configuration) (n t u count : ℕ) (stations : Pools) (registers : RegStatus)
-    (fetch : Fetch) : Type 0 where
-  pub few : count ≤ n + 1
-  pub slots : ShowsStations i (clocks u u t) (first_timed config i count) stations
-  pub status : ShowsRegisters i t (first_timed config i count) registers
-  pub from : fetch ≡ fetch_of i t (first_timed config i count)
-  pub issued : AreIssuedBy u (first_timed config i count)
-  pub next : count ≤ n → IsYetToIssue i config count t
+-- during the issues of cycle u, the one after t: the next step couldn't issue by t
+abbrev pub IsIssuing : Loaded → Configuration → (n t u count : ℕ) → Front → Type 0
+IsIssuing i config n t u count s = IsIssuedTo i config n u t (clocks u u t) count s
 
 -- the number of steps issued after one more issue, if it is made
 abbrev pub count_after : Bool → ℕ → ℕ
 count_after made count = if made then count + 1 else count
 
 -- The next step issues, or can't in the cycle. The width leaves one more issue before it.
-abbrev pub IssuesNext : Loaded → Configuration → ℕ → Pools → RegStatus → Fetch
-    → Result Bool Fault → Pools → RegStatus → Fetch → Type 0
-IssuesNext i config count stations registers fetch result new status from =
-    (n t u : ℕ) → RunEndsAfter i config n → u ≡ t + 1
-    → can_issue_another config (first_timed config i count) u ≡ true
-    → IsIssuing i config n t u count stations registers fetch
-    → (made : Bool) × (result ≡ Ok made) × IsIssuing i config n t u (count_after made count) new status from
+abbrev pub IssuesNext : Loaded → Configuration → ℕ → Front → Result Bool Fault → Front → Type 0
+IssuesNext i config count old result new =
+    (n t u : ℕ) → IsNextCycle i config n t u → can_issue_another config (first_timed config i count) u ≡ true
+    → IsIssuing i config n t u count old
+    → (made : Bool) × (result ≡ Ok made) × IsIssuing i config n t u (count_after made count) new
     × (made ≡ false → count ≤ n → IsYetToIssue i config count u)
 
 -- the number of steps of a history that issue in the cycle
@@ -43,24 +31,18 @@ abbrev pub issued_in : ℕ → List Done → ℕ
 issued_in u h = count_by (λ d. d.at.issue == u) h
 
 -- The first count steps are issued, the last made of them in cycle u.
-pub record HaveIssued (i : Loaded) (config : Configuration) (n t u count made : ℕ) (stations : Pools)
-    (registers : RegStatus) (fetch : Fetch) : Type 0 where
-  pub now : IsIssuing i config n t u count stations registers fetch
+pub record HaveIssued (i : Loaded) (config : Configuration) (n t u count made : ℕ) (s : Front) : Type 0 where
+  pub now : IsIssuing i config n t u count s
   pub in_cycle : issued_in u (first_timed config i count) ≡ made
 
 -- from one issue in the cycle to all its issues
-abbrev pub IssuesOn : Loaded → Configuration → ℕ → Pools → RegStatus → Fetch
-    → ℕ → ℕ → Pools → RegStatus → Fetch → Type 0
-IssuesOn i config count stations registers fetch made counted new status from =
-    (n t u : ℕ) → RunEndsAfter i config n → u ≡ t + 1
-    → HaveIssued i config n t u count 1 stations registers fetch
-    → (count ≤ counted) × HaveIssued i config n t u counted made new status from
+abbrev pub IssuesOn : Loaded → Configuration → ℕ → Front → ℕ → ℕ → Front → Type 0
+IssuesOn i config count old made counted new =
+    (n t u : ℕ) → IsNextCycle i config n t u → HaveIssued i config n t u count 1 old
+    → (count ≤ counted) × HaveIssued i config n t u counted made new
 
 -- After one issue, more steps issue, up to the width or to one that can't.
-abbrev pub IssuesMore : Loaded → Configuration → ℕ → Pools → RegStatus → Fetch
-    → ℕ → Pools → RegStatus → Fetch → Type 0
-IssuesMore i config count stations registers fetch counted new status from =
-    (n t u : ℕ) → RunEndsAfter i config n → u ≡ t + 1
-    → HaveIssued i config n t u count 1 stations registers fetch
-    → (count ≤ counted) × IsIssuing i config n t u counted new status from
-    × (counted ≤ n → IsYetToIssue i config counted u)
+abbrev pub IssuesMore : Loaded → Configuration → ℕ → Front → ℕ → Front → Type 0
+IssuesMore i config count old counted new =
+    (n t u : ℕ) → IsNextCycle i config n t u → HaveIssued i config n t u count 1 old
+    → (count ≤ counted) × IsIssuing i config n t u counted new × (counted ≤ n → IsYetToIssue i config counted u)

@@ -12,10 +12,9 @@ use Rattle.tomex_timing.specs.Recurrence.{can_issue}
 use Rattle.tomex_cycle.specs.declared.fetch.Fetch.{Fetch}
 use Rattle.tomex_cycle.specs.declared.fetch.Fetch.TheVariants.{At, Waits, Stopped}
 use Rattle.tomex_cycle.specs.Events.{events_in}
-use Rattle.tomex_cycle.specs.Run.{AreIssuedBy, IsHistory, RunEndsAfter, first_timed}
-use Rattle.tomex_cycle.specs.Views.{Clocks, clocks, ShowsMemory, ShowsRegisters, ShowsStations, fetch_of}
+use Rattle.tomex_cycle.specs.Run.{AreIssuedBy, IsNextCycle, IsUpTo, first_timed}
+use Rattle.tomex_cycle.specs.Views.{Clocks, Core, Front, clocks, ShowsFront, ShowsMemory, ShowsStations}
 use Rattle.tomex_tags.specs.Pools.{Pools}
-use Rattle.tomex_tags.specs.declared.register_status.RegStatus.{RegStatus}
 
 -- the step after count others can't have issued by the cycle
 abbrev pub IsYetToIssue : Loaded → Configuration → ℕ → ℕ → Type 0
@@ -23,69 +22,63 @@ IsYetToIssue i config count t =
     (x : Step) → step_after i count ≡ Some x
     → (s : ℕ) → s ≤ t → can_issue config (first_timed config i count) x s ≡ false
 
--- The state that issue changes, after the issues up to cycle t: of count steps of the run, which ends after n others.
-pub record IsIssuedTo (i : Loaded) (config : Configuration) (n t : ℕ) (c : Clocks) (count : ℕ) (stations : Pools)
-    (registers : RegStatus) (fetch : Fetch) : Type 0 where
+-- The state that issues change. Of the run, which ends after n others, count steps have issued, all by the cycle
+-- last; the next one couldn't issue by the cycle yet.
+pub record IsIssuedTo (i : Loaded) (config : Configuration) (n last yet : ℕ) (c : Clocks) (count : ℕ) (s : Front) : Type
+    0 where
   pub few : count ≤ n + 1
-  pub slots : ShowsStations i c (first_timed config i count) stations
-  pub status : ShowsRegisters i c.end (first_timed config i count) registers
-  pub from : fetch ≡ fetch_of i c.end (first_timed config i count)
-  pub issued : AreIssuedBy t (first_timed config i count)
-  pub next : count ≤ n → IsYetToIssue i config count t
+  pub shown : ShowsFront i c (first_timed config i count) s
+  pub issued : AreIssuedBy last (first_timed config i count)
+  pub next : count ≤ n → IsYetToIssue i config count yet
 
 -- The snapshot after cycle t.
-pub record IsSnapshot (i : Loaded) (config : Configuration) (n t count : ℕ) (stations : Pools) (registers : RegStatus)
-    (fetch : Fetch) (memory : Bytes) : Type 0 where
-  pub issue : IsIssuedTo i config n t (clocks t t t) count stations registers fetch
-  pub bytes : ShowsMemory i t (first_timed config i count) memory
+pub record IsSnapshot (i : Loaded) (config : Configuration) (n t : ℕ) (s : Core) : Type 0 where
+  pub issue : IsIssuedTo i config n t t (clocks t t t) s.issued s.front
+  pub bytes : ShowsMemory i t (first_timed config i s.issued) s.memory
 
 -- The phases of a cycle, in their order. Each is stated for any history that the state before it shows.
 
 -- starts: what starts in the cycle has its finish and its result, and memory what its stores leave
 abbrev pub MakesStarts : Configuration → ℕ → Pools → Bytes → Option Fault → Pools → Bytes → Type 0
 MakesStarts config cycle stations memory fault new written =
-    (i : Loaded) (h : List Done) (t : ℕ) → cycle ≡ t + 1 → IsHistory i config h → AreIssuedBy t h
+    (i : Loaded) (h : List Done) (t : ℕ) → cycle ≡ t + 1 → IsUpTo i config t h
     → ShowsStations i (clocks t t t) h stations → ShowsMemory i t h memory
     → (fault ≡ None) × ShowsStations i (clocks cycle t t) h new × ShowsMemory i cycle h written
 
 -- the address of the load or store whose address cycle it is
 abbrev pub MakesAddress : ℕ → Pools → Pools → Type 0
 MakesAddress cycle stations new =
-    (i : Loaded) (config : Configuration) (h : List Done) (t : ℕ) → cycle ≡ t + 1
-    → IsHistory i config h → AreIssuedBy t h → ShowsStations i (clocks cycle t t) h stations
-    → ShowsStations i (clocks cycle cycle t) h new
+    (i : Loaded) (config : Configuration) (h : List Done) (t : ℕ) → cycle ≡ t + 1 → IsUpTo i config t h
+    → ShowsStations i (clocks cycle t t) h stations → ShowsStations i (clocks cycle cycle t) h new
 
 -- the issues of the run's next steps whose cycle it is, the count after them, and whether there are any
-abbrev pub MakesIssue : Loaded → Configuration → ℕ → ℕ → Pools → RegStatus → Fetch
-    → Result Bool Fault → ℕ → Pools → RegStatus → Fetch → Type 0
-MakesIssue i config cycle count stations registers fetch result counted new status from =
-    (n t : ℕ) → RunEndsAfter i config n → cycle ≡ t + 1
-    → IsIssuedTo i config n t (clocks cycle cycle t) count stations registers fetch
+abbrev pub MakesIssue : Loaded → Configuration → ℕ → ℕ → Front → Result Bool Fault → ℕ → Front → Type 0
+MakesIssue i config cycle count old result counted new =
+    (n t : ℕ) → IsNextCycle i config n t cycle → IsIssuedTo i config n t t (clocks cycle cycle t) count old
     → (result ≡ Ok (nat_lt count counted)) × (count ≤ counted)
-    × IsIssuedTo i config n cycle (clocks cycle cycle t) counted new status from
+    × IsIssuedTo i config n cycle cycle (clocks cycle cycle t) counted new
 
 -- the broadcasts and ends, and the targets of branches that finish
-abbrev pub MakesEnds : Configuration → ℕ → Pools → RegStatus → Fetch → Pools → RegStatus → Fetch → Type 0
-MakesEnds config cycle stations registers fetch new status from =
-    (i : Loaded) (h : List Done) (t : ℕ) → cycle ≡ t + 1 → IsHistory i config h → AreIssuedBy cycle h
-    → ShowsStations i (clocks cycle cycle t) h stations → ShowsRegisters i t h registers → fetch ≡ fetch_of i t h
-    → ShowsStations i (clocks cycle cycle cycle) h new × ShowsRegisters i cycle h status × (from ≡ fetch_of i cycle h)
+abbrev pub MakesEnds : Configuration → ℕ → Front → Front → Type 0
+MakesEnds config cycle old new =
+    (i : Loaded) (h : List Done) (t : ℕ) → cycle ≡ t + 1 → IsUpTo i config cycle h
+    → ShowsFront i (clocks cycle cycle t) h old → ShowsFront i (clocks cycle cycle cycle) h new
 
 -- If a phase reports that it did something, there is an event of the cycle.
 
 abbrev pub StartsHappen : Configuration → ℕ → Pools → Type 0
 StartsHappen config cycle stations =
-    (i : Loaded) (h : List Done) (t : ℕ) → cycle ≡ t + 1 → IsHistory i config h → AreIssuedBy t h
+    (i : Loaded) (h : List Done) (t : ℕ) → cycle ≡ t + 1 → IsUpTo i config t h
     → ShowsStations i (clocks t t t) h stations → 0 < events_in cycle h
 
 abbrev pub AddressHappens : ℕ → Pools → Type 0
 AddressHappens cycle stations =
-    (i : Loaded) (config : Configuration) (h : List Done) (t : ℕ) → cycle ≡ t + 1
-    → IsHistory i config h → AreIssuedBy t h → ShowsStations i (clocks cycle t t) h stations → 0 < events_in cycle h
+    (i : Loaded) (config : Configuration) (h : List Done) (t : ℕ) → cycle ≡ t + 1 → IsUpTo i config t h
+    → ShowsStations i (clocks cycle t t) h stations → 0 < events_in cycle h
 
 abbrev pub EndsHappen : Configuration → ℕ → Pools → Type 0
 EndsHappen config cycle stations =
-    (i : Loaded) (h : List Done) (t : ℕ) → cycle ≡ t + 1 → IsHistory i config h → AreIssuedBy cycle h
+    (i : Loaded) (h : List Done) (t : ℕ) → cycle ≡ t + 1 → IsUpTo i config cycle h
     → ShowsStations i (clocks cycle cycle t) h stations → 0 < events_in cycle h
 
 abbrev pub is_stopped : Fetch → Bool

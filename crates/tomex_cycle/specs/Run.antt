@@ -1,5 +1,5 @@
 -- The run of an image on a configuration: its steps with their times, the youngest first.
-use Rattle.std.specs.Prelude.{◌≡◌, ℕ, ◌<◌, ◌≤◌, nat_le, ◌&&◌, if◌then◌else◌, List, [], ◌∷◌, None, ⊤}
+use Rattle.std.specs.Prelude.{◌≡◌, ℕ, ◌+◌, ◌<◌, ◌≤◌, nat_le, ◌&&◌, if◌then◌else◌, List, [], ◌∷◌, None, ⊤}
 use Rattle.tomex_image.specs.Image.{Loaded, IsLoaded}
 use Rattle.tomex_rvexec.specs.declared.outcome.EndKind.{EndKind}
 use Rattle.tomex_steps.specs.declared.step.Step.{Step}
@@ -39,6 +39,11 @@ pub record RunEndsAfter (i : Loaded) (config : Configuration) (n : ℕ) : Type 0
   pub kind : EndKind
   pub ends : RunEnds i n state kind
 
+-- the cycle u comes after t, in a run that the step with n others before it ends
+pub record IsNextCycle (i : Loaded) (config : Configuration) (n t u : ℕ) : Type 0 where
+  pub run : RunEndsAfter i config n
+  pub next : u ≡ t + 1
+
 -- the first k steps of a run, with their times; if the step after n others ends the run, the whole of it is the first
 -- n + 1
 unfoldable pub first_timed : Configuration → Loaded → ℕ → List Done
@@ -54,16 +59,17 @@ ArePast i [] = ⊤
 ArePast i (d ∷ older) =
     Follows i (steps_in older) d.step × (end_of d.step ≡ None → IsAllowed i d.step) × ArePast i older
 
--- the facts known about the issued steps
-pub record IsHistory (i : Loaded) (config : Configuration) (h : List Done) : Type 0 where
-  pub lawful : IsWithinLimits config
-  pub timed : AreTimed config h
-  pub past : ArePast i h
-
 -- each was issued by the cycle
 abbrev pub AreIssuedBy : ℕ → List Done → Type 0
 AreIssuedBy t [] = ⊤
 AreIssuedBy t (d ∷ older) = (d.at.issue ≤ t) × AreIssuedBy t older
+
+-- what is known of the steps that have issued by a cycle
+pub record IsUpTo (i : Loaded) (config : Configuration) (t : ℕ) (h : List Done) : Type 0 where
+  pub lawful : IsWithinLimits config
+  pub timed : AreTimed config h
+  pub past : ArePast i h
+  pub issued : AreIssuedBy t h
 
 -- the byte of memory at an address after the starts of cycle t: the youngest store on it that has started left it
 abbrev pub byte_at : Loaded → ℕ → List Done → ℕ → ℕ

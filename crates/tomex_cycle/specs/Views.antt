@@ -97,6 +97,29 @@ abbrev pub fetch_of : Loaded → ℕ → List Done → Fetch
 fetch_of i end [] = from.At i.entry
 fetch_of i end (d ∷ older) = fetch_after d.step (is_branch d.step && nat_lt end d.at.finish) (end_of d.step)
 
+-- what issues and ends change: stations, registers, and where the next instruction comes from
+pub record Front : Type 0 where
+  pub pools : Pools
+  pub registers : RegStatus
+  pub fetch : Fetch
+
+abbrev pub front : Pools → RegStatus → Fetch → Front
+front pools registers fetch = record { pools = pools; registers = registers; fetch = fetch }
+
+pub record ShowsFront (i : Loaded) (c : Clocks) (h : List Done) (s : Front) : Type 0 where
+  pub slots : ShowsStations i c h s.pools
+  pub status : ShowsRegisters i c.end h s.registers
+  pub from : s.fetch ≡ fetch_of i c.end h
+
+-- the machine's state between two phases: the number of steps that have issued, what issues change, and memory
+pub record Core : Type 0 where
+  pub issued : ℕ
+  pub front : Front
+  pub memory : Bytes
+
+abbrev pub core : ℕ → Front → Bytes → Core
+core issued front memory = record { issued = issued; front = front; memory = memory }
+
 -- the kind of the end and its pc, if there is one
 abbrev pub stop_of : Fetch → EndKind × ℕ
 stop_of (from.At pc) = (Ebreak, 0)

@@ -5,7 +5,7 @@ ghost use Rattle.std.specs.Prelude.{ℕ, List, ◌≡◌, ◌≤◌, ◌<◌, �
 ghost use Rattle.tomex_image.specs.Image.{Loaded};
 ghost use Rattle.tomex_timing.specs.Tables.{tables_of};
 ghost use Rattle.tomex_timing.specs.declared.times.Done.{Done};
-ghost use Rattle.tomex_cycle.specs.Run.{AreIssuedBy, IsHistory};
+ghost use Rattle.tomex_cycle.specs.Run.{IsUpTo};
 ghost use Rattle.tomex_cycle.specs.Views.{clocks, ShowsStations, ShowsRegisters};
 ghost use Rattle.tomex_cycle.specs.Phases.{is_done};
 ghost use Rattle.tomex_cycle.specs.Finishes.{IsTimetableOf};
@@ -204,7 +204,7 @@ impl<A: Allocator> Inner<A> {
     pub fn tables(&self, cycle: u64) -> Tables
         ensures cycle { result.cycle ≡ cycle }
         ensures shown { (i : Loaded) (h : List Done) (config : _)
-            → IsHistory i config h → AreIssuedBy cycle h
+            → IsUpTo i config cycle h
             → ShowsStations i (clocks cycle cycle cycle) h self.now.pools
             → ShowsRegisters i cycle h self.now.registers → result ≡ tables_of cycle h }
     {

@@ -3,6 +3,7 @@
 ghost use Rattle.std.specs.Prelude.{ℕ, ◌≡◌, Ok, false};
 ghost use Rattle.tomex_cycle.specs.Finishes.{KeepsTimetable};
 ghost use Rattle.tomex_cycle.specs.Issue.{IssuesMore, IssuesNext};
+ghost use Rattle.tomex_cycle.specs.Views.{front};
 
 use crate::fetch::Fetch;
 use std::alloc::Allocator;
@@ -24,7 +25,8 @@ pub fn issue_next<A: Allocator>(
     config: &Config,
 ) -> Result<bool, Fault>
     ensures issues { IssuesNext fetcher.old config.now count
-        pools.old registers.old fetch.old result pools.new registers.new fetch.new }
+        (front pools.old registers.old fetch.old) result
+        (front pools.new registers.new fetch.new) }
     ensures none { result ≡ Ok false → pools.new ≡ pools.old }
     ensures timetable { (cycle : ℕ) → KeepsTimetable cycle pools.old.slots pools.new.slots }
     ensures same { fetcher.new ≡ fetcher.old }
@@ -69,7 +71,8 @@ pub fn issue_more<A: Allocator>(
     config: &Config,
 )
     ensures issues { IssuesMore fetcher.old config.now
-        count.old pools.old registers.old fetch.old count.new pools.new registers.new fetch.new }
+        count.old (front pools.old registers.old fetch.old)
+        count.new (front pools.new registers.new fetch.new) }
     ensures timetable { (cycle : ℕ) → KeepsTimetable cycle pools.old.slots pools.new.slots }
     ensures same { fetcher.new ≡ fetcher.old }
 {

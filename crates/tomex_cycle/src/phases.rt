@@ -6,6 +6,7 @@ ghost use Rattle.tomex_cycle.specs.Finishes.{IsTimetableOf, KeepsTimetable};
 ghost use Rattle.tomex_cycle.specs.Phases.{AddressHappens, EndsHappen, MakesStarts, MakesAddress};
 ghost use Rattle.tomex_cycle.specs.Phases.{MakesIssue, MakesEnds, StartsHappen};
 ghost use Rattle.tomex_cycle.specs.Starts.{IsAccessFault};
+ghost use Rattle.tomex_cycle.specs.Views.{front};
 
 use crate::fetch::Fetch;
 use crate::finishes::Finishes;
@@ -83,8 +84,8 @@ pub fn issue<A: Allocator>(
     config: &Config,
 ) -> Result<bool, Fault>
     ensures issues { (cycle : ℕ) → MakesIssue fetcher.old config.now cycle
-        count.old pools.old registers.old fetch.old
-        result count.new pools.new registers.new fetch.new }
+        count.old (front pools.old registers.old fetch.old) result
+        count.new (front pools.new registers.new fetch.new) }
     ensures none { result ≡ Ok false → pools.new.slots ≡ pools.old.slots }
     ensures timetable { (cycle : ℕ) → KeepsTimetable cycle pools.old.slots pools.new.slots }
     ensures same { fetcher.new ≡ fetcher.old }
@@ -112,7 +113,7 @@ pub fn end(
 ) -> bool
     requires timetable { IsTimetableOf pools.old.slots cycle finishes.old }
     ensures ends { MakesEnds config.now cycle
-        pools.old registers.old fetch.old pools.new registers.new fetch.new }
+        (front pools.old registers.old fetch.old) (front pools.new registers.new fetch.new) }
     ensures none { result ≡ false → pools.new.slots ≡ pools.old.slots }
     ensures any { result ≡ true → EndsHappen config.now cycle pools.old }
     ensures timetable { IsTimetableOf pools.new.slots (cycle + 1) finishes.new }

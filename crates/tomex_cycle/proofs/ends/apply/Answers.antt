@@ -1,4 +1,6 @@
+use Rattle.tomex_cycle.proofs.Truth.{taken}
 use Rattle.tomex_cycle.proofs.EndsLoops.{all_applied, ended_below, first_applied, one_applied}
+use Rattle.tomex_cycle.proofs.Words.{false}
 use Rattle.tomex_cycle.proofs.ends.apply.Goals as goal
 
 pub members-init : goal.members-init
@@ -6,9 +8,9 @@ members-init c = λ low count. first_applied c.args.picked c.args.pools.now c.ar
 
 pub members-preserved-then-place-lt96 : goal.members-preserved-then-place-lt96
 members-preserved-then-place-lt96 c = λ low count. one_applied c.end_at.new.pools c.end_at.new.registers low
-    (c.members.invariant low count) c.lowest-place.ensures.below c.lowest-place.ensures.member
-    c.lowest-place.ensures.least (c.without_lowest-rest.ensures.others c.lowest-place.result
-    c.lowest-place.ensures.member c.lowest-place.ensures.least) c.end_at.ensures.stations c.end_at.ensures.registers
+    (c.members.invariant low count) (taken c.lowest-place.ensures.below c.lowest-place.ensures.member
+    c.lowest-place.ensures.least c.without_lowest-rest.ensures.others)
+    (c.end_at.ensures.stations, c.end_at.ensures.registers)
 
 pub returns-clause-stations : goal.returns-clause-stations
 returns-clause-stations c = λ low count. ended_below

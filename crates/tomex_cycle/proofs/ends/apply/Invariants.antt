@@ -1,4 +1,4 @@
-use Rattle.std.proofs.Common.{◌≡◌, length}
+use Rattle.tomex_cycle.proofs.Words.{◌≡◌, length}
 use Rattle.tomex_cycle.specs.Starts.{AreLow}
 use Rattle.tomex_cycle.proofs.EndsLoops.{AreApplied}
 use Rattle.tomex_cycle.proofs.ends.apply.Given as goal

@@ -1,4 +1,4 @@
-use Rattle.std.proofs.Common.{◌∙◌, sym}
+use Rattle.tomex_cycle.proofs.Words.{◌∙◌, sym}
 use Rattle.tomex_cycle.proofs.EndsLoops.{ends_silent, hears_sending}
 use Rattle.tomex_cycle.proofs.ends.end_at.Goals as goal
 

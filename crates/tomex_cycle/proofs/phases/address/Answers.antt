@@ -1,7 +1,7 @@
-use Rattle.std.proofs.Common.{◌∙◌, refl, sym}
+use Rattle.tomex_cycle.proofs.Words.{◌∙◌, refl, sym}
 use Rattle.tomex_cycle.proofs.IssueOrder.{next_in_order}
 use Rattle.tomex_cycle.proofs.Addresses.{made_none, made_some}
-use Rattle.tomex_cycle.proofs.Happens.{address_happens}
+use Rattle.tomex_cycle.proofs.Cycles.{address_happens}
 use Rattle.tomex_cycle.proofs.Known.{known_addressed}
 use Rattle.tomex_cycle.proofs.phases.address.Goals as goal
 

@@ -1,7 +1,6 @@
-use Rattle.std.proofs.lemmas.Option.{IfSome_then}
-use Rattle.tomex_cycle.proofs.Happens.{start_happens}
-use Rattle.tomex_cycle.proofs.StartsDone.{start_made}
-use Rattle.tomex_cycle.proofs.StartsNone.{start_none}
+use Rattle.tomex_cycle.proofs.Words.{IfSome_then, true, false}
+use Rattle.tomex_cycle.proofs.Cycles.{start_happens}
+use Rattle.tomex_cycle.proofs.StartsDone.{start_made, start_none}
 use Rattle.tomex_cycle.proofs.phases.start.Goals as goal
 
 pub returns-then-starting-eq0-clause-starts : goal.returns-then-starting-eq0-clause-starts
@@ -15,9 +14,8 @@ returns-clause-starts g c = start_made c.args.config.now c.args.cycle c.args.poo
     c.begin-fault.ensures.good c.write.ensures
 
 pub returns-clause-any : goal.returns-clause-any
-returns-clause-any g c = λ some i h t e past issued shown. start_happens t past issued shown
-    c.starting-starting.ensures.busy c.starting-starting.ensures.starting e c.starting-starting.type_inv
-    c.if-starting-eq0.false
+returns-clause-any g c = λ some i h t e up shown. start_happens up shown c.starting-starting.ensures.busy
+    c.starting-starting.ensures.starting e c.starting-starting.type_inv c.if-starting-eq0.false
 
 pub returns-clause-fault : goal.returns-clause-fault
 returns-clause-fault g c = IfSome_then c.begin-fault.result c.begin-fault.ensures.fault (λ f is. (is.0, is.2))

@@ -1,5 +1,5 @@
-use Rattle.std.proofs.Common.{refl}
-use Rattle.tomex_cycle.proofs.KnownFree.{clear_skipped, free_to, known_later}
+use Rattle.tomex_cycle.proofs.Words.{refl}
+use Rattle.tomex_cycle.proofs.Known.{clear_skipped, free_to, known_later}
 use Rattle.tomex_cycle.proofs.skipping.skip_free.Goals as goal
 
 pub returns-clause-free : goal.returns-clause-free

@@ -1,12 +1,12 @@
-use Rattle.std.proofs.Common.{refl}
-use Rattle.tomex_cycle.proofs.KnownResults.{are_results, known_results, others_finish}
+use Rattle.tomex_cycle.proofs.Words.{refl, true, false}
+use Rattle.tomex_cycle.proofs.KnownEnds.{are_results, known_results, others_finish, apart_is}
 use Rattle.tomex_cycle.proofs.skipping.take_results.Goals as goal
 
 pub returns-clause-results : goal.returns-clause-results
 returns-clause-results c = λ yes next known.
-    let results = are_results c.first.result c.writers.result c.served_by.result c.difference-results.result
-    c.difference-others.result known c.first.ensures c.writers.ensures.set c.served_by.ensures
-    c.difference-results.ensures c.difference-others.ensures c.if-others-ne0.false in (
+    let results = are_results known c.first.ensures (apart_is c.writers.result c.served_by.result c.writers.ensures.set
+    c.served_by.ensures
+    c.difference-results.ensures c.difference-others.ensures) c.if-others-ne0.false in (
       results,
       known_results c.args.pools.now
           (record { wheel = c.turn-finishes.new.self.wheel; unsent = c.turn-finishes.result }) c.writers.ensures.busy
@@ -14,7 +14,7 @@ returns-clause-results c = λ yes next known.
     )
 
 pub returns-then-others-ne0-clause-others : goal.returns-then-others-ne0-clause-others
-returns-then-others-ne0-clause-others c = λ no next known are. others_finish c.first.result c.writers.result
-    c.served_by.result c.difference-results.result c.difference-others.result known c.first.ensures
-    c.writers.ensures.set c.served_by.ensures c.difference-results.ensures c.difference-others.ensures
+returns-then-others-ne0-clause-others c = λ no next known are. others_finish known c.first.ensures
+    (apart_is c.writers.result c.served_by.result c.writers.ensures.set c.served_by.ensures c.difference-results.ensures
+    c.difference-others.ensures)
     c.difference-others.type_inv c.if-others-ne0.true are

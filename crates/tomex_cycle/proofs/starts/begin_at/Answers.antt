@@ -1,6 +1,5 @@
-use Rattle.std.proofs.Common.{◌+◌, ◌-◌, ◌∙◌, refl, sym}
-use Rattle.tomex_tags.specs.Contents.{with_start}
-use Rattle.tomex_cycle.proofs.Known.{inside_of, known_started}
+use Rattle.tomex_cycle.proofs.Words.{◌∙◌, refl, sym, false, is_some}
+use Rattle.tomex_cycle.proofs.Known.{known_started}
 use Rattle.tomex_membuf.proofs.Older.{no_option}
 use Rattle.tomex_cycle.proofs.starts.begin_at.Goals as goal
 
@@ -9,8 +8,5 @@ returns-in-Some-outcome-clause-timetable g c = λ none.
     let at = sym c.at.ensures.value ∙ c.in-Some.is in
     let idle = no_option c.in-Some.station.finish (sym c.is_some.ensures ∙ c.if-is_some.false) in
     rw (c.start.ensures.slots, at, c.from.ensures) (known_started c.args.place c.in-Some-outcome.latency
-    c.in-Some.station (with_start (c.args.cycle + c.in-Some-outcome.latency - 1) c.in-Some-outcome.value c.in-Some.station)
-    (record { wheel = c.put.new.self; unsent = c.args.finishes.now.unsent })
-    (inside_of c.args.pools.now.slots c.args.place c.in-Some.station at) (c.in-Some.ensures.low refl)
-    c.requires.timetable at idle refl c.in-Some-outcome.ensures.range.0 c.in-Some-outcome.ensures.range.1
-    (rw c.from-in-Some-outcome.ensures at c.put.ensures) refl)
+    c.in-Some-outcome.value c.in-Some.station c.put.new.self (c.in-Some.ensures.low refl) c.requires.timetable at idle
+    c.in-Some-outcome.ensures.range (rw c.from-in-Some-outcome.ensures at c.put.ensures))

@@ -1,4 +1,6 @@
-use Rattle.tomex_cycle.proofs.StartsStored.{all_stored, first_stored, member_stored, store_picked, stores_stored}
+use Rattle.tomex_cycle.proofs.Truth.{taken}
+use Rattle.tomex_cycle.proofs.StartsBegun.{all_stored, first_stored, member_stored, store_picked, stores_stored}
+use Rattle.tomex_cycle.proofs.Words.{false}
 use Rattle.tomex_cycle.proofs.starts.write.Goals as goal
 
 pub members-init : goal.members-init
@@ -8,9 +10,9 @@ pub members-preserved : goal.members-preserved
 members-preserved g c = λ low inside.
     let among = store_picked c.args.picked c.both-stores.result c.stores.result c.both-stores.ensures in
     member_stored c.write_at.new.memory (λ x l e. low x l (among x e)) (λ x l e. inside x l (among x e))
-    c.lowest-place.ensures.below c.lowest-place.ensures.member c.lowest-place.ensures.least
-    (c.without_lowest-rest.ensures.others c.lowest-place.result c.lowest-place.ensures.member
-    c.lowest-place.ensures.least) c.write_at.ensures.stored c.write_at.ensures.none (c.members.invariant low inside)
+    (taken c.lowest-place.ensures.below c.lowest-place.ensures.member c.lowest-place.ensures.least
+    c.without_lowest-rest.ensures.others) c.write_at.ensures.stored c.write_at.ensures.none
+    (c.members.invariant low inside)
 
 pub returns : goal.returns
 returns g c = λ low inside.

@@ -1,5 +1,5 @@
 use Rattle.tomex_cycle.specs.Starts.{AllInside, AreLow}
-use Rattle.tomex_cycle.proofs.StartsStored.{IsStored}
+use Rattle.tomex_cycle.proofs.StartsBegun.{IsStored}
 use Rattle.tomex_cycle.proofs.starts.write.Given as goal
 
 -- the stores of all except the rest are performed

@@ -1,4 +1,4 @@
-use Rattle.std.proofs.Common.{rules}
+use Rattle.tomex_cycle.proofs.Words.{rules}
 use Rattle.tomex_cycle.proofs.fetch.Fetch.after.Goals as goal
 
 pub returns-in_default : goal.returns-in_default

@@ -1,4 +1,4 @@
-use Rattle.std.proofs.Common.{rules}
+use Rattle.tomex_cycle.proofs.Words.{rules}
 use Rattle.tomex_cycle.proofs.fetch.Fetch.stop.Goals as goal
 
 pub returns-in-Stopped : goal.returns-in-Stopped

@@ -1,5 +1,4 @@
-use Rattle.std.proofs.Common.{arith}
-use Rattle.std.proofs.lemmas.Grind.{common_steps}
+use Rattle.tomex_cycle.proofs.Words.{arith, common_steps}
 use Rattle.tomex_cycle.proofs.finishes.Finishes.send.Goals as goal
 
 pub returns-clause-unsent : goal.returns-clause-unsent

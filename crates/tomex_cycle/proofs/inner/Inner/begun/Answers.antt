@@ -1,4 +1,4 @@
-use Rattle.std.proofs.Common.{ap, ℕ, refl}
+use Rattle.tomex_cycle.proofs.Words.{ap, ℕ, refl}
 use Rattle.tomex_steps.specs.Memory.{Bytes}
 use Rattle.tomex_cycle.specs.declared.fetch.Fetch.TheVariants.{At}
 use Rattle.tomex_cycle.proofs.Outer.{start_shown}

@@ -1,5 +1,4 @@
-use Rattle.std.proofs.Common.{◌∙◌, ap}
-use Rattle.tomex_cycle.specs.Views.{stop_of}
+use Rattle.tomex_cycle.proofs.Words.{◌∙◌, ap, stop_of}
 use Rattle.tomex_cycle.proofs.Outer.{is_over_at}
 use Rattle.tomex_cycle.proofs.inner.Inner.into_end.Goals as goal
 

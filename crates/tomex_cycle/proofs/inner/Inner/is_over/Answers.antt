@@ -1,4 +1,4 @@
-use Rattle.std.proofs.Common.{rules}
+use Rattle.tomex_cycle.proofs.Words.{rules}
 use Rattle.tomex_cycle.proofs.inner.Inner.is_over.Goals as goal
 
 pub returns-in-Stopped : goal.returns-in-Stopped

@@ -1,4 +1,4 @@
-use Rattle.std.proofs.Common.{rules}
+use Rattle.tomex_cycle.proofs.Words.{rules}
 use Rattle.tomex_cycle.proofs.inner.Inner.restart.Goals as goal
 
 pub returns-then-is_ok-clause-fresh : goal.returns-then-is_ok-clause-fresh

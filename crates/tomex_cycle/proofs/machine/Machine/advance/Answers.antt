@@ -1,6 +1,6 @@
-use Rattle.std.proofs.Common.{◌∙◌, ap, arith, max, refl}
+use Rattle.tomex_cycle.proofs.Words.{◌∙◌, ap, arith, max, refl}
 use Rattle.tomex_cycle.specs.Seen.{seen}
-use Rattle.tomex_cycle.proofs.Ticks.{now_seen, over_seen}
+use Rattle.tomex_cycle.proofs.Outer.{now_seen, over_seen}
 use Rattle.tomex_cycle.proofs.machine.Machine.advance.Goals.{in-Running, in_default}
 use Rattle.tomex_cycle.proofs.machine.Machine.advance.Goals as goal
 

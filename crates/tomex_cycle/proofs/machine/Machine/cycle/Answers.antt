@@ -1,6 +1,6 @@
-use Rattle.std.proofs.Common.{ap}
+use Rattle.tomex_cycle.proofs.Words.{ap}
 use Rattle.tomex_cycle.specs.Seen.{seen}
-use Rattle.tomex_cycle.proofs.Ticks.{now_seen}
+use Rattle.tomex_cycle.proofs.Outer.{now_seen}
 use Rattle.tomex_cycle.proofs.machine.Machine.cycle.Goals as goal
 
 pub returns-clause-ends : goal.returns-clause-ends

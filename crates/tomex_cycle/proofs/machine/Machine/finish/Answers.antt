@@ -1,7 +1,6 @@
-use Rattle.std.proofs.Common.{ap}
+use Rattle.tomex_cycle.proofs.Words.{ap, IsEnd}
 use Rattle.tomex_cycle.specs.Seen.{seen}
-use Rattle.tomex_rvexec.specs.Run.{IsEnd}
-use Rattle.tomex_cycle.proofs.Ticks.{finish_seen}
+use Rattle.tomex_cycle.proofs.Outer.{finish_seen}
 use Rattle.tomex_cycle.proofs.machine.Machine.finish.Goals as goal
 
 pub returns : goal.returns

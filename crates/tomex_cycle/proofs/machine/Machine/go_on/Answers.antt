@@ -1,19 +1,16 @@
-use Rattle.std.proofs.Common.{◌≡◌, ◌≤◌, ◌+◌, ◌∙◌, ap, arith, inl, refl, sym, subst}
-use Rattle.tomex_cycle.proofs.Words.{GoesOn, progress_of, EndsWithinLimit, run_of, seen, Running}
-use Rattle.tomex_cycle.specs.Seen.{Machine}
-use Rattle.tomex_cycle.proofs.Moves.{go_passes, active_not_settled, passed_low, settled_goes}
-use Rattle.tomex_cycle.proofs.Skips.{later_seen, sound_counted, sound_later, sound_passed}
+use Rattle.tomex_cycle.proofs.Words.{GoesOn, progress_of, EndsWithinLimit, run_of, seen, Running, ◌≡◌, ◌≤◌, ◌+◌, ◌∙◌}
+use Rattle.tomex_cycle.proofs.Words.{ap, arith, inl, refl, sym, subst, Machine}
+use Rattle.tomex_cycle.proofs.Skips.{go_passes, active_not_settled, passed_low, settled_goes, later_seen, sound_counted}
+use Rattle.tomex_cycle.proofs.Skips.{sound_passed, has_made, sound_made}
 use Rattle.tomex_cycle.proofs.machine.Machine.go_on.Goals as goal
 
 pub invariant_of-self : goal.invariant_of-self
 invariant_of-self g c =
     let running : c.self.inside.status ≡ Running = ap (λ x. x.status) c.self.view_is ∙ c.requires.running in
-    let ahead : c.self.inside.cycle + 1 ≤ c.args.to = let at : c.self.inside.cycle ≡ c.args.self.now.cycle =
-    ap (λ x. x.cycle) c.self.view_is in omega (arith, c.requires.ahead) in (
-      rw c.make_cycle.ensures.same (sound_later (c.self.inside.cycle + 1) c.self.inside.status c.make_cycle.result
-          c.make_cycle.new.self c.self.invariant.0 running (c.make_cycle.ensures.makes refl)
-          (ap progress_of c.in-Active.is ∙ sym running) (omega arith) (omega (arith, c.requires.low))
-          (λ less. absurd (omega arith))),
+    let at : c.self.inside.cycle ≡ c.args.self.now.cycle = ap (λ x. x.cycle) c.self.view_is in (
+      rw (c.make_cycle.ensures.same, running) (rw c.in-Active.is at (sound_made
+          (has_made c.make_cycle.new.self running c.self.invariant.0 (c.make_cycle.ensures.makes refl))
+          (omega (arith, c.requires.ahead, c.requires.low)))),
       omega (arith, c.make_cycle.ensures.cycles_made, c.self.invariant.1),
       (λ runs. c.make_cycle.ensures.timetable refl (ap progress_of c.in-Active.is)),
     )
@@ -23,11 +20,15 @@ invariant_of-self-in-Settled g c =
     let running : c.self.inside.status ≡ Running = ap (λ x. x.status) c.self.view_is ∙ c.requires.running in
     let low : c.make_cycle.new.self.cycles_made ≤ c.self.inside.cycle + 1 =
     omega (arith, c.make_cycle.ensures.cycles_made, c.self.invariant.1) in (
-      rw (c.skip_quiet-self-inside.ensures.inner, c.skip_quiet-self-inside.ensures.same, c.make_cycle.ensures.same)
-          (sound_counted c.skip_quiet-self-inside.new.inner.cycles_made (sound_passed c.self.inside.status
-          c.make_cycle.result c.make_cycle.new.self c.self.invariant.0 running (c.make_cycle.ensures.makes refl)
-          c.in-Settled.is (ap progress_of c.in-Settled.is ∙ sym running) (omega (arith, c.requires.low))
-          c.skip_quiet-self-inside.ensures.skipped)),
+      rw (
+        c.skip_quiet-self-inside.ensures.inner,
+        c.skip_quiet-self-inside.ensures.same,
+        c.make_cycle.ensures.same,
+        running,
+      ) (sound_counted c.skip_quiet-self-inside.new.inner.cycles_made (sound_passed
+          (has_made c.make_cycle.new.self running c.self.invariant.0
+          (rw c.in-Settled.is at (c.make_cycle.ensures.makes refl)))
+          (omega (arith, c.requires.low)) c.skip_quiet-self-inside.ensures.skipped)),
       passed_low c.skip_quiet-self-inside.ensures.skipped low,
       (λ runs. rw c.skip_quiet-self-inside.ensures.inner c.skip_quiet-self-inside.ensures.timetable),
     )
@@ -35,12 +36,11 @@ invariant_of-self-in-Settled g c =
 pub invariant_of-self-in_default : goal.invariant_of-self-in_default
 invariant_of-self-in_default g c =
     let running : c.self.inside.status ≡ Running = ap (λ x. x.status) c.self.view_is ∙ c.requires.running in
-    let ahead : c.self.inside.cycle + 1 ≤ c.args.to = let at : c.self.inside.cycle ≡ c.args.self.now.cycle =
-    ap (λ x. x.cycle) c.self.view_is in omega (arith, c.requires.ahead) in
+    let at : c.self.inside.cycle ≡ c.args.self.now.cycle = ap (λ x. x.cycle) c.self.view_is in
     let told : progress_of c.make_cycle.result ≡ c.progress-self-inside.result = sym c.progress-self-inside.ensures in (
-      rw c.make_cycle.ensures.same (sound_later (c.self.inside.cycle + 1) c.progress-self-inside.result
-          c.make_cycle.result c.make_cycle.new.self c.self.invariant.0 running (c.make_cycle.ensures.makes refl) told
-          (omega arith) (omega (arith, c.requires.low)) (λ less. absurd (omega arith))),
+      rw c.make_cycle.ensures.same (rw told at (sound_made
+          (has_made c.make_cycle.new.self running c.self.invariant.0 (c.make_cycle.ensures.makes refl))
+          (omega (arith, c.requires.ahead, c.requires.low)))),
       omega (arith, c.make_cycle.ensures.cycles_made, c.self.invariant.1),
       (λ runs. c.make_cycle.ensures.timetable refl (told ∙ runs)),
     )
@@ -64,8 +64,9 @@ returns-in-Active-clause-goes g c =
     subst (λ (x : Machine). EndsWithinLimit x.image → GoesOn (run_of x.config x.image) c.args.to x.cycle
     (c.self.inside.cycle + 1) x.cycles_made c.make_cycle.new.self.cycles_made) c.self.view_is (λ ends. inl (
       c.make_cycle.ensures.cycles_made,
-      go_passes (c.self.inside.cycle + 1) c.args.to c.make_cycle.result c.make_cycle.new.self
-          c.self.invariant.0 running (c.make_cycle.ensures.makes refl) (omega arith) (λ less. absurd (omega arith))
+      go_passes (c.self.inside.cycle + 1) c.args.to
+          (has_made c.make_cycle.new.self running c.self.invariant.0 (c.make_cycle.ensures.makes refl)) (omega arith)
+          (λ less. absurd (omega arith))
           (λ settled. absurd (active_not_settled c.make_cycle.result c.in-Active.is settled)) ends,
     ))
 
@@ -74,8 +75,9 @@ returns-in-Settled-clause-goes g c =
     let running : c.self.inside.status ≡ Running = ap (λ x. x.status) c.self.view_is ∙ c.requires.running in
     subst (λ (x : Machine). EndsWithinLimit x.image → GoesOn (run_of x.config x.image) c.args.to x.cycle
     c.skip_quiet-self-inside.result x.cycles_made c.skip_quiet-self-inside.new.inner.cycles_made) c.self.view_is
-    (settled_goes c.self.inside.inner.cycles_made c.make_cycle.result c.make_cycle.new.self c.self.invariant.0 running
-    (c.make_cycle.ensures.makes refl) c.in-Settled.is
+    (settled_goes c.self.inside.inner.cycles_made
+    (has_made c.make_cycle.new.self running c.self.invariant.0
+    (rw c.in-Settled.is at (c.make_cycle.ensures.makes refl)))
     (rw c.make_cycle.ensures.cycles_made at c.skip_quiet-self-inside.ensures.skipped))
 
 pub returns-in_default-clause-goes : goal.returns-in_default-clause-goes
@@ -84,7 +86,7 @@ returns-in_default-clause-goes g c =
     subst (λ (x : Machine). EndsWithinLimit x.image → GoesOn (run_of x.config x.image) c.args.to x.cycle
     (c.self.inside.cycle + 1) x.cycles_made c.make_cycle.new.self.cycles_made) c.self.view_is (λ ends. inl (
       c.make_cycle.ensures.cycles_made,
-      go_passes (c.self.inside.cycle + 1) c.args.to c.make_cycle.result c.make_cycle.new.self
-          c.self.invariant.0 running (c.make_cycle.ensures.makes refl) (omega arith) (λ less. absurd (omega arith))
-          (λ settled. absurd (c.in_default.not-Settled settled)) ends,
+      go_passes (c.self.inside.cycle + 1) c.args.to
+          (has_made c.make_cycle.new.self running c.self.invariant.0 (c.make_cycle.ensures.makes refl)) (omega arith)
+          (λ less. absurd (omega arith)) (λ settled. absurd (c.in_default.not-Settled settled)) ends,
     ))

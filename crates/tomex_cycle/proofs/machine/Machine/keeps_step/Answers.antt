@@ -1,6 +1,6 @@
-use Rattle.std.proofs.Common.{ap}
+use Rattle.tomex_cycle.proofs.Words.{ap}
 use Rattle.tomex_cycle.specs.Seen.{seen}
-use Rattle.tomex_cycle.proofs.Ticks.{now_seen}
+use Rattle.tomex_cycle.proofs.Outer.{now_seen}
 use Rattle.tomex_cycle.proofs.machine.Machine.keeps_step.Goals as goal
 
 pub returns : goal.returns

@@ -1,4 +1,4 @@
-use Rattle.std.proofs.Common.{arith}
+use Rattle.tomex_cycle.proofs.Words.{arith}
 use Rattle.tomex_cycle.proofs.Known.{known_first}
 use Rattle.tomex_cycle.proofs.Outer.{sound_start}
 use Rattle.tomex_cycle.proofs.machine.Machine.restart.Goals as goal

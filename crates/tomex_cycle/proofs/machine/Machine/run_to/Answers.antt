@@ -1,7 +1,7 @@
-use Rattle.std.proofs.Common.{◌≡◌, ◌<◌, arith, refl, ap, sym, max, ◌∙◌}
+use Rattle.tomex_cycle.proofs.Words.{◌≡◌, ◌<◌, arith, refl, ap, sym, max, ◌∙◌, true, false}
 use Rattle.tomex_cycle.specs.Seen.{seen}
-use Rattle.tomex_cycle.proofs.Counts.{paid_counts, paid_first, paid_on}
-use Rattle.tomex_cycle.proofs.Ticks.{over_seen}
+use Rattle.tomex_cycle.proofs.Skips.{paid_counts, paid_first, paid_on}
+use Rattle.tomex_cycle.proofs.Outer.{over_seen}
 use Rattle.tomex_cycle.proofs.machine.Machine.run_to.Goals as goal
 
 pub loop-self-init : goal.loop-self-init
@@ -55,8 +55,12 @@ returns-in_default g c =
 pub returns : goal.returns
 returns g c =
     let at = ap (λ x. x.cycle) c.self-in-loop-self.view_is in
-    let there : c.loop-self.self.cycle ≡ max c.args.self.now.cycle c.args.to =
-    omega (arith, c.loop-self-test.false, c.loop-self.invariant.low, c.loop-self.invariant.high) in
+    let there : c.loop-self.self.cycle ≡ max c.args.self.now.cycle c.args.to = omega (
+      arith,
+      c.loop-self-test.false,
+      c.loop-self.invariant.low,
+      c.loop-self.invariant.high,
+    ) in
     record {
       image = c.loop-self.invariant.image;
       config = c.loop-self.invariant.config;

@@ -1,6 +1,5 @@
-use Rattle.std.proofs.Common.{◌≡◌, ◌≤◌, ◌-◌, max}
-use Rattle.tomex_cycle.proofs.Words.{seen, seen_after, Running, EndsWithinLimit, run_of}
-use Rattle.tomex_cycle.proofs.Counts.{IsPaid}
+use Rattle.tomex_cycle.proofs.Words.{seen, seen_after, Running, EndsWithinLimit, run_of, ◌≡◌, ◌≤◌, ◌-◌, max}
+use Rattle.tomex_cycle.proofs.Skips.{IsPaid}
 use Rattle.tomex_cycle.proofs.machine.Machine.run_to.Given as goal
 
 abbrev pub invariant-loop-self : goal.invariant-loop-self
@@ -11,8 +10,8 @@ invariant-loop-self g l = record {
   high : l.self.cycle ≤ max l.initial.self.cycle l.to;
   running : l.self.status ≡ Running;
   none : l.to ≤ l.initial.self.cycle → l.self ≡ l.initial.self;
-  ends : EndsWithinLimit l.initial.self.image → seen l.self ≡ seen_after l.initial.self.image l.initial.self.config
-      l.self.cycle;
+  ends : EndsWithinLimit l.initial.self.image
+      → seen l.self ≡ seen_after l.initial.self.image l.initial.self.config l.self.cycle;
   paid : EndsWithinLimit l.initial.self.image → IsPaid (run_of l.initial.self.config l.initial.self.image) l.to
       l.initial.self.cycle l.self.cycle l.initial.self.cycles_made l.self.cycles_made;
 }

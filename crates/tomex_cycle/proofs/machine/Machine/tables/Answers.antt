@@ -1,4 +1,4 @@
-use Rattle.std.proofs.Common.{ap}
+use Rattle.tomex_cycle.proofs.Words.{ap}
 use Rattle.tomex_cycle.specs.Seen.{seen}
 use Rattle.tomex_cycle.proofs.Outer.{tables_seen}
 use Rattle.tomex_cycle.proofs.machine.Machine.tables.Goals as goal

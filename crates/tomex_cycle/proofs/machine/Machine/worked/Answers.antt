@@ -1,4 +1,4 @@
-use Rattle.std.proofs.Common.{rules}
+use Rattle.tomex_cycle.proofs.Words.{rules}
 use Rattle.tomex_cycle.proofs.machine.Machine.worked.Goals as goal
 
 pub returns : goal.returns
