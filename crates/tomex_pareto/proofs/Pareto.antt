@@ -131,14 +131,8 @@ module _ (rows : List FrontRow) where
 
 -- the order by cost, then number
 
-before_chain : (a b c : FrontRow) → ComesBefore a b → ComesBefore b c → ComesBefore a c
-before_chain a b c h k = grind (arith, nat_tests)
-
 never_both : (a b : FrontRow) → ComesBefore a b → ComesBefore b a → ⊥
 never_both a b h k = grind (arith, nat_tests)
-
-before_or_after : (a b : FrontRow) → comes_before a b ≡ false → a.row ≢ b.row → ComesBefore b a
-before_or_after a b e f = grind (arith, nat_tests)
 
 put_moves : (r : FrontRow) (qs : List FrontRow) → IsPermutation (r ∷ qs) (put r qs)
 put_moves r [] = IsPermutation-refl (r ∷ [])
@@ -158,9 +152,16 @@ rises_put : (r : FrontRow) (qs : List FrontRow) → Rises ComesBefore qs → All
 rises_put r [] up apart = (tt, tt)
 rises_put r (q ∷ qs) up apart =
     cond_both (comes_before r q) (r ∷ q ∷ qs) (q ∷ put r qs) (Rises ComesBefore)
-    (λ e. ((e, all_from (ComesBefore r) qs (λ s h. before_chain r q s e (all_has (ComesBefore q) qs s up.0 h))), up))
     (λ e. (
-      all_moved (ComesBefore q) (r ∷ qs) (put r qs) (put_moves r qs) (before_or_after r q e apart.0, up.0),
+      (
+        e,
+        all_from (ComesBefore r) qs (λ s h. let k = all_has (ComesBefore q) qs s up.0 h in
+            grind (arith, nat_tests)),
+      ),
+      up,
+    ))
+    (λ e. (
+      all_moved (ComesBefore q) (r ∷ qs) (put r qs) (put_moves r qs) (grind (arith, nat_tests), up.0),
       rises_put r qs up.1 apart.1,
     ))
 
