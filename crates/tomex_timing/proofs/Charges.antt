@@ -18,11 +18,9 @@ use Rattle.tomex_timing.proofs.Splits.{branch_split, issue_split, after_split, r
 use Rattle.tomex_rvdec.specs.declared.pool.UnitId.{UnitId}
 use Rattle.tomex_steps.specs.Steps.{step_unit, j_of, k_of}
 use Rattle.tomex_steps.specs.declared.step.Step.{Step}
-use Rattle.tomex_reservations.specs.Reservations.{Reserved}
-use Rattle.tomex_timing.specs.declared.accesses.Access.{Access}
+use Rattle.tomex_timing.specs.Ahead.{Held}
 use Rattle.tomex_timing.specs.declared.next.Marks.{Marks}
 use Rattle.tomex_timing.specs.declared.next.Next.{Next}
-use Rattle.tomex_timing.specs.declared.window.Latest.{Latest}
 use Rattle.tomex_timing.specs.Waiting.{operands_from, waits_by}
 use Rattle.tomex_timing.specs.Window.{ready_from}
 use Rattle.tomex_timing.proofs.Bools.{and_but, and_swap, and_true}
@@ -209,8 +207,8 @@ module _ (h : List Done) (d : Done) where
       (omega arith) (rw (ready, operands) (sym (address_waits (omega arith))))
       (rw ready (sym (memory_waits marks.clear clear r s))) (sym (unit_waits marks.clear clear r s)) (omega arith)
 
-module _ {config : Configuration} {h : List Done} {latest : Latest} {table : Reserved} {taken : List ℕ}
-    {accesses : List Access} {s : Step} {next : Next} (c : ComesNext config h latest table taken accesses s next) where
+module _ {config : Configuration} {h : List Done} {held : Held} {s : Step} {next : Next}
+    (c : ComesNext config h held s next) where
   waits_unit : (unit : Option UnitId) → Runs c unit → last_issue h ≤ next.at.issue → from_of config h ≤ next.at.issue
       → waits_at h (record { step = s; at = next.at }) next.marks
       ≡ waits_of config h (record { step = s; at = next.at })
@@ -224,7 +222,7 @@ module _ {config : Configuration} {h : List Done} {latest : Latest} {table : Res
 
   -- what is counted of the next step's waits is what the definition says
   pub waits_are : IsTimed config h s next.at
-      → waits_by latest next.marks next.at ≡ waits_of config h (record { step = s; at = next.at })
+      → waits_by held.latest next.marks next.at ≡ waits_of config h (record { step = s; at = next.at })
   waits_are is =
       let late : last_issue h ≤ next.at.issue = issue_after config h s next.at.issue is.issue.0 in
       let l : from_of config h ≤ next.at.issue =

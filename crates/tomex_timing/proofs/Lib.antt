@@ -27,6 +27,5 @@ pub mod Needed
 pub mod ShownTurns
 pub mod WaitLists
 pub mod Turns
-pub mod Facts
 pub mod Demanded
 pub mod Slots

@@ -10,8 +10,6 @@ use Rattle.tomex_rvdec.specs.declared.pool.UnitId.{UnitId}
 use Rattle.tomex_steps.specs.Steps.{step_pool, step_unit, step_dest, is_in}
 use Rattle.tomex_steps.specs.declared.step.Step.{Step}
 use Rattle.tomex_config.specs.Configuration.{Configuration}
-use Rattle.tomex_reservations.specs.Reservations.{Reserved}
-use Rattle.tomex_timing.specs.declared.accesses.Access.{Access}
 use Rattle.tomex_timing.specs.declared.needs.Needs.{Needs}
 use Rattle.tomex_timing.specs.declared.next.Next.{Next}
 use Rattle.tomex_timing.specs.declared.part.Need.{Need}
@@ -20,8 +18,7 @@ use Rattle.tomex_timing.specs.declared.part.Part.TheVariants.{Stations, Units, B
 use Rattle.tomex_timing.specs.declared.waiting.Taken.{Taken}
 use Rattle.tomex_timing.specs.declared.part.Waits.{Waits}
 use Rattle.tomex_timing.specs.declared.times.Done.{Done}
-use Rattle.tomex_timing.specs.declared.window.Latest.{Latest}
-use Rattle.tomex_timing.specs.Ahead.{TakesBus}
+use Rattle.tomex_timing.specs.Ahead.{Held, TakesBus}
 use Rattle.tomex_timing.specs.History.{is_of, last_issue, greatest_end}
 use Rattle.tomex_timing.specs.Needs.{AreNeeds, need_of, no_need, peak, stalls, taken_by, waits_for, waits_of}
 use Rattle.tomex_timing.specs.Laws.{InReach}
@@ -89,8 +86,8 @@ length-units_after : (x : Option UnitId) (taken waited : ℕ) (xs : List Need) �
 length-units_after None taken waited xs = refl
 length-units_after (Some p) taken waited xs = length-set xs (place_of_unit p) _
 
-module _ {config : Configuration} {h : List Done} {latest : Latest} {table : Reserved} {taken : List ℕ}
-    {accesses : List Access} {s : Step} {next : Next} (c : ComesNext config h latest table taken accesses s next) where
+module _ {config : Configuration} {h : List Done} {held : Held} {s : Step} {next : Next}
+    (c : ComesNext config h held s next) where
   units_are : (unit : UnitId) (x : Option UnitId) → step_unit s ≡ x → Runs c x → IsTimed config h s next.at
       → cond (is_of unit x) next.units 0 ≡ cond (is_of unit x)
       (count_by (λ y. is_of unit (step_unit y.step) && y.at.start == next.at.start) h + 1) 0
@@ -115,7 +112,7 @@ module _ {config : Configuration} {h : List Done} {latest : Latest} {table : Res
       absurd (cc)
   buses_are (Some u) None of to run is = let end = rw to at run.end in end.1
   buses_are (Some u) (Some r) of to run is =
-      let end : TakesBus config table (Some r) next.at.finish next.at.end next.buses = rw to at run.end in
+      let end : TakesBus config held.table (Some r) next.at.finish next.at.end next.buses = rw to at run.end in
       let l : last_issue h ≤ next.at.issue = issue_from config h s next.at.issue is.issue.0 in
       let reaches : InReach (greatest_end h) next.at =
       reach config (record { step = s; at = next.at }) h c.good (is, c.timed) in
@@ -125,17 +122,17 @@ module _ {config : Configuration} {h : List Done} {latest : Latest} {table : Res
 
   -- what is counted as taken is what is taken
   pub taken_is : IsTimed config h s next.at → (part : Part)
-      → taken_for part (record { step = s; at = next.at }) (taken_from latest next)
+      → taken_for part (record { step = s; at = next.at }) (taken_from held.latest next)
       ≡ taken_by part h (record { step = s; at = next.at })
   taken_is is (Stations pool) = refl
   taken_is is (Units unit) = units_are unit (step_unit s) refl c.by.run is
   taken_is is Buses = buses_are (step_unit s) (step_dest s) refl refl c.by.run is
   taken_is is Width =
       let l : last_issue h ≤ next.at.issue = issue_from config h s next.at.issue is.issue.0 in
-      let e : latest.issued ≡ count_by (λ d. d.at.issue == last_issue h) h = c.shown.kept.issued in
-      let k : cond (next.at.issue == last_issue h) (latest.issued + 1) 1
+      let e : held.latest.issued ≡ count_by (λ d. d.at.issue == last_issue h) h = c.shown.kept.issued in
+      let k : cond (next.at.issue == last_issue h) (held.latest.issued + 1) 1
       ≡ suc (count_by (λ x. x.at.issue == next.at.issue) h) =
-      issued_kept config h next.at.issue latest.issued c.timed l e in
+      issued_kept config h next.at.issue held.latest.issued c.timed l e in
       let s : suc (count_by (λ x. x.at.issue == next.at.issue) h) ≡ count_by (λ x. x.at.issue == next.at.issue) h + 1 =
       omega arith in
       rw c.shown.kept.issue (k ∙ s)

@@ -2,7 +2,7 @@
 -- after its last issue is answered as over all its steps.
 use Rattle.std.proofs.Common.{ℕ, suc, ◌+◌, ◌<◌, ◌≤◌, ◌≡◌, ◌∙◌, Bool, true, false, cond, arith, refl, List, [], ◌∷◌}
 use Rattle.std.proofs.Common.{Option, Some, None, ap, inl, inr, sym, length}
-use Rattle.std.specs.Prelude.{◌==◌, count_by, slice_index, length, nat_lt, nat_le, not, ◌&&◌, is_some, replicate}
+use Rattle.std.specs.Prelude.{◌==◌, count_by, slice_index, length, nat_lt, nat_le, not, ◌&&◌, is_some}
 use Rattle.std.specs.Option.{ForSome}
 use Rattle.std.proofs.lemmas.List.{get_or-replicate, get_or-set_same, get_or-set_other, length-set}
 use Rattle.std.proofs.lemmas.List.Sums.{sum_by-cons}
@@ -15,7 +15,7 @@ use Rattle.tomex_config.specs.Configuration.{Configuration, IsWithinLimits}
 use Rattle.tomex_timing.specs.declared.times.Done.{Done}
 use Rattle.tomex_timing.specs.declared.times.Times.{Times}
 use Rattle.tomex_timing.specs.declared.window.Latest.{Latest}
-use Rattle.tomex_timing.specs.Ahead.{end_in, IsSettledBy, is_past}
+use Rattle.tomex_timing.specs.Ahead.{Held, IsSettledBy, end_in, is_past, nothing_held}
 use Rattle.tomex_timing.specs.History.{is_memory, cycle_of, writer_end, source_end, last_issue, last_address}
 use Rattle.tomex_timing.specs.History.{greatest_end, is_of}
 use Rattle.tomex_timing.specs.Recurrence.{IsLeast, IsTimed, AreTimed, can_address, are_conflicts_finished}
@@ -30,9 +30,7 @@ use Rattle.std.proofs.lemmas.List.Elements.{All-from_recursion}
 use Rattle.tomex_rvdec.specs.Parts.{place_of_unit}
 use Rattle.tomex_rvdec.specs.declared.pool.PoolId.{PoolId}
 use Rattle.tomex_rvdec.specs.declared.pool.UnitId.{UnitId}
-use Rattle.tomex_timing.specs.declared.accesses.Access.{Access}
-use Rattle.tomex_reservations.specs.Reservations.{Reserved, bus_line, end_at, station_place, taken_at}
-use Rattle.tomex_timing.specs.Search.{history}
+use Rattle.tomex_reservations.specs.Reservations.{bus_line, end_at, station_place, taken_at}
 use Rattle.tomex_timing.specs.Station.{is_held, is_free}
 use Rattle.tomex_timing.proofs.Bound.{timed_by}
 use Rattle.tomex_timing.proofs.Limits.{pool_in, unit_in}
@@ -137,20 +135,19 @@ kept_on config h s at latest small before kept timed =
       end = rw kept.end refl;
     }
 
-pub record IsShown (h : List Done) (latest : Latest) (table : Reserved) (taken : List ℕ) (accesses : List Access) : Type
-    0 where
-  pub kept : IsKept h latest
-  pub base : table.base ≤ last_issue h
+pub record IsShown (h : List Done) (held : Held) : Type 0 where
+  pub kept : IsKept h held.latest
+  pub base : held.table.base ≤ last_issue h
   pub starts : (unit : UnitId) (t : ℕ) → last_issue h < t
-      → taken_at table (place_of_unit unit) t ≡ count_by (λ d. is_of unit (step_unit d.step) && d.at.start == t) h
+      → taken_at held.table (place_of_unit unit) t ≡ count_by (λ d. is_of unit (step_unit d.step) && d.at.start == t) h
   pub results : (t : ℕ) → last_issue h < t
-      → taken_at table bus_line t ≡ count_by (λ d. is_some (step_dest d.step) && d.at.end == t) h
+      → taken_at held.table bus_line t ≡ count_by (λ d. is_some (step_dest d.step) && d.at.end == t) h
   -- a station is free in a cycle if all steps that had it ended before
-  pub stations : (pool : PoolId) (t n : ℕ) → 0 < t → n < 16 → is_free pool h t n ≡ nat_lt (end_at taken pool n) t
-  pub size : length taken ≡ 96
+  pub stations : (pool : PoolId) (t n : ℕ) → 0 < t → n < 16 → is_free pool h t n ≡ nat_lt (end_at held.ends pool n) t
+  pub size : length held.ends ≡ 96
   pub conflicts : (s : Step) (t : ℕ) → last_issue h < t
-      → list_all (is_past (facts_of s) t) accesses ≡ are_conflicts_finished h s t
-  pub finishes : AllByRecursion (λ a. a.finish ≤ greatest_end h) accesses
+      → list_all (is_past (facts_of s) t) held.accesses ≡ are_conflicts_finished h s t
+  pub finishes : AllByRecursion (λ a. a.finish ≤ greatest_end h) held.accesses
 
 nothing_at : (line t : ℕ) → line < 6 → taken_at (record { base = 0; slots = [] }) line t ≡ 0
 nothing_at line t l = get_or-replicate 8 line 0 0 (omega arith)
@@ -158,9 +155,8 @@ nothing_at line t l = get_or-replicate 8 line 0 0 (omega arith)
 place_low : (pool : PoolId) (n : ℕ) → n < 16 → station_place pool n < 96
 place_low pool n l = omega (arith, pool_in pool)
 
-nothing_shown : (config : Configuration) → IsShown (history config []) nothing_yet (record { base = 0; slots = [] })
-    (replicate 96 0) []
-nothing_shown config = record {
+pub nothing_shown : IsShown [] nothing_held
+nothing_shown = record {
   kept = start_kept;
   base = omega arith;
   starts = λ unit t l. nothing_at (place_of_unit unit) t (omega (arith, unit_in unit));
@@ -172,12 +168,6 @@ nothing_shown config = record {
   finishes = tt;
 }
 
--- before the first step nothing is held
-pub start_shown : (config : Configuration) {latest : Latest} {table : Reserved} {taken : List ℕ}
-    {accesses : List Access} → latest ≡ nothing_yet → table ≡ record { base = 0; slots = [] } → taken ≡ replicate 96 0
-    → accesses ≡ [] → IsShown (history config []) latest table taken accesses
-start_shown config a b c d = rw (a, b, c, d) (nothing_shown config)
-
 free_after : (pool : PoolId) (g t n : ℕ) (h : List Done) → AllBy g h → g < t → is_free pool h t n ≡ true
 free_after pool g t n h by l =
     all_pass (λ (d : Done). not (is_held pool t d && is_number d.at.station n)) (IsDoneBy g)
@@ -186,26 +176,25 @@ free_after pool g t n h by l =
     rw f refl) h by
 
 -- so nothing that is held does
-pub settled_by : (config : Configuration) (h : List Done) (latest : Latest) (table : Reserved) (taken : List ℕ)
-    (accesses : List Access) → IsWithinLimits config → AreTimed config h → IsShown h latest table taken accesses
-    → IsSettledBy latest table taken accesses
-settled_by config h latest table taken accesses good timed shown =
+pub settled_by : (config : Configuration) (h : List Done) (held : Held) → IsWithinLimits config → AreTimed config h
+    → IsShown h held → IsSettledBy held
+settled_by config h held good timed shown =
     let by : AllBy (greatest_end h) h = timed_by config h good timed in
-    let e : latest.end ≡ greatest_end h = shown.kept.end in
+    let e : held.latest.end ≡ greatest_end h = shown.kept.end in
     let i : last_issue h ≤ greatest_end h = last_issue_by (greatest_end h) h by in
-    let kept : IsKept h latest = shown.kept in
+    let kept : IsKept h held.latest = shown.kept in
     record {
       base = rw shown.kept.issue shown.base;
       starts = λ unit t l. shown.starts unit t (omega arith) ∙ starts_none h unit (greatest_end h) t by (omega arith);
       results = λ t l. shown.results t (omega arith) ∙ results_none h (greatest_end h) t by (omega arith);
       stations = λ pool n l.
-          let free : nat_lt (end_at taken pool n) (greatest_end h + 1) ≡ true =
+          let free : nat_lt (end_at held.ends pool n) (greatest_end h + 1) ≡ true =
           sym (shown.stations pool (greatest_end h + 1) n (omega arith) l)
           ∙ free_after pool (greatest_end h) (greatest_end h + 1) n h by (omega arith) in
-          let low : end_at taken pool n < greatest_end h + 1 =
-          ltb-true (end_at taken pool n) (greatest_end h + 1) free in
+          let low : end_at held.ends pool n < greatest_end h + 1 =
+          ltb-true (end_at held.ends pool n) (greatest_end h + 1) free in
           omega arith;
-      finishes = rw e (All-from_recursion (λ a. a.finish ≤ greatest_end h) accesses shown.finishes);
+      finishes = rw e (All-from_recursion (λ a. a.finish ≤ greatest_end h) held.accesses shown.finishes);
       ends = λ r l. rw (kept.ends r l, e) (writer_end_by (greatest_end h) h r by);
       zero = shown.kept.ends 0 (omega arith) ∙ writer_of_zero h;
       issue = rw (kept.issue, e) i;

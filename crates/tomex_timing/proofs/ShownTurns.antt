@@ -20,15 +20,13 @@ use Rattle.tomex_timing.specs.declared.next.Next.{Next}
 use Rattle.tomex_timing.specs.declared.times.Done.{Done}
 use Rattle.tomex_timing.specs.declared.times.Times.{Times}
 use Rattle.tomex_timing.specs.declared.window.Facts.{Facts}
-use Rattle.tomex_timing.specs.declared.window.Latest.{Latest}
-use Rattle.tomex_reservations.specs.Reservations.{Reserved, end_at, station_place}
-use Rattle.tomex_timing.specs.Ahead.{IsTableAfter, TakesStation, accesses_after, accesses_with, ends_after, ends_with}
-use Rattle.tomex_timing.specs.Ahead.{is_past, one}
+use Rattle.tomex_reservations.specs.Reservations.{end_at, station_place}
+use Rattle.tomex_timing.specs.Ahead.{Held, IsHeldAfter, TakesStation, accesses_with, ends_with, is_past, one}
 use Rattle.tomex_timing.specs.History.{is_of, last_issue, greatest_end}
 use Rattle.tomex_timing.specs.Laws.{InReach}
 use Rattle.tomex_timing.specs.Recurrence.{IsTimed, are_conflicts_finished}
 use Rattle.tomex_timing.specs.Station.{is_free}
-use Rattle.tomex_timing.specs.Window.{facts_of, latest_after}
+use Rattle.tomex_timing.specs.Window.{facts_of}
 use Rattle.tomex_timing.proofs.Bools.{and_assoc, and_swap, and_true}
 use Rattle.tomex_timing.proofs.Shown.{kept_on, IsShown}
 use Rattle.tomex_timing.proofs.Limits.{pool_in, stations_high}
@@ -162,19 +160,18 @@ bus_same s b = elim (cases_Bool (is_some (step_dest s))) [
   | inr y ↦ rw (y, and_right (is_some (step_unit s)) false refl) refl
 ]
 
-module _ {config : Configuration} {h : List Done} {latest : Latest} {table : Reserved} {taken : List ℕ}
-    {accesses : List Access} {s : Step} {next : Next} (c : ComesNext config h latest table taken accesses s next) where
-  pub shown_turn : {after : Reserved} → ForSome (step_dest s) (λ r. r < 32) → IsTimed config h s next.at
-      → IsTableAfter (facts_of s) next.at table after
-      → IsShown (record { step = s; at = next.at } ∷ h) (latest_after (facts_of s) next.at latest) after
-      (ends_after (facts_of s) next.at taken) (accesses_after (facts_of s) next.at accesses)
-  shown_turn small is tabled =
+module _ {config : Configuration} {h : List Done} {held : Held} {s : Step} {next : Next}
+    (c : ComesNext config h held s next) where
+  pub shown_turn : {after : Held} → ForSome (step_dest s) (λ r. r < 32) → IsTimed config h s next.at
+      → IsHeldAfter (facts_of s) next.at held after → IsShown (record { step = s; at = next.at } ∷ h) after
+  shown_turn small is is_after =
       let l : last_issue h ≤ next.at.issue = issue_from config h s next.at.issue is.issue.0 in
       let r : InReach (greatest_end h) next.at =
       reach config (record { step = s; at = next.at }) h c.good (is, c.timed) in
-      let shown : IsShown h latest table taken accesses = c.shown in
+      let shown : IsShown h held = c.shown in
+      let tabled = is_after.table in
       record {
-        kept = kept_on config h s next.at latest small c.timed shown.kept is;
+        kept = rw is_after.latest (kept_on config h s next.at held.latest small c.timed shown.kept is);
         base = tabled.base;
         starts = λ unit t m. tabled.starts unit t (omega arith) ∙ rw (
           shown.starts unit t (omega arith),
@@ -186,12 +183,13 @@ module _ {config : Configuration} {h : List Done} {latest : Latest} {table : Res
           shown.results t (omega arith),
           sum_by-cons (λ d. one (is_some (step_dest d.step) && d.at.end == t)) (record { step = s; at = next.at }) h,
         ) (omega arith);
-        stations = λ pool t n pos m.
-            station_turn pool (step_pool s) next.at.station taken (is_free pool h t n) next.at.issue next.at.end t n
-            r.issue m shown.size (had_ended config taken (step_pool s) next.marks.from next.at.issue next.at.station
-            (λ p. stations_high config p c.good) c.by.issue) (shown.stations pool t n pos m);
-        size = size_after (step_pool s) next.at.station next.at.end taken shown.size;
-        conflicts = λ y t m. accesses_turn y s next.at h (bytes_of s) accesses t refl m
-            (shown.conflicts y t (omega arith));
-        finishes = finishes_turn (facts_of s) next.at (bytes_of s) (greatest_end h) accesses r.finish shown.finishes;
+        stations = λ pool t n pos m. rw is_after.ends
+            (station_turn pool (step_pool s) next.at.station held.ends (is_free pool h t n) next.at.issue next.at.end
+            t n r.issue m shown.size (had_ended config held.ends (step_pool s) next.marks.from next.at.issue
+            next.at.station (λ p. stations_high config p c.good) c.by.issue) (shown.stations pool t n pos m));
+        size = rw is_after.ends (size_after (step_pool s) next.at.station next.at.end held.ends shown.size);
+        conflicts = λ y t m. rw is_after.accesses (accesses_turn y s next.at h (bytes_of s) held.accesses t refl m
+            (shown.conflicts y t (omega arith)));
+        finishes = rw is_after.accesses (finishes_turn (facts_of s) next.at (bytes_of s) (greatest_end h) held.accesses
+            r.finish shown.finishes);
       }

@@ -12,10 +12,9 @@ ghost use Rattle.tomex_timing.specs.Window.{AreFacts};
 use crate::asking::{ask_operation, ask_rest};
 use crate::demands::Demands;
 use crate::needs::Needs;
-use crate::next::next_step;
 use crate::part::Waits;
 use crate::times::Times;
-use crate::waiting::{taken_by, waits_of};
+use crate::turn::take_step;
 use crate::window::{Facts, Window, facts_of};
 use std::alloc::{AllocError, Allocator};
 use tomex_config::Config;
@@ -41,8 +40,7 @@ pub fn times<A: Allocator + Clone>(
     config.keeps_limits();
     for step in steps {
         let facts = Facts::of(step);
-        let at = next_step(config, &window, &facts).at;
-        window.keep(&facts, &at)?;
+        let at = take_step(&mut window, config, &facts)?.next.at;
         result.push(at)?;
     }
     Ok(result)
@@ -66,10 +64,7 @@ pub fn waits<A: Allocator + Clone>(
     config.keeps_limits();
     for step in steps {
         let facts = Facts::of(step);
-        let next = next_step(config, &window, &facts);
-        let waits = waits_of(&window.latest, &next);
-        window.keep(&facts, &next.at)?;
-        result.push(waits)?;
+        result.push(take_step(&mut window, config, &facts)?.waits)?;
     }
     Ok(result)
 }
@@ -101,11 +96,8 @@ pub(crate) fn needs_of<A: Allocator>(
     let mut needs = Needs::none();
     config.keeps_limits();
     for step in facts {
-        let next = next_step(config, &window, step);
-        let waits = waits_of(&window.latest, &next);
-        let taken = taken_by(&window.latest, &next);
-        needs.note(step, &waits, &taken, &next.at);
-        window.keep(step, &next.at)?;
+        let turn = take_step(&mut window, config, step)?;
+        needs.note(step, &turn.waits, &turn.taken, &turn.next.at);
     }
     Ok(needs)
 }

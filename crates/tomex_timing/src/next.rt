@@ -3,7 +3,7 @@
 ghost use Rattle.std.specs.Prelude.{◌≡◌, ℕ, ◌+◌, ◌-◌, ◌^◌, ◌<◌, ◌≤◌, None, max, IfSome, slice_index};
 ghost use Rattle.tomex_config.specs.Configuration.{IsWithinLimits, option_of};
 ghost use Rattle.tomex_rvdec.specs.Parts.{place_of_unit};
-ghost use Rattle.tomex_timing.specs.Ahead.{IsIdle, IsNextBy, IsSettledBy, TakesBus, TakesStation, end_in};
+ghost use Rattle.tomex_timing.specs.Ahead.{IsIdle, IsNextBy, IsSettledBy, TakesBus, TakesStation, end_in, held_by};
 ghost use Rattle.tomex_reservations.specs.Reservations.{bus_line, end_at, taken_at};
 ghost use Rattle.tomex_timing.specs.History.{cycle_of};
 ghost use Rattle.tomex_timing.specs.Window.{HasRegisters, address_among, is_memory_pool, issue_from, ready_from};
@@ -176,10 +176,9 @@ fn without_unit(from: u64, issue: u64, address: Option<u64>, station: Option<u8>
 #[inline(always)]
 pub(crate) fn next_step<A: Allocator>(config: &Config, window: &Window<A>, facts: &Facts) -> Next
     requires registers { HasRegisters facts.now }
-    requires settled { let w = window.now in IsSettledBy w.latest w.table w.stations.ends w.accesses.items }
+    requires settled { IsSettledBy (held_by window.now) }
     requires small { window.now.latest.end < 2 ^ 63 }
-    ensures { let w = window.now in
-        IsNextBy config.now w.latest w.table w.stations.ends w.accesses.items facts.now result }
+    ensures { IsNextBy config.now (held_by window.now) facts.now result }
 {
     let latest = &window.latest;
     let j = end_of(latest, facts.j);
