@@ -113,10 +113,10 @@ pub record IsTurn (config : Configuration) (steps : List Step) (i : ℕ) (x : St
   pub shown : IsShown (history config (take i steps)) held
   pub by : IsNextBy config held f next
 
-pub next_turn : {config : Configuration} {steps : List Step} {i : ℕ} {x : Step} {f : Facts} {held : Held} {next : Next}
+pub turn_of : {config : Configuration} {steps : List Step} {i : ℕ} {x : Step} {f : Facts} {held : Held} {next : Next}
     → IsStep config steps i x f → IsShown (history config (take i steps)) held → IsNextBy config held f next
     → IsTurn config steps i x f held next
-next_turn step shown by = record { step = step; shown = shown; by = by }
+turn_of step shown by = record { step = step; shown = shown; by = by }
 
 -- a step that is next can be kept
 not_full : (table : Reserved) (line most from t : ℕ) → most ≤ 8 → IsFirst from (is_left table line most) t
@@ -255,7 +255,7 @@ ready {config} {steps} {i} {x} {f} {held} step shown =
           (are_timed config (take i steps) step.good) shown;
       small = omega (arith, low.0);
       few = few;
-      keeps = λ next by. can_keep (next_turn step shown by) few;
+      keeps = λ next by. can_keep (turn_of step shown by) few;
     }
 
 pub needs_small : (config : Configuration) (steps : List Step) (facts : List Facts) (i : ℕ) (needs : Needs)

@@ -16,7 +16,7 @@ use crate::accesses::past_conflicts;
 use crate::demands::{Demand, Demands};
 use crate::next::{Marks, Next, end_of, issue_from, ready_of};
 use crate::times::Times;
-use crate::turn::take_step;
+use crate::turn::next_turn;
 use crate::window::{Facts, Latest, Window, keep_access};
 use std::alloc::{AllocError, Allocator};
 use tomex_config::Config;
@@ -293,7 +293,8 @@ pub(crate) fn ask_rest<A: Allocator>(
         (waits_by latest n.marks n.at) (taken_from latest n) demands.old.total demands.old) }
     ensures held { IfOk result (λ n. IsHeldAfter facts.now n.at (held_by window.old) (held_by window.new)) }
 {
-    let turn = take_step(window, config, facts)?;
+    let turn = next_turn(config, window, facts);
     demands.note(facts, &turn.waits, &turn.taken);
+    window.keep(facts, &turn.next.at)?;
     Ok(turn.next)
 }

@@ -14,7 +14,7 @@ use crate::demands::Demands;
 use crate::needs::Needs;
 use crate::part::Waits;
 use crate::times::Times;
-use crate::turn::take_step;
+use crate::turn::next_turn;
 use crate::window::{Facts, Window, facts_of};
 use std::alloc::{AllocError, Allocator};
 use tomex_config::Config;
@@ -40,7 +40,8 @@ pub fn times<A: Allocator + Clone>(
     config.keeps_limits();
     for step in steps {
         let facts = Facts::of(step);
-        let at = take_step(&mut window, config, &facts)?.next.at;
+        let at = next_turn(config, &window, &facts).next.at;
+        window.keep(&facts, &at)?;
         result.push(at)?;
     }
     Ok(result)
@@ -64,7 +65,9 @@ pub fn waits<A: Allocator + Clone>(
     config.keeps_limits();
     for step in steps {
         let facts = Facts::of(step);
-        result.push(take_step(&mut window, config, &facts)?.waits)?;
+        let turn = next_turn(config, &window, &facts);
+        window.keep(&facts, &turn.next.at)?;
+        result.push(turn.waits)?;
     }
     Ok(result)
 }
@@ -96,8 +99,9 @@ pub(crate) fn needs_of<A: Allocator>(
     let mut needs = Needs::none();
     config.keeps_limits();
     for step in facts {
-        let turn = take_step(&mut window, config, step)?;
+        let turn = next_turn(config, &window, step);
         needs.note(step, &turn.waits, &turn.taken, &turn.next.at);
+        window.keep(step, &turn.next.at)?;
     }
     Ok(needs)
 }

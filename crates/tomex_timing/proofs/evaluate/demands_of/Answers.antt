@@ -3,7 +3,7 @@ use Rattle.std.proofs.Common.{ap, arith}
 use Rattle.tomex_timing.specs.Ahead.{Held}
 use Rattle.tomex_timing.proofs.Demanded.{asked_turn, demands_none}
 use Rattle.tomex_timing.proofs.Shown.{nothing_shown}
-use Rattle.tomex_timing.proofs.Turns.{next_turn, ready, step_of}
+use Rattle.tomex_timing.proofs.Turns.{ready, step_of, turn_of}
 use Rattle.tomex_timing.proofs.evaluate.demands_of.Goals as goal
 use Rattle.tomex_timing.proofs.evaluate.demands_of.Goals.{in-Some-Some+in_ok-ask_operation, in_default+in_ok-ask_rest}
 
@@ -35,10 +35,10 @@ loop-step-preserved g c = λ steps are.
     elim c.match-step.branch [
       | in-Some-Some+in_ok-ask_operation w ↦
           let e = w.in_ok-ask_operation.ensures in
-          let turn = asked_turn (next_turn at.1 before.shown e.next) before.demands e.held e.noted in
+          let turn = asked_turn (turn_of at.1 before.shown e.next) before.demands e.held e.noted in
           rw (w.window-is, w.demands-is) (record { shown = turn.0; demands = turn.1 })
       | in_default+in_ok-ask_rest w ↦
           let e = w.in_ok-ask_rest.ensures in
-          let turn = asked_turn (next_turn at.1 before.shown e.next) before.demands e.held e.noted in
+          let turn = asked_turn (turn_of at.1 before.shown e.next) before.demands e.held e.noted in
           rw (w.window-is, w.demands-is) (record { shown = turn.0; demands = turn.1 })
     ]

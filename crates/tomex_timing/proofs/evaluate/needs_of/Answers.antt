@@ -2,7 +2,7 @@
 use Rattle.std.proofs.Common.{arith}
 use Rattle.tomex_timing.proofs.Needed.{needs_none}
 use Rattle.tomex_timing.proofs.Shown.{nothing_shown}
-use Rattle.tomex_timing.proofs.Turns.{held_turn, needs_small, needs_turn, next_turn, ready, step_of, waits_small}
+use Rattle.tomex_timing.proofs.Turns.{held_turn, needs_small, needs_turn, ready, step_of, turn_of, waits_small}
 use Rattle.tomex_timing.proofs.evaluate.needs_of.Goals as goal
 
 pub loop-step-init : goal.loop-step-init
@@ -11,8 +11,8 @@ loop-step-init g c = λ steps are. record {
   needs = rw c.none-needs.ensures (needs_none c.args.config.now);
 }
 
-pub take_step-requires : goal.take_step-requires
-take_step-requires g c =
+pub next_turn-turn-requires : goal.next_turn-turn-requires
+next_turn-turn-requires g c =
     ready (step_of c.args.config.now c.requires.run.0 c.args.facts.now c.loop-step.step-index _ c.keeps_limits.ensures
     c.requires.run.1 c.loop-step-test.true (omega arith)).1
     (c.loop-step.invariant c.requires.run.0 c.requires.run.1).shown
@@ -27,16 +27,16 @@ pub note-requires-clause-waits : goal.note-requires-clause-waits
 note-requires-clause-waits g c =
     let at = step_of c.args.config.now c.requires.run.0 c.args.facts.now c.loop-step.step-index _ c.keeps_limits.ensures
     c.requires.run.1 c.loop-step-test.true (omega arith) in
-    waits_small (next_turn at.1 (c.loop-step.invariant c.requires.run.0 c.requires.run.1).shown
-    c.in_ok-turn.ensures.next) c.requires.run.1 c.requires.few c.in_ok-turn.ensures.waits
+    waits_small (turn_of at.1 (c.loop-step.invariant c.requires.run.0 c.requires.run.1).shown
+    c.next_turn-turn.ensures.next) c.requires.run.1 c.requires.few c.next_turn-turn.ensures.waits
 
 pub loop-step-preserved : goal.loop-step-preserved
 loop-step-preserved g c = λ steps are.
     let at = step_of c.args.config.now steps c.args.facts.now c.loop-step.step-index _ c.keeps_limits.ensures are
     c.loop-step-test.true (omega arith) in
     let before = c.loop-step.invariant steps are in
-    let turn = next_turn at.1 before.shown c.in_ok-turn.ensures.next in
+    let turn = turn_of at.1 before.shown c.next_turn-turn.ensures.next in
     record {
-      shown = held_turn turn c.in_ok-turn.ensures.held;
-      needs = rw c.note.ensures (needs_turn turn c.in_ok-turn.ensures.waits c.in_ok-turn.ensures.taken before.needs);
+      shown = held_turn turn c.in_ok-keep.ensures;
+      needs = rw c.note.ensures (needs_turn turn c.next_turn-turn.ensures.waits c.next_turn-turn.ensures.taken before.needs);
     }

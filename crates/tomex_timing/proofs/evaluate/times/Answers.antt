@@ -4,7 +4,7 @@ use Rattle.std.proofs.lemmas.Grind.{common_steps}
 use Rattle.tomex_timing.specs.Search.{times_in}
 use Rattle.tomex_timing.proofs.Histories.{are_timed, length-times_in, times_bound}
 use Rattle.tomex_timing.proofs.Shown.{nothing_shown}
-use Rattle.tomex_timing.proofs.Turns.{held_turn, next_turn, ready, step_from, times_turn}
+use Rattle.tomex_timing.proofs.Turns.{held_turn, ready, step_from, times_turn, turn_of}
 use Rattle.tomex_timing.proofs.evaluate.times.Goals as goal
 
 pub loop-step-init : goal.loop-step-init
@@ -13,19 +13,19 @@ loop-step-init g c = record {
   times = c.new-result.ensures.items;
 }
 
-pub take_step-requires : goal.take_step-requires
-take_step-requires g c =
+pub next_turn-requires : goal.next_turn-requires
+next_turn-requires g c =
     ready (step_from c.args.config.now c.args.steps.now c.loop-step.step-index c.step-item.result c.keeps_limits.ensures
     c.requires.few c.loop-step-test.true (search rules) c.of-facts.ensures.facts c.of-facts.ensures.registers)
     c.loop-step.invariant.shown
 
 pub loop-step-preserved : goal.loop-step-preserved
 loop-step-preserved g c =
-    let turn = next_turn (step_from c.args.config.now c.args.steps.now c.loop-step.step-index c.step-item.result
+    let turn = turn_of (step_from c.args.config.now c.args.steps.now c.loop-step.step-index c.step-item.result
     c.keeps_limits.ensures c.requires.few c.loop-step-test.true (search rules) c.of-facts.ensures.facts
-    c.of-facts.ensures.registers) c.loop-step.invariant.shown c.in_ok-at.ensures.next in
+    c.of-facts.ensures.registers) c.loop-step.invariant.shown c.next_turn.ensures.next in
     record {
-      shown = held_turn turn c.in_ok-at.ensures.held;
+      shown = held_turn turn c.in_ok-keep.ensures;
       times = rw (c.in_ok-push.ensures.items, c.loop-step.invariant.times) (sym (times_turn turn));
     }
 

@@ -3,7 +3,7 @@ use Rattle.std.proofs.Common.{rules, ◌≡◌, arith, sym}
 use Rattle.std.proofs.lemmas.Grind.{common_steps}
 use Rattle.tomex_timing.specs.Needs.{waits_in}
 use Rattle.tomex_timing.proofs.Shown.{nothing_shown}
-use Rattle.tomex_timing.proofs.Turns.{held_turn, next_turn, ready, step_from, waits_turn}
+use Rattle.tomex_timing.proofs.Turns.{held_turn, ready, step_from, turn_of, waits_turn}
 use Rattle.tomex_timing.proofs.WaitLists.{length-waits_in, waits_in_within}
 use Rattle.tomex_timing.proofs.evaluate.waits.Goals as goal
 
@@ -13,21 +13,21 @@ loop-step-init g c = record {
   waits = c.new-result.ensures.items;
 }
 
-pub take_step-requires : goal.take_step-requires
-take_step-requires g c =
+pub next_turn-turn-requires : goal.next_turn-turn-requires
+next_turn-turn-requires g c =
     ready (step_from c.args.config.now c.args.steps.now c.loop-step.step-index c.step-item.result c.keeps_limits.ensures
     c.requires.few c.loop-step-test.true (search rules) c.of-facts.ensures.facts c.of-facts.ensures.registers)
     c.loop-step.invariant.shown
 
 pub loop-step-preserved : goal.loop-step-preserved
 loop-step-preserved g c =
-    let turn = next_turn (step_from c.args.config.now c.args.steps.now c.loop-step.step-index c.step-item.result
+    let turn = turn_of (step_from c.args.config.now c.args.steps.now c.loop-step.step-index c.step-item.result
     c.keeps_limits.ensures c.requires.few c.loop-step-test.true (search rules) c.of-facts.ensures.facts
-    c.of-facts.ensures.registers) c.loop-step.invariant.shown c.in_ok-take_step.ensures.next in
+    c.of-facts.ensures.registers) c.loop-step.invariant.shown c.next_turn-turn.ensures.next in
     record {
-      shown = held_turn turn c.in_ok-take_step.ensures.held;
+      shown = held_turn turn c.in_ok-keep.ensures;
       waits = rw (c.in_ok-push.ensures.items, c.loop-step.invariant.waits)
-          (sym (waits_turn turn c.in_ok-take_step.ensures.waits));
+          (sym (waits_turn turn c.next_turn-turn.ensures.waits));
     }
 
 pub returns-clause-pairs : goal.returns-clause-pairs
