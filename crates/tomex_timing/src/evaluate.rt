@@ -40,9 +40,9 @@ pub fn times<A: Allocator + Clone>(
     config.keeps_limits();
     for step in steps {
         let facts = Facts::of(step);
-        let at = next_turn(config, &window, &facts).next.at;
-        window.keep(&facts, &at)?;
-        result.push(at)?;
+        let next = next_turn(config, &window, &facts).next;
+        window.keep(&facts, &next.at)?;
+        result.push(next.at)?;
     }
     Ok(result)
 }
