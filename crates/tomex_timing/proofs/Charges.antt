@@ -10,7 +10,7 @@ use Rattle.tomex_timing.specs.declared.times.Done.{Done}
 use Rattle.tomex_timing.specs.History.{last_issue, cycle_of, source_end}
 use Rattle.tomex_timing.specs.Needs.{lacks_branch, lacks_width, lacks_station, issue_waits, waits_of, lacks_operand}
 use Rattle.tomex_timing.specs.Needs.{lacks_address, lacks_memory, lacks_unit, start_waits}
-use Rattle.tomex_timing.specs.Recurrence.{AreTimed, are_branches_finished, IsTimed, has_operands}
+use Rattle.tomex_timing.specs.Recurrence.{AreTimed, are_branches_finished, has_operands}
 use Rattle.tomex_timing.specs.Recurrence.{are_conflicts_finished}
 use Rattle.tomex_timing.proofs.Bands.{band, is_in_band, none_of}
 use Rattle.tomex_timing.proofs.Splits.{branch_finish, slot_from, slot_range, from_of, max_split, slot_split}
@@ -24,7 +24,7 @@ use Rattle.tomex_timing.specs.declared.next.Next.{Next}
 use Rattle.tomex_timing.specs.Waiting.{operands_from, waits_by}
 use Rattle.tomex_timing.specs.Window.{ready_from}
 use Rattle.tomex_timing.proofs.Bools.{and_but, and_swap, and_true}
-use Rattle.tomex_timing.proofs.NextTimed.{ComesNext, HasMarks, Runs, from_is, has_marks, start_marked}
+use Rattle.tomex_timing.proofs.NextTimed.{ComesNext, HasMarks, Runs, from_is, has_marks, next_timed, start_marked}
 use Rattle.tomex_timing.proofs.Width.{issue_from as issue_after}
 
 abbrev waits_made : (branch width station operand address memory unit bus : ℕ) → Waits
@@ -221,9 +221,9 @@ module _ {config : Configuration} {h : List Done} {held : Held} {s : Step} {next
       marks.ready (λ t. rw marks.ready at (marks.clear t)) (rw marks.ready at marks.order) (start_marked c u run)
 
   -- what is counted of the next step's waits is what the definition says
-  pub waits_are : IsTimed config h s next.at
-      → waits_by held.latest next.marks next.at ≡ waits_of config h (record { step = s; at = next.at })
-  waits_are is =
+  pub waits_are : waits_by held.latest next.marks next.at ≡ waits_of config h (record { step = s; at = next.at })
+  waits_are =
+      let is = next_timed c in
       let late : last_issue h ≤ next.at.issue = issue_after config h s next.at.issue is.issue.0 in
       let l : from_of config h ≤ next.at.issue =
       leb-true (from_of config h) next.at.issue (issue_split config h next.at.issue c.good c.timed

@@ -1,5 +1,5 @@
 -- Pools and kinds of units are known by their places; and the limits of a configuration, as inequations.
-use Rattle.std.proofs.Common.{ℕ, ◌≡◌, ◌∙◌, true, ap, refl, sym, ◌<◌, ◌≤◌, arith, length}
+use Rattle.std.proofs.Common.{ℕ, ◌≡◌, ◌∙◌, true, ap, refl, sym, ◌<◌, ◌≤◌, arith, length, Option, Some, None}
 use Rattle.std.specs.Prelude.{◌==◌, if◌then◌else◌, nat_le}
 use Rattle.std.proofs.lemmas.Bool.{eqb-true, leb-true, and_parts}
 use Rattle.tomex_rvdec.specs.Parts.{place_of_pool, place_of_unit}
@@ -9,6 +9,8 @@ use Rattle.tomex_rvdec.specs.declared.pool.UnitId.{UnitId}
 use Rattle.tomex_rvdec.specs.declared.pool.UnitId.TheVariants as units
 use Rattle.tomex_config.specs.Configuration.{Configuration, IsWithinLimits, is_between, is_option, stations_of}
 use Rattle.tomex_config.specs.Configuration.{option_of, plain_option}
+use Rattle.tomex_steps.specs.Steps.{is_in}
+use Rattle.tomex_timing.specs.History.{is_of}
 
 abbrev pool_at : ℕ → PoolId
 pool_at n = if n == 0 then pools.Alu else (if n == 1 then pools.Mul else (if n == 2 then pools.Div else
@@ -38,6 +40,14 @@ same_pool p q e = sym (pool_place p) ∙ (ap pool_at (eqb-true (place_of_pool p)
 
 pub same_unit : (p q : UnitId) → (place_of_unit p == place_of_unit q) ≡ true → p ≡ q
 same_unit p q e = sym (unit_place p) ∙ (ap unit_at (eqb-true (place_of_unit p) (place_of_unit q) e) ∙ unit_place q)
+
+pub pool_is : (pool : PoolId) (x : Option PoolId) → is_in pool x ≡ true → x ≡ Some pool
+pool_is pool None e = absurd (cc)
+pool_is pool (Some p) e = ap Some (same_pool p pool e)
+
+pub unit_is : (unit : UnitId) (x : Option UnitId) → is_of unit x ≡ true → x ≡ Some unit
+unit_is unit None e = absurd (cc)
+unit_is unit (Some p) e = ap Some (same_unit p unit e)
 
 pub pool_in : (pool : PoolId) → place_of_pool pool < 6
 pool_in pools.Alu = omega arith

@@ -3,7 +3,6 @@ use Rattle.std.proofs.Common.{ℕ, ◌+◌, ◌-◌, ◌<◌, ◌≤◌, ◌≡�
 use Rattle.std.proofs.Common.{List, Option, Some, None, max}
 use Rattle.std.specs.Prelude.{nat_lt, nat_le, ◌&&◌, is_some, count_by, MatchOption}
 use Rattle.std.specs.Bool.{MatchBool}
-use Rattle.std.specs.Option.{ForSome}
 use Rattle.std.proofs.lemmas.Bool.{cases_Bool, false_from_ne_true, and_from, and_parts, le-leb, lt-ltb, le-ltb}
 use Rattle.std.proofs.lemmas.Bool.{leb-true, ltb-true}
 use Rattle.tomex_rvdec.specs.Parts.{place_of_unit}
@@ -23,7 +22,7 @@ use Rattle.tomex_timing.specs.Recurrence.{can_end, can_issue, can_start, has_ope
 use Rattle.tomex_timing.specs.Search.{least}
 use Rattle.tomex_timing.specs.Station.{is_held, has_station, is_free}
 use Rattle.tomex_timing.specs.Waiting.{operands_from}
-use Rattle.tomex_timing.specs.Window.{facts_of, ready_from, register_of}
+use Rattle.tomex_timing.specs.Window.{HasRegisters, facts_of, ready_from, register_of}
 use Rattle.tomex_timing.proofs.Shown.{source_agree, IsShown}
 use Rattle.tomex_timing.proofs.Least.{first_from_le, least_agree}
 use Rattle.tomex_timing.proofs.Limits.{latency_low, stations_high}
@@ -40,8 +39,7 @@ pub record ComesNext (config : Configuration) (h : List Done) (held : Held) (s :
   pub good : IsWithinLimits config
   pub timed : AreTimed config h
   pub shown : IsShown h held
-  pub j : ForSome (j_of s) (λ o. o.register < 32)
-  pub k : ForSome (k_of s) (λ o. o.register < 32)
+  pub registers : HasRegisters (facts_of s)
   pub by : IsNextBy config held (facts_of s) next
 
 -- the issue and the station of a step of this pool
@@ -137,8 +135,8 @@ module _ {config : Configuration} {h : List Done} {held : Held} {s : Step} {next
 
   pub has_marks : (u : UnitId) → Runs (Some u) → last_issue h ≤ next.at.issue → HasMarks h s next
   has_marks u run late =
-      let j = source_agree h held.latest.ends (j_of s) c.shown.kept.ends c.j in
-      let k = source_agree h held.latest.ends (k_of s) c.shown.kept.ends c.k in
+      let j = source_agree h held.latest.ends (j_of s) c.shown.kept.ends c.registers.j in
+      let k = source_agree h held.latest.ends (k_of s) c.shown.kept.ends c.registers.k in
       let ready : next.marks.ready
       ≡ ready_from next.at.issue next.at.address (source_end h (j_of s)) (source_end h (k_of s)) =
       rw (j, k) at run.ready in
@@ -220,7 +218,7 @@ module _ {config : Configuration} {h : List Done} {held : Held} {s : Step} {next
       record {
         issue = first;
         address = address_part (is_memory s) h s next.at.issue next.at.address
-            (rw (source_agree h held.latest.ends (j_of s) c.shown.kept.ends c.j, c.shown.kept.address) at c.by.address);
+            (rw (source_agree h held.latest.ends (j_of s) c.shown.kept.ends c.registers.j, c.shown.kept.address) at c.by.address);
         start = run.start;
         finish = run.finish;
         end = run.end;

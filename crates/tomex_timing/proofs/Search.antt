@@ -1,5 +1,5 @@
 -- The search finds the recurrence's times, and there are no others.
-use Rattle.std.proofs.Common.{ℕ, ◌+◌, ◌-◌, ◌<◌, ◌≤◌, ◌≡◌, ◌∙◌, true, arith, refl, List, [], ◌∷◌, Option, Some, None, ap}
+use Rattle.std.proofs.Common.{ℕ, ◌+◌, ◌<◌, ◌≤◌, ◌≡◌, ◌∙◌, true, arith, refl, List, [], ◌∷◌, Option, Some, None, ap}
 use Rattle.std.proofs.Common.{inl, inr, sym}
 use Rattle.std.specs.Prelude.{is_some, MatchOption, map}
 use Rattle.std.specs.Bool.{MatchBool}
@@ -21,7 +21,7 @@ use Rattle.tomex_timing.proofs.Least.{least_is, least_le, least_same}
 use Rattle.tomex_timing.proofs.Limits.{latency_high}
 use Rattle.tomex_timing.proofs.Settled.{AllBy, can_issue_after, can_address_after, can_start_after, can_end_after}
 use Rattle.tomex_timing.proofs.Stations.{number_is}
-use Rattle.tomex_timing.proofs.Tests.{can_address_is}
+use Rattle.tomex_timing.proofs.Tests.{IsAtOnce, IsOperation, at_once, can_address_is, cases_unit, operation}
 
 issue_is : (config : Configuration) (older : List Done) (s : Step) (g : ℕ) → IsWithinLimits config → AllBy g older
     → IsLeast (can_issue config older s) (issue_of config older s g)
@@ -174,27 +174,22 @@ same_station : (older : List Done) (pool : Option PoolId) (t : ℕ) (a b : Optio
 same_station older None t a b x y = x ∙ sym y
 same_station older (Some p) t a b x y = x.1 ∙ (ap Some (least_same (is_free p older t) x.0 y.0 x.2 y.2) ∙ sym y.1)
 
-same_run : (config : Configuration) (older : List Done) (s : Step) (unit : Option UnitId) (a b : Times)
-    → step_unit s ≡ unit → IsTimed config older s a → IsTimed config older s b → a.issue ≡ b.issue
-    → a.address ≡ b.address → (a.start ≡ b.start) × (a.finish ≡ b.finish) × (a.end ≡ b.end)
-same_run config older s None a b e x y i d =
-    let p : a.start ≡ a.issue = rw e at x.start in let q : b.start ≡ b.issue = rw e at y.start in
-    let p2 : a.finish ≡ a.issue = rw e at x.finish in let q2 : b.finish ≡ b.issue = rw e at y.finish in
-    let p3 : a.end ≡ a.issue = rw e at x.end in let q3 : b.end ≡ b.issue = rw e at y.end in
-    (omega arith, omega arith, omega arith)
-same_run config older s (Some u) a b e x y i d =
-    let p : IsLeast (can_start config older s u a.issue (cycle_of a.address)) a.start = rw e at x.start in
-    let q : IsLeast (can_start config older s u b.issue (cycle_of b.address)) b.start = rw e at y.start in
-    let st : a.start ≡ b.start = least_same (can_start config older s u a.issue (cycle_of a.address)) a.start b.start p
-    (rw (← i, ← d) at q) in
-    let p2 : a.finish ≡ a.start + (option_of config u).latency - 1 = rw e at x.finish in
-    let q2 : b.finish ≡ b.start + (option_of config u).latency - 1 = rw e at y.finish in
-    let fi : a.finish ≡ b.finish = omega arith in
-    let p3 : MatchBool (is_some (step_dest s)) (IsLeast (can_end config older a.finish) a.end) (a.end ≡ a.finish) =
-    rw e at x.end in
-    let q3 : MatchBool (is_some (step_dest s)) (IsLeast (can_end config older b.finish) b.end) (b.end ≡ b.finish) =
-    rw e at y.end in
-    (st, fi, same_end config older s a.finish a.end b.end p3 (rw (← fi) at q3))
+same_run : (config : Configuration) (older : List Done) (s : Step) (a b : Times) → IsTimed config older s a
+    → IsTimed config older s b → a.issue ≡ b.issue → a.address ≡ b.address
+    → (a.start ≡ b.start) × (a.finish ≡ b.finish) × (a.end ≡ b.end)
+same_run config older s a b x y i d = elim (cases_unit s) [
+  | inl none ↦
+      let p : IsAtOnce a = at_once none x in
+      let q : IsAtOnce b = at_once none y in
+      (omega arith, omega arith, omega arith)
+  | inr u ↦
+      let p : IsOperation config older s u.0 a = operation u.1 x in
+      let q : IsOperation config older s u.0 b = operation u.1 y in
+      let start : a.start ≡ b.start = least_same (can_start config older s u.0 a.issue (cycle_of a.address)) a.start
+      b.start p.start (rw (← i, ← d) at q.start) in
+      let finish : a.finish ≡ b.finish = omega arith in
+      (start, finish, same_end config older s a.finish a.end b.end p.end (rw (← finish) at q.end))
+]
 
 pub times_same : (config : Configuration) (older : List Done) (s : Step) (a b : Times) → IsTimed config older s a
     → IsTimed config older s b → a ≡ b
@@ -202,7 +197,7 @@ times_same config older s a b x y =
     let i : a.issue ≡ b.issue = least_same (can_issue config older s) a.issue b.issue x.issue y.issue in
     let d : a.address ≡ b.address =
     same_address older s a.issue a.address b.address x.address (rw (← i) at y.address) in
-    let run = same_run config older s (step_unit s) a b refl x y i d in
+    let run = same_run config older s a b x y i d in
     same_record a b i d run.0 run.1 run.2
     (same_station older (step_pool s) a.issue a.station b.station x.station (rw (← i) at y.station))
 

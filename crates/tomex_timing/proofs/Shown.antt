@@ -1,9 +1,8 @@
 -- What the evaluator holds shows a history: the latest cycles are those of the history, and each question about a cycle
 -- after its last issue is answered as over all its steps.
 use Rattle.std.proofs.Common.{ℕ, suc, ◌+◌, ◌<◌, ◌≤◌, ◌≡◌, ◌∙◌, Bool, true, false, cond, arith, refl, List, [], ◌∷◌}
-use Rattle.std.proofs.Common.{Option, Some, None, ap, inl, inr, sym, length}
+use Rattle.std.proofs.Common.{Option, Some, None, ap, inl, inr, sym, length, IfSome}
 use Rattle.std.specs.Prelude.{◌==◌, count_by, slice_index, length, nat_lt, nat_le, not, ◌&&◌, is_some}
-use Rattle.std.specs.Option.{ForSome}
 use Rattle.std.proofs.lemmas.List.{get_or-replicate, get_or-set_same, get_or-set_other, length-set}
 use Rattle.std.proofs.lemmas.List.Sums.{sum_by-cons}
 use Rattle.std.proofs.lemmas.Bool.{cases_Bool, cases_eq, cases_order, eq-eqb, ne_eqb, MatchBool-at_true}
@@ -67,19 +66,19 @@ branch_finish_by g (d ∷ older) h = elim (cases_Bool (is_branch d.step)) [
 
 -- the ends of the operands' producers
 pub source_agree : (h : List Done) (ends : List ℕ) (o : Option Operand)
-    → ((r : ℕ) → r < 32 → slice_index ends r ≡ writer_end h r) → ForSome o (λ o. o.register < 32)
+    → ((r : ℕ) → r < 32 → slice_index ends r ≡ writer_end h r) → IfSome (register_of o) (λ r. r < 32)
     → end_in ends (register_of o) ≡ source_end h o
 source_agree h ends None same small = refl
-source_agree h ends (Some o) same small = same o.register (small o refl)
+source_agree h ends (Some o) same small = same o.register small
 
 writer_kept : (h : List Done) (d : Done) (dest : Option ℕ) (end : ℕ) (written : List ℕ) → step_dest d.step ≡ dest
     → d.at.end ≡ end → length written ≡ 32 → ((r : ℕ) → r < 32 → slice_index written r ≡ writer_end h r)
-    → ForSome dest (λ r. r < 32) → (r : ℕ) → r < 32 → slice_index (written_by dest end written) r ≡ writer_end (d ∷ h) r
+    → IfSome dest (λ r. r < 32) → (r : ℕ) → r < 32 → slice_index (written_by dest end written) r ≡ writer_end (d ∷ h) r
 writer_kept h d None end written e f len same small r l = rw e (same r l)
 writer_kept h d (Some q) end written e f len same small r l = elim (cases_eq q r) [
   | inl y ↦
       let b : (q == r) ≡ true = eq-eqb q r y in
-      let m : q < length written = rw len (small q refl) in
+      let m : q < length written = rw len small in
       rw (e, b, f, ← y) (get_or-set_same written q end 0 m)
   | inr n ↦
       let b : (q == r) ≡ false = ne_eqb q r n in
@@ -116,7 +115,7 @@ count_first : (d : Done) (h : List Done) → count_by (λ x. x.at.issue == d.at.
 count_first d h = rw (sum_by-cons, eq-eqb d.at.issue d.at.issue refl) (omega arith)
 
 pub kept_on : (config : Configuration) (h : List Done) (s : Step) (at : Times) (latest : Latest)
-    → ForSome (step_dest s) (λ r. r < 32) → AreTimed config h → IsKept h latest → IsTimed config h s at
+    → IfSome (step_dest s) (λ r. r < 32) → AreTimed config h → IsKept h latest → IsTimed config h s at
     → IsKept (record { step = s; at = at } ∷ h) (latest_after (facts_of s) at latest)
 kept_on config h s at latest small before kept timed =
     let l : last_issue h ≤ at.issue = issue_from config h s at.issue timed.issue.0 in

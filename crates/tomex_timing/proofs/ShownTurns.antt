@@ -2,7 +2,6 @@
 use Rattle.std.proofs.Common.{ℕ, ◌<◌, ◌≤◌, ◌≡◌, ◌≢◌, ◌∙◌, Bool, true, false, arith, refl, inl, inr, List, [], ◌∷◌, ◌++◌}
 use Rattle.std.proofs.Common.{Option, Some, None, length, max}
 use Rattle.std.specs.Prelude.{nat_lt, nat_le, ◌==◌, not, ◌&&◌, is_some, slice_set, MatchOption}
-use Rattle.std.specs.Option.{ForSome}
 use Rattle.std.specs.List.{filter, list_all, AllByRecursion}
 use Rattle.std.proofs.lemmas.Bool.{and_right, cases_Bool, and_parts, eq-eqb, eqb-true, lt-ltb, le-ltb, leb-false}
 use Rattle.std.proofs.lemmas.Bool.{leb-true, or_right}
@@ -24,13 +23,13 @@ use Rattle.tomex_reservations.specs.Reservations.{end_at, station_place}
 use Rattle.tomex_timing.specs.Ahead.{Held, IsHeldAfter, TakesStation, accesses_with, ends_with, is_past, one}
 use Rattle.tomex_timing.specs.History.{is_of, last_issue, greatest_end}
 use Rattle.tomex_timing.specs.Laws.{InReach}
-use Rattle.tomex_timing.specs.Recurrence.{IsTimed, are_conflicts_finished}
+use Rattle.tomex_timing.specs.Recurrence.{are_conflicts_finished}
 use Rattle.tomex_timing.specs.Station.{is_free}
 use Rattle.tomex_timing.specs.Window.{facts_of}
 use Rattle.tomex_timing.proofs.Bools.{and_assoc, and_swap, and_true}
 use Rattle.tomex_timing.proofs.Shown.{kept_on, IsShown}
 use Rattle.tomex_timing.proofs.Limits.{pool_in, stations_high}
-use Rattle.tomex_timing.proofs.NextTimed.{ComesNext}
+use Rattle.tomex_timing.proofs.NextTimed.{ComesNext, next_timed}
 use Rattle.tomex_timing.proofs.Orders.{dest_unit, reach}
 use Rattle.tomex_timing.proofs.Width.{issue_from}
 
@@ -162,16 +161,17 @@ bus_same s b = elim (cases_Bool (is_some (step_dest s))) [
 
 module _ {config : Configuration} {h : List Done} {held : Held} {s : Step} {next : Next}
     (c : ComesNext config h held s next) where
-  pub shown_turn : {after : Held} → ForSome (step_dest s) (λ r. r < 32) → IsTimed config h s next.at
-      → IsHeldAfter (facts_of s) next.at held after → IsShown (record { step = s; at = next.at } ∷ h) after
-  shown_turn small is is_after =
+  pub shown_turn : {after : Held} → IsHeldAfter (facts_of s) next.at held after
+      → IsShown (record { step = s; at = next.at } ∷ h) after
+  shown_turn is_after =
+      let is = next_timed c in
       let l : last_issue h ≤ next.at.issue = issue_from config h s next.at.issue is.issue.0 in
       let r : InReach (greatest_end h) next.at =
       reach config (record { step = s; at = next.at }) h c.good (is, c.timed) in
       let shown : IsShown h held = c.shown in
       let tabled = is_after.table in
       record {
-        kept = rw is_after.latest (kept_on config h s next.at held.latest small c.timed shown.kept is);
+        kept = rw is_after.latest (kept_on config h s next.at held.latest c.registers.dest c.timed shown.kept is);
         base = tabled.base;
         starts = λ unit t m. tabled.starts unit t (omega arith) ∙ rw (
           shown.starts unit t (omega arith),

@@ -2,7 +2,6 @@
 use Rattle.std.proofs.Common.{ℕ, ◌+◌, ◌*◌, ◌^◌, ◌<◌, ◌≤◌, ◌≡◌, ◌∙◌, arith, List, [], ◌∷◌, ◌++◌, Option, Some, None, ap}
 use Rattle.std.proofs.Common.{refl, sym, length, map, take, zero, suc}
 use Rattle.std.specs.Prelude.{nat_le, slice_index_or, IfSome, MatchOption, ◌==◌}
-use Rattle.std.specs.Option.{ForSome}
 use Rattle.std.proofs.lemmas.Bool.{and_parts, ltb-true}
 use Rattle.std.proofs.lemmas.List.{length-map, length-take-le, map-append, take_more}
 use Rattle.std.proofs.lemmas.List.Elements.{All-push}
@@ -10,8 +9,6 @@ use Rattle.std.proofs.lemmas.List.Sums.{count_by-le-length}
 use Rattle.tomex_rvdec.specs.Parts.{place_of_unit}
 use Rattle.tomex_rvdec.specs.declared.pool.PoolId.{PoolId}
 use Rattle.tomex_rvdec.specs.declared.pool.UnitId.{UnitId}
-use Rattle.tomex_steps.specs.Steps.{step_dest, step_unit, j_of, k_of}
-use Rattle.tomex_steps.specs.declared.step.Operand.{Operand}
 use Rattle.tomex_steps.specs.declared.step.Step.{Step}
 use Rattle.tomex_steps.proofs.Fields.{bytes_of_memory}
 use Rattle.tomex_config.specs.Configuration.{Configuration, IsWithinLimits, option_of, stations_of}
@@ -29,7 +26,7 @@ use Rattle.tomex_timing.specs.Needs.{AreNeeds, waits_in, waits_of}
 use Rattle.tomex_timing.specs.Recurrence.{IsTimed}
 use Rattle.tomex_timing.specs.Search.{times_of, history, times_in}
 use Rattle.tomex_timing.specs.Waiting.{AreWithin, IsWithin, needs_after, taken_from, waits_by}
-use Rattle.tomex_timing.specs.Window.{AreFacts, HasRegisters, facts_of, register_of}
+use Rattle.tomex_timing.specs.Window.{AreFacts, HasRegisters, facts_of}
 use Rattle.tomex_timing.proofs.Charges.{waits_are}
 use Rattle.tomex_timing.proofs.Histories.{are_timed, history_more, times_more, history_bound, length-history}
 use Rattle.tomex_timing.proofs.Limits.{buses_high, stations_high, units_high}
@@ -52,14 +49,6 @@ small config steps i held good l shown =
     let e : length (take i steps) ≡ i = length-take-le i steps l in
     let few = count_by-le-length (λ d. d.at.issue == last_issue h) h in
     (omega (arith, shown.kept.end), omega (arith, shown.kept.issued))
-
-register_low : (o : Option Operand) → IfSome (register_of o) (λ r. r < 32) → ForSome o (λ o. o.register < 32)
-register_low None h x e = absurd (cc)
-register_low (Some o) h x e = let k : o ≡ x = cc in rw (← k) h
-
-for_some : (o : Option ℕ) → IfSome o (λ r. r < 32) → ForSome o (λ r. r < 32)
-for_some None h x e = absurd (cc)
-for_some (Some r) h x e = let k : r ≡ x = cc in rw (← k) h
 
 -- the step of a run at a place
 pub record IsStep (config : Configuration) (steps : List Step) (i : ℕ) (x : Step) (f : Facts) : Type 0 where
@@ -158,8 +147,7 @@ module _ {config : Configuration} {steps : List Step} {i : ℕ} {x : Step} {f : 
     good = turn.step.good;
     timed = are_timed config (take i steps) turn.step.good;
     shown = turn.shown;
-    j = register_low (j_of x) (rw turn.step.facts at turn.step.registers.j);
-    k = register_low (k_of x) (rw turn.step.facts at turn.step.registers.k);
+    registers = rw turn.step.facts at turn.step.registers;
     by = rw turn.step.facts at turn.by;
   }
 
@@ -184,9 +172,7 @@ module _ {config : Configuration} {steps : List Step} {i : ℕ} {x : Step} {f : 
       ∙ ap (λ t. record { step = x; at = t } ∷ history config (take i steps)) (sym same_times))
 
   pub held_turn : {after : Held} → IsHeldAfter f next.at held after → IsShown (history config (take (i + 1) steps)) after
-  held_turn is_after =
-      let small : IfSome (step_dest x) (λ r. r < 32) = rw turn.step.facts at turn.step.registers.dest in
-      rw longer (shown_turn comes (for_some (step_dest x) small) is_timed (rw turn.step.facts at is_after))
+  held_turn is_after = rw longer (shown_turn comes (rw turn.step.facts at is_after))
 
   pub times_turn : times_in config (take (i + 1) steps) ≡ times_in config (take i steps) ++ (next.at ∷ [])
   times_turn = rw one_more (times_more config (take i steps) x
@@ -206,7 +192,7 @@ module _ {config : Configuration} {steps : List Step} {i : ℕ} {x : Step} {f : 
             turn.by.issue;
         reserve = record {
           base = omega arith;
-          start = start_after config (history config (take i steps)) x next.at (step_unit x) is_timed.start;
+          start = start_after config (history config (take i steps)) x next.at is_timed;
           end = reaches.issue;
           units = units_fit config held f j k f.unit next turn.step.good turn.by.run;
           buses = buses_fit config held f j k f.unit f.dest next turn.step.good refl turn.by.run;
@@ -216,7 +202,7 @@ module _ {config : Configuration} {steps : List Step} {i : ℕ} {x : Step} {f : 
   pub waits_turn : {waits : Waits} → waits ≡ waits_by held.latest next.marks next.at
       → waits_in config (take (i + 1) steps) ≡ waits_in config (take i steps) ++ (waits ∷ [])
   waits_turn told =
-      rw (one_more, told ∙ waits_are comes is_timed) (waits_more config (take i steps) x
+      rw (one_more, told ∙ waits_are comes) (waits_more config (take i steps) x
       ∙ ap (λ t. waits_in config (take i steps)
       ++ (waits_of config (history config (take i steps)) (record { step = x; at = t }) ∷ [])) (sym same_times))
 
@@ -229,7 +215,7 @@ module _ {config : Configuration} {steps : List Step} {i : ℕ} {x : Step} {f : 
       history_bound config (take i steps) turn.step.good in
       let e : length (take i steps) ≡ i = length-take-le i steps (omega arith) in
       let end : next.at.end ≤ greatest_end (history config (take i steps)) + 67 = reaches.end in
-      rw (told ∙ waits_are comes is_timed) (waits_within config (history config (take i steps))
+      rw (told ∙ waits_are comes) (waits_within config (history config (take i steps))
       (record { step = x; at = next.at }) (2 ^ 62) reaches (omega arith))
 
   pub needs_turn : {needs : Needs} {waits : Waits} {takes : Taken} → waits ≡ waits_by held.latest next.marks next.at
@@ -237,8 +223,8 @@ module _ {config : Configuration} {steps : List Step} {i : ℕ} {x : Step} {f : 
       → AreNeeds config (history config (take (i + 1) steps)) (needs_after f waits takes next.at needs)
   needs_turn {needs} {waits} {takes} told took are =
       rw (longer, turn.step.facts) (needs_more config (history config (take i steps))
-      (record { step = x; at = next.at }) needs waits takes are (told ∙ waits_are comes is_timed)
-      (λ part. rw took (taken_is comes is_timed part)))
+      (record { step = x; at = next.at }) needs waits takes are (told ∙ waits_are comes)
+      (λ part. rw took (taken_is comes part)))
 
 -- a step can be timed by what shows the steps before it, and kept
 pub ready : {config : Configuration} {steps : List Step} {i : ℕ} {x : Step} {f : Facts} {held : Held}

@@ -12,6 +12,7 @@ ghost use Rattle.tomex_timing.specs.Window.{AreFacts};
 use crate::asking::{ask_operation, ask_rest};
 use crate::demands::Demands;
 use crate::needs::Needs;
+use crate::next::next_step;
 use crate::part::Waits;
 use crate::times::Times;
 use crate::turn::next_turn;
@@ -40,9 +41,9 @@ pub fn times<A: Allocator + Clone>(
     config.keeps_limits();
     for step in steps {
         let facts = Facts::of(step);
-        let next = next_turn(config, &window, &facts).next;
-        window.keep(&facts, &next.at)?;
-        result.push(next.at)?;
+        let at = next_step(config, &window, &facts).at;
+        window.keep(&facts, &at)?;
+        result.push(at)?;
     }
     Ok(result)
 }
