@@ -15,7 +15,6 @@ pub mod Holders
 pub mod Taken
 pub mod Implied
 pub mod Serving
-pub mod UnderWay
 pub mod Bools
 pub mod Splits
 pub mod Bands
@@ -28,4 +27,3 @@ pub mod ShownTurns
 pub mod WaitLists
 pub mod Turns
 pub mod Demanded
-pub mod Slots

@@ -11,6 +11,7 @@ use Rattle.tomex_timing.specs.declared.times.Done.{Done}
 use Rattle.tomex_timing.specs.History.{source_end, last_issue, last_address}
 use Rattle.tomex_timing.specs.Recurrence.{IsLeast, AreTimed, can_address}
 use Rattle.tomex_timing.specs.Recurrence.{can_issue_another, are_branches_finished}
+use Rattle.tomex_timing.proofs.Bools.{and_assoc, and_swap}
 use Rattle.tomex_timing.proofs.Limits.{width_low}
 use Rattle.tomex_timing.proofs.Tests.{can_address_from, can_address_is}
 use Rattle.tomex_timing.proofs.Width.{none_later}
@@ -84,10 +85,7 @@ slot_split config h t good timed = elim (cases_order (last_issue h) t) [
     neither false l = lt-leb (last_issue h + 1) t (omega arith)
 
 swap_and : (a b c : Bool) → (a && (b && c)) ≡ (b && (a && c))
-swap_and true true c = refl
-swap_and true false c = refl
-swap_and false true c = refl
-swap_and false false c = refl
+swap_and a b c = rw (← and_assoc a b c, and_swap a b) (and_assoc b a c)
 
 -- later than the latest finish of a branch is later than each
 pub branch_split : (h : List Done) (t : ℕ) → nat_le (branch_finish h + 1) t ≡ (nat_lt 0 t && are_branches_finished h t)
@@ -108,13 +106,9 @@ issue_split config h t good timed =
       max_split (slot_from config h) (branch_finish h + 1) t,
       slot_split config h t good timed,
       branch_split h t,
-    ) (reorder (can_issue_another config h t) (nat_lt 0 t) (are_branches_finished h t))
-  where
-    reorder : (slot pos branches : Bool) → (slot && (pos && branches)) ≡ ((pos && slot) && branches)
-    reorder true true c = refl
-    reorder true false c = refl
-    reorder false true c = refl
-    reorder false false c = refl
+      ← and_assoc (can_issue_another config h t) (nat_lt 0 t) (are_branches_finished h t),
+      and_swap (can_issue_another config h t) (nat_lt 0 t),
+    ) refl
 
 pub ready_split : (issue address j k t : ℕ) → nat_le (max (max issue address) (max j k) + 1) t
     ≡ ((nat_lt issue t && nat_lt address t) && (nat_lt j t && nat_lt k t))

@@ -39,24 +39,15 @@ cycles_few p from to =
 pub waits_within : (config : Configuration) (h : List Done) (d : Done) (n : ℕ) → InReach (greatest_end h) d.at
     → d.at.end ≤ n → AreWithin n (waits_of config h d)
 waits_within config h d n r l =
-    let i : d.at.issue ≤ d.at.end = r.issue in
-    let s : d.at.start ≤ d.at.end = r.start in
-    let low : ℕ = max 1 (last_issue h) in
-    let a = cycles_few (lacks_branch h) (max 1 (last_issue h)) d.at.issue in
-    let b = cycles_few (lacks_width config h) (max 1 (last_issue h)) d.at.issue in
-    let c = cycles_few (lacks_station config h) (max 1 (last_issue h)) d.at.issue in
-    let e = cycles_few (lacks_operand h d) (d.at.issue + 1) d.at.start in
-    let f = cycles_few (lacks_address h d) (d.at.issue + 1) d.at.start in
-    let g = cycles_few (lacks_memory h d) (d.at.issue + 1) d.at.start in
-    let u = cycles_few (lacks_unit h d) (d.at.issue + 1) d.at.start in
+    let low = max 1 (last_issue h) in
     record {
-      branch = omega arith;
-      width = omega arith;
-      station = omega arith;
-      operand = omega arith;
-      address = omega arith;
-      memory = omega arith;
-      unit = omega arith;
+      branch = omega (arith, cycles_few (lacks_branch h) low d.at.issue, r.issue);
+      width = omega (arith, cycles_few (lacks_width config h) low d.at.issue, r.issue);
+      station = omega (arith, cycles_few (lacks_station config h) low d.at.issue, r.issue);
+      operand = omega (arith, cycles_few (lacks_operand h d) (d.at.issue + 1) d.at.start, r.start);
+      address = omega (arith, cycles_few (lacks_address h d) (d.at.issue + 1) d.at.start, r.start);
+      memory = omega (arith, cycles_few (lacks_memory h d) (d.at.issue + 1) d.at.start, r.start);
+      unit = omega (arith, cycles_few (lacks_unit h d) (d.at.issue + 1) d.at.start, r.start);
       bus = omega arith;
     }
 
@@ -85,19 +76,16 @@ sum_within config f (d ∷ h) small good timed l =
 pub needs_within : (config : Configuration) (h : List Done) (needs : Needs) → IsWithinLimits config → AreTimed config h
     → length h < 2 ^ 28 → AreNeeds config h needs → IsWithin (2 ^ 63) needs
 needs_within config h needs good timed few are =
-    let g : greatest_end h ≤ 67 * length h = total_bound config h good timed in
-    let by : greatest_end h ≤ 2 ^ 35 = omega arith in
+    let by : greatest_end h ≤ 2 ^ 35 = omega (arith, total_bound config h good timed) in
     record {
-      parts = λ part. rw (are.parts part) (let s =
-          sum_within config (waits_for part) h (part_within part) good timed by in omega arith);
-      branch = rw are.branch (let s = sum_within config (λ d w. w.branch) h (λ d w n k. k.branch) good timed by in
-          omega arith);
-      operand = rw are.operand (let s = sum_within config (λ d w. w.operand) h (λ d w n k. k.operand) good timed by in
-          omega arith);
-      address = rw are.address (let s = sum_within config (λ d w. w.address) h (λ d w n k. k.address) good timed by in
-          omega arith);
-      memory = rw are.memory (let s = sum_within config (λ d w. w.memory) h (λ d w n k. k.memory) good timed by in
-          omega arith);
+      parts = λ part. rw (are.parts part)
+          (omega (arith, sum_within config (waits_for part) h (part_within part) good timed by));
+      branch = rw are.branch (omega (arith, sum_within config (λ d w. w.branch) h (λ d w n k. k.branch) good timed by));
+      operand = rw are.operand
+          (omega (arith, sum_within config (λ d w. w.operand) h (λ d w n k. k.operand) good timed by));
+      address = rw are.address
+          (omega (arith, sum_within config (λ d w. w.address) h (λ d w n k. k.address) good timed by));
+      memory = rw are.memory (omega (arith, sum_within config (λ d w. w.memory) h (λ d w n k. k.memory) good timed by));
     }
 
 pub waits_more : (config : Configuration) (xs : List Step) (x : Step)
