@@ -36,13 +36,11 @@ product_after_3 : tables_of 3 product_run ≡ record {
 unfolding times_of
 product_after_3 = refl
 
-product_before : tables_of 0 product_run ≡ record { cycle = 0; busy = []; registers = no_writers }
+-- before the first cycle and after the last one nothing is busy
+product_around : (tables_of 0 product_run ≡ record { cycle = 0; busy = []; registers = no_writers })
+    × (tables_of 8 product_run ≡ record { cycle = 8; busy = []; registers = no_writers })
 unfolding times_of
-product_before = refl
-
-product_after_8 : tables_of 8 product_run ≡ record { cycle = 8; busy = []; registers = no_writers }
-unfolding times_of
-product_after_8 = refl
+product_around = (refl, refl)
 
 abbrev overwritten_run : List Done
 overwritten_run = history (with_latency units.Mul plain 10) overwritten
