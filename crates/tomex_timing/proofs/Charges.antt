@@ -4,6 +4,7 @@ use Rattle.std.proofs.Common.{ℕ, ◌+◌, ◌-◌, ◌<◌, ◌≤◌, ◌≡�
 use Rattle.std.proofs.Common.{max, Option, Some, None}
 use Rattle.std.specs.Prelude.{nat_lt, nat_le, not, ◌&&◌}
 use Rattle.std.proofs.lemmas.Bool.{cases_Bool, cases_order, le-leb, lt-leb, leb-true, leb-false, lt-ltb, and_parts}
+use Rattle.std.proofs.lemmas.Bool.Decides.{same_from_decides}
 use Rattle.tomex_config.specs.Configuration.{Configuration, IsWithinLimits}
 use Rattle.tomex_timing.specs.declared.part.Waits.{Waits}
 use Rattle.tomex_timing.specs.declared.times.Done.{Done}
@@ -28,16 +29,8 @@ use Rattle.tomex_timing.proofs.NextTimed.{ComesNext, HasMarks, Runs, from_is, ha
 use Rattle.tomex_timing.proofs.Width.{issue_from as issue_after}
 
 abbrev waits_made : (branch width station operand address memory unit bus : ℕ) → Waits
-waits_made branch width station operand address memory unit bus = record {
-  branch = branch;
-  width = width;
-  station = station;
-  operand = operand;
-  address = address;
-  memory = memory;
-  unit = unit;
-  bus = bus;
-}
+waits_made b w s o a m u n =
+    record { branch = b; width = w; station = s; operand = o; address = a; memory = m; unit = u; bus = n }
 
 pub same_waits : (a b : Waits) → a.branch ≡ b.branch → a.width ≡ b.width → a.station ≡ b.station → a.operand ≡ b.operand
     → a.address ≡ b.address → a.memory ≡ b.memory → a.unit ≡ b.unit → a.bus ≡ b.bus → a ≡ b
@@ -60,17 +53,8 @@ branches_at h t l = sym (let p : nat_lt 0 t ≡ true = lt-ltb 0 t (omega arith) 
     branch_split h t ∙ ap (λ b. b && are_branches_finished h t) p)
 
 leb_same : (a b t : ℕ) → (a ≤ t → b ≤ t) → (b ≤ t → a ≤ t) → nat_le a t ≡ nat_le b t
-leb_same a b t f g = elim (cases_Bool (nat_le a t)) [
-  | inl e ↦ e ∙ sym (le-leb b t (f (leb-true a t e)))
-  | inr e ↦ e ∙ sym (lt-leb b t (more e))
-]
-  where
-    more : nat_le a t ≡ false → t < b
-    more e = let l : t < a = leb-false a t e in elim (cases_order b t) [
-      | inl s ↦ let k = g (omega arith) in absurd (omega arith)
-      | inr (inl s) ↦ let k = g (omega arith) in absurd (omega arith)
-      | inr (inr s) ↦ s
-    ]
+leb_same a b t f g = same_from_decides {P = a ≤ t} (nat_le a t) (nat_le b t) (leb-true a t, le-leb a t)
+    (λ e. g (leb-true b t e), λ l. le-leb b t (f l))
 
 pub branch_waits : (config : Configuration) (h : List Done) (d : Done) → from_of config h ≤ d.at.issue
     → issue_waits h d (lacks_branch h) ≡ branches_of h - low_of h

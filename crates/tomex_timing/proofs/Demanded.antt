@@ -3,8 +3,8 @@ use Rattle.std.proofs.Common.{ℕ, ◌+◌, ◌∙◌, ◌≡◌, [], ap, arith,
 use Rattle.std.proofs.Common.{List, Option, Some, None}
 use Rattle.std.proofs.Common.{map, take, zero, suc}
 use Rattle.std.specs.Prelude.{◌==◌, max, nat_lt, not, ◌||◌, slice_index_or}
-use Rattle.std.proofs.Math.ListN.{get_or-map}
-use Rattle.std.proofs.Math.ListN.{set}
+use Rattle.std.proofs.Math.Bool.{or-false, or-true}
+use Rattle.std.proofs.Math.ListN.{get_or-map, set}
 use Rattle.std.proofs.lemmas.Bool.{lt-ltb, ne_eqb}
 use Rattle.std.proofs.lemmas.List.{map-set}
 use Rattle.tomex_rvdec.specs.Parts.{place_of_pool, place_of_unit}
@@ -36,21 +36,13 @@ use Rattle.tomex_timing.proofs.Needed.{needs_none}
 use Rattle.tomex_timing.proofs.Shown.{IsShown}
 use Rattle.tomex_timing.proofs.Turns.{IsTurn, held_turn, needs_turn}
 
-or_none : (b : Bool) → b ≡ (b || false)
-or_none true = refl
-or_none false = refl
-
-or_some : (b : Bool) → true ≡ (b || true)
-or_some true = refl
-or_some false = refl
-
 -- some wait if some waited before, or the step does
 waits_more : (w s : ℕ) → not ((w + s) == 0) ≡ (not (s == 0) || nat_lt 0 w)
-waits_more zero s = let e : 0 + s ≡ s = omega arith in rw e (or_none (not (s == 0)))
+waits_more zero s = let e : 0 + s ≡ s = omega arith in rw e (sym (or-false (not (s == 0))))
 waits_more (suc w) s =
     let some : (suc w + s == 0) ≡ false = ne_eqb (suc w + s) 0 (λ (e : suc w + s ≡ 0). absurd (omega arith)) in
     let waits : nat_lt 0 (suc w) ≡ true = lt-ltb 0 (suc w) (omega arith) in
-    rw (some, waits) (or_some (not (s == 0)))
+    rw (some, waits) (sym (or-true (not (s == 0))))
 
 demand_more : (need : Need) (taken waited : ℕ)
     → demand_from (need_after need taken waited) ≡ demand_after (demand_from need) taken waited

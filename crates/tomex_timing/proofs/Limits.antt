@@ -70,52 +70,48 @@ between low high n h =
     (leb-true low n two.0, leb-true n high two.1)
 
 stations_are : (config : Configuration) (pool : PoolId) → IsWithinLimits config
-    → is_between 1 16 (stations_of config pool) ≡ true
+    → (1 ≤ stations_of config pool) × (stations_of config pool ≤ 16)
 stations_are config pool good =
-    let l : place_of_pool pool < length config.stations = rw good.pools (pool_in pool) in
-    good.stations (place_of_pool pool) 0 l
+    between 1 16 (stations_of config pool) (good.stations (place_of_pool pool) 0 (rw good.pools (pool_in pool)))
 
 option_is : (config : Configuration) (unit : UnitId) → IsWithinLimits config
     → is_option 8 (option_of config unit) ≡ true
-option_is config unit good =
-    let l : place_of_unit unit < length config.units = rw good.kinds (unit_in unit) in
-    good.units (place_of_unit unit) plain_option l
+option_is config unit good = good.units (place_of_unit unit) plain_option (rw good.kinds (unit_in unit))
 
-pub stations_low : (config : Configuration) (pool : PoolId) → IsWithinLimits config → 0 < stations_of config pool
-stations_low config pool good = let two = between 1 16 (stations_of config pool) (stations_are config pool good) in
-    omega (arith, two.0)
-
-pub stations_high : (config : Configuration) (pool : PoolId) → IsWithinLimits config → stations_of config pool ≤ 16
-stations_high config pool good = (between 1 16 (stations_of config pool) (stations_are config pool good)).1
-
-pub units_low : (config : Configuration) (unit : UnitId) → IsWithinLimits config → 0 < (option_of config unit).units
-units_low config unit good =
-    let o = option_of config unit in
-    let two = between 1 8 o.units (and_parts _ _ (and_parts _ _ (option_is config unit good)).0).0 in
-    omega (arith, two.0)
-
-pub units_high : (config : Configuration) (unit : UnitId) → IsWithinLimits config → (option_of config unit).units ≤ 8
-units_high config unit good =
-    let o = option_of config unit in
-    (between 1 8 o.units (and_parts _ _ (and_parts _ _ (option_is config unit good)).0).0).1
+units_are : (config : Configuration) (unit : UnitId) → IsWithinLimits config
+    → (1 ≤ (option_of config unit).units) × ((option_of config unit).units ≤ 8)
+units_are config unit good =
+    between 1 8 (option_of config unit).units (and_parts _ _ (and_parts _ _ (option_is config unit good)).0).0
 
 latency_is : (config : Configuration) (unit : UnitId) → IsWithinLimits config
-    → is_between 1 64 (option_of config unit).latency ≡ true
-latency_is config unit good = (and_parts _ _ (and_parts _ _ (option_is config unit good)).0).1
+    → (1 ≤ (option_of config unit).latency) × ((option_of config unit).latency ≤ 64)
+latency_is config unit good =
+    between 1 64 (option_of config unit).latency (and_parts _ _ (and_parts _ _ (option_is config unit good)).0).1
+
+pub stations_low : (config : Configuration) (pool : PoolId) → IsWithinLimits config → 0 < stations_of config pool
+stations_low config pool good = omega (arith, (stations_are config pool good).0)
+
+pub stations_high : (config : Configuration) (pool : PoolId) → IsWithinLimits config → stations_of config pool ≤ 16
+stations_high config pool good = (stations_are config pool good).1
+
+pub units_low : (config : Configuration) (unit : UnitId) → IsWithinLimits config → 0 < (option_of config unit).units
+units_low config unit good = omega (arith, (units_are config unit good).0)
+
+pub units_high : (config : Configuration) (unit : UnitId) → IsWithinLimits config → (option_of config unit).units ≤ 8
+units_high config unit good = (units_are config unit good).1
 
 pub latency_low : (config : Configuration) (unit : UnitId) → IsWithinLimits config → 0 < (option_of config unit).latency
-latency_low config unit good = let two = between 1 64 (option_of config unit).latency (latency_is config unit good) in
-    omega (arith, two.0)
+latency_low config unit good = omega (arith, (latency_is config unit good).0)
 
 pub latency_high : (config : Configuration) (unit : UnitId) → IsWithinLimits config
     → (option_of config unit).latency ≤ 64
-latency_high config unit good = (between 1 64 (option_of config unit).latency (latency_is config unit good)).1
+latency_high config unit good = (latency_is config unit good).1
 
 pub buses_low : (config : Configuration) → IsWithinLimits config → 0 < config.buses
-buses_low config good = let two = between 1 8 config.buses good.buses in omega (arith, two.0)
+buses_low config good = omega (arith, (between 1 8 config.buses good.buses).0)
 
 pub buses_high : (config : Configuration) → IsWithinLimits config → config.buses ≤ 8
 buses_high config good = (between 1 8 config.buses good.buses).1
 
 pub width_low : (config : Configuration) → IsWithinLimits config → 0 < config.width
-width_low config good = let two = between 1 4 config.width good.width in omega (arith, two.0)
+width_low config good = omega (arith, (between 1 4 config.width good.width).0)

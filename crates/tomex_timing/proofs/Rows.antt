@@ -11,19 +11,11 @@ use Rattle.tomex_timing.proofs.Programs.{with_latency}
 
 -- issue, start, finish, end and station
 abbrev on : ℕ → ℕ → ℕ → ℕ → ℕ → Times
-on issue start finish end n = record {
-  issue = issue;
-  address = None;
-  start = start;
-  finish = finish;
-  end = end;
-  station = Some n;
-}
+on i s f e n = record { issue = i; address = None; start = s; finish = f; end = e; station = Some n }
 
 -- the times of a load or store, with its address cycle
 abbrev accessing : ℕ → ℕ → ℕ → ℕ → ℕ → ℕ → Times
-accessing issue address start finish end n =
-    record { issue = issue; address = Some address; start = start; finish = finish; end = end; station = Some n }
+accessing i a s f e n = record { issue = i; address = Some a; start = s; finish = f; end = e; station = Some n }
 
 -- the times of an instruction that uses no station
 abbrev at_once : ℕ → Times

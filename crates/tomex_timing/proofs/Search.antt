@@ -120,14 +120,7 @@ timed_is config (s ∷ older) good = let earlier = timed_is config older good in
     (times_are config (timed_of config older) s good earlier, earlier)
 
 abbrev times_made : (issue : ℕ) (address : Option ℕ) (start finish end : ℕ) (station : Option ℕ) → Times
-times_made issue address start finish end station = record {
-  issue = issue;
-  address = address;
-  start = start;
-  finish = finish;
-  end = end;
-  station = station;
-}
+times_made i a s f e n = record { issue = i; address = a; start = s; finish = f; end = e; station = n }
 
 same_record : (a b : Times) → a.issue ≡ b.issue → a.address ≡ b.address → a.start ≡ b.start → a.finish ≡ b.finish
     → a.end ≡ b.end → a.station ≡ b.station → a ≡ b

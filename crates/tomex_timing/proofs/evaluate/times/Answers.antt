@@ -35,15 +35,12 @@ loop-step-preserved g c =
       times = rw (c.in_ok-push.ensures.items, c.loop-step.invariant.times) (sym (times_turn turn));
     }
 
-pub returns-clause-recurrence : goal.returns-clause-recurrence
-returns-clause-recurrence g c = are_timed c.args.config.now c.args.steps.now c.keeps_limits.ensures
-
-pub returns-clause-pairs : goal.returns-clause-pairs
-returns-clause-pairs g c =
+pub returns : goal.returns
+returns g c =
     let e : c.loop-step.result.items ≡ times_in c.args.config.now c.args.steps.now = grind (arith, common_steps) in
-    rw e (length-times_in c.args.config.now c.args.steps.now)
-
-pub returns-clause-bound : goal.returns-clause-bound
-returns-clause-bound g c =
-    let e : c.loop-step.result.items ≡ times_in c.args.config.now c.args.steps.now = grind (arith, common_steps) in
-    rw e (times_bound c.args.config.now c.args.steps.now c.keeps_limits.ensures)
+    record {
+      exact = e;
+      recurrence = are_timed c.args.config.now c.args.steps.now c.keeps_limits.ensures;
+      pairs = rw e (length-times_in c.args.config.now c.args.steps.now);
+      bound = rw e (times_bound c.args.config.now c.args.steps.now c.keeps_limits.ensures);
+    }

@@ -30,12 +30,11 @@ loop-step-preserved g c =
           (sym (waits_turn turn c.next_turn-turn.ensures.waits));
     }
 
-pub returns-clause-pairs : goal.returns-clause-pairs
-returns-clause-pairs g c =
+pub returns : goal.returns
+returns g c =
     let e : c.loop-step.result.items ≡ waits_in c.args.config.now c.args.steps.now = grind (arith, common_steps) in
-    rw e (length-waits_in c.args.config.now c.args.steps.now)
-
-pub returns-clause-bound : goal.returns-clause-bound
-returns-clause-bound g c =
-    let e : c.loop-step.result.items ≡ waits_in c.args.config.now c.args.steps.now = grind (arith, common_steps) in
-    rw e (waits_in_within c.args.config.now c.args.steps.now c.keeps_limits.ensures)
+    record {
+      exact = e;
+      pairs = rw e (length-waits_in c.args.config.now c.args.steps.now);
+      bound = rw e (waits_in_within c.args.config.now c.args.steps.now c.keeps_limits.ensures);
+    }
