@@ -4,6 +4,7 @@ use Rattle.std.proofs.Common.{None, inl, inr, length}
 use Rattle.std.specs.Prelude.{◌||◌, is_some}
 use Rattle.std.specs.Bool.{MatchBool}
 use Rattle.std.proofs.lemmas.Bool.{cases_Bool, MatchBool-at_true, MatchBool-at_false}
+use Rattle.std.proofs.lemmas.List.Elements.{All-from_recursion, All-weaker, recursion_from_All}
 use Rattle.tomex_rvdec.specs.Operands.{unit_at}
 use Rattle.tomex_rvdec.specs.declared.pool.PoolId.{PoolId}
 use Rattle.tomex_rvdec.specs.declared.pool.PoolId.TheVariants.{Load, Store}
@@ -20,7 +21,7 @@ use Rattle.tomex_timing.proofs.Least.{least_le}
 use Rattle.tomex_timing.proofs.Limits.{latency_low, latency_high}
 use Rattle.tomex_timing.proofs.Tests.{IsAtOnce, IsOperation, at_once, can_end_is, can_issue_is, can_start_is}
 use Rattle.tomex_timing.proofs.Tests.{cases_unit, operation}
-use Rattle.tomex_timing.proofs.Settled.{AllBy, can_issue_after, can_address_after, can_start_after, can_end_after}
+use Rattle.tomex_timing.proofs.Settled.{AllBy, IsDoneBy, can_issue_after, can_address_after, can_start_after, can_end_after}
 
 pub issue_low : (config : Configuration) (older : List Done) (s : Step) (t : ℕ) → can_issue config older s t ≡ true
     → 0 < t
@@ -111,18 +112,14 @@ in_reach config older s at g good h timed =
 
 -- a time within a bound is within a larger one
 AllBy-more : (a b : ℕ) (older : List Done) → a ≤ b → AllBy a older → AllBy b older
-AllBy-more a b [] l h = tt
-AllBy-more a b (d ∷ older) l h = (
-  record {
-    issue = omega (arith, h.0.issue);
-    address = omega (arith, h.0.address);
-    start = omega (arith, h.0.start);
-    finish = omega (arith, h.0.finish);
-    end = omega (arith, h.0.end);
-  },
-  AllBy-more a b older l
-      h.1,
-)
+AllBy-more a b older l h =
+    recursion_from_All (IsDoneBy b) older (All-weaker (IsDoneBy a) (IsDoneBy b) (λ d by. record {
+      issue = omega (arith, by.issue);
+      address = omega (arith, by.address);
+      start = omega (arith, by.start);
+      finish = omega (arith, by.finish);
+      end = omega (arith, by.end);
+    }) older (All-from_recursion (IsDoneBy a) older h))
 
 -- nothing of a history lies past its greatest end
 pub timed_by : (config : Configuration) (h : List Done) → IsWithinLimits config → AreTimed config h

@@ -194,23 +194,12 @@ times_same config older s a b x y =
     same_record a b i d run.0 run.1 run.2
     (same_station older (step_pool s) a.issue a.station b.station x.station (rw (← i) at y.station))
 
-same_done : (d : Done) (older : List Done) (at : Times) (others : List Done) → d.at ≡ at → older ≡ others
-    → (d ∷ older) ≡ (record { step = d.step; at = at } ∷ others)
-same_done d older at others e f =
-    let g : Times → List Done = λ (a : Times). record { step = d.step; at = a } ∷ older in
-    let h : List Done → List Done = λ (o : List Done). record { step = d.step; at = at } ∷ o in
-    ap g e ∙ ap h f
-
 -- a history with the relation's times is the function's
 pub timed_of-same : (config : Configuration) (h : List Done) → IsWithinLimits config → AreTimed config h
     → h ≡ timed_of config (map (λ d. d.step) h)
 timed_of-same config [] good timed = refl
 timed_of-same config (d ∷ older) good timed =
-    let e : older ≡ timed_of config (map (λ d. d.step) older) = timed_of-same config older good timed.1 in
     let at : d.at ≡ times_of config older d.step =
     times_same config older d.step d.at (times_of config older d.step) timed.0
     (times_are config older d.step good timed.1) in
-    let at2 : times_of config older d.step ≡ times_of config (timed_of config (map (λ d. d.step) older)) d.step =
-    ap (λ h. times_of config h d.step) e in
-    same_done d older (times_of config (timed_of config (map (λ d. d.step) older)) d.step)
-    (timed_of config (map (λ d. d.step) older)) (at ∙ at2) e
+    rw (← timed_of-same config older good timed.1, ← at) refl

@@ -24,8 +24,8 @@ use Rattle.tomex_timing.proofs.Settled.{AllBy, IsDoneBy, all_pass, starts_none, 
 use Rattle.tomex_timing.proofs.Settled.{last_issue_by, writer_end_by, writer_of_zero}
 use Rattle.tomex_timing.proofs.Splits.{branch_finish}
 use Rattle.tomex_timing.proofs.Width.{issue_from, none_later}
-use Rattle.std.specs.List.{list_all, AllByRecursion}
-use Rattle.std.proofs.lemmas.List.Elements.{All-from_recursion}
+use Rattle.std.specs.List.{list_all, All}
+use Rattle.std.proofs.lemmas.List.Elements.{All-nil}
 use Rattle.tomex_rvdec.specs.Parts.{place_of_unit}
 use Rattle.tomex_rvdec.specs.declared.pool.PoolId.{PoolId}
 use Rattle.tomex_rvdec.specs.declared.pool.UnitId.{UnitId}
@@ -146,7 +146,7 @@ pub record IsShown (h : List Done) (held : Held) : Type 0 where
   pub size : length held.ends ≡ 96
   pub conflicts : (s : Step) (t : ℕ) → last_issue h < t
       → list_all (is_past (facts_of s) t) held.accesses ≡ are_conflicts_finished h s t
-  pub finishes : AllByRecursion (λ a. a.finish ≤ greatest_end h) held.accesses
+  pub finishes : All (λ a. a.finish ≤ greatest_end h) held.accesses
 
 nothing_at : (line t : ℕ) → line < 6 → taken_at (record { base = 0; slots = [] }) line t ≡ 0
 nothing_at line t l = get_or-replicate 8 line 0 0 (omega arith)
@@ -164,7 +164,7 @@ nothing_shown = record {
       (lt-ltb 0 t pos));
   size = refl;
   conflicts = λ s t l. refl;
-  finishes = tt;
+  finishes = All-nil (λ a. a.finish ≤ 0);
 }
 
 free_after : (pool : PoolId) (g t n : ℕ) (h : List Done) → AllBy g h → g < t → is_free pool h t n ≡ true
@@ -193,7 +193,7 @@ settled_by config h held good timed shown =
           let low : end_at held.ends pool n < greatest_end h + 1 =
           ltb-true (end_at held.ends pool n) (greatest_end h + 1) free in
           omega arith;
-      finishes = rw e (All-from_recursion (λ a. a.finish ≤ greatest_end h) held.accesses shown.finishes);
+      finishes = rw e shown.finishes;
       ends = λ r l. rw (kept.ends r l, e) (writer_end_by (greatest_end h) h r by);
       zero = shown.kept.ends 0 (omega arith) ∙ writer_of_zero h;
       issue = rw (kept.issue, e) i;

@@ -2,10 +2,11 @@
 use Rattle.std.proofs.Common.{ℕ, ◌<◌, ◌≤◌, ◌≡◌, ◌≢◌, ◌∙◌, Bool, true, false, arith, refl, inl, inr, List, [], ◌∷◌, ◌++◌}
 use Rattle.std.proofs.Common.{Option, Some, None, length, max}
 use Rattle.std.specs.Prelude.{nat_lt, nat_le, ◌==◌, not, ◌&&◌, is_some, slice_set, MatchOption}
-use Rattle.std.specs.List.{filter, list_all, AllByRecursion}
+use Rattle.std.specs.List.{filter, list_all, All}
 use Rattle.std.proofs.lemmas.Bool.{and_right, cases_Bool, and_parts, eq-eqb, eqb-true, lt-ltb, le-ltb, leb-false}
 use Rattle.std.proofs.lemmas.Bool.{leb-true, or_right}
 use Rattle.std.proofs.lemmas.List.{get_or-set_same, get_or-set_other, length-set}
+use Rattle.std.proofs.lemmas.List.Elements.{All-filter, All-push, All-weaker}
 use Rattle.std.proofs.lemmas.List.Folds.{list_all-append}
 use Rattle.std.proofs.lemmas.List.Sums.{sum_by-cons}
 use Rattle.tomex_rvdec.specs.Parts.{place_of_pool}
@@ -115,27 +116,16 @@ accesses_turn y s at h (Some bytes) accesses t of l e =
     ) (and_swap (are_conflicts_finished h y t)
     (is_past (facts_of y) t (record { bytes = bytes; is_store = is_store s; finish = at.finish })))
 
-finishes_later : (g k : ℕ) (xs : List Access) → g ≤ k → AllByRecursion (λ a. a.finish ≤ g) xs
-    → AllByRecursion (λ a. a.finish ≤ k) xs
-finishes_later g k [] l h = tt
-finishes_later g k (a ∷ xs) l h = (omega (arith, h.0), finishes_later g k xs l h.1)
-
-finishes_kept : (g : ℕ) (q : Access → Bool) (xs : List Access) (x : Access) → AllByRecursion (λ a. a.finish ≤ g) xs
-    → x.finish ≤ g → AllByRecursion (λ a. a.finish ≤ g) (filter q xs ++ (x ∷ []))
-finishes_kept g q [] x h l = (l, tt)
-finishes_kept g q (a ∷ xs) x h l = elim (cases_Bool (q a)) [
-  | inl y ↦ rw y (h.0, finishes_kept g q xs x h.1 l)
-  | inr y ↦ rw y (finishes_kept g q xs x h.1 l)
-]
-
 finishes_turn : (f : Facts) (at : Times) (x : Option ByteRange) (g : ℕ) (accesses : List Access) → at.finish ≤ at.end
-    → AllByRecursion (λ a. a.finish ≤ g) accesses
-    → AllByRecursion (λ a. a.finish ≤ max at.end g) (accesses_with x f at accesses)
-finishes_turn f at None g accesses l h = finishes_later g (max at.end g) accesses (omega arith) h
+    → All (λ a. a.finish ≤ g) accesses → All (λ a. a.finish ≤ max at.end g) (accesses_with x f at accesses)
+finishes_turn f at None g accesses l h =
+    All-weaker (λ a. a.finish ≤ g) (λ a. a.finish ≤ max at.end g) (λ a k. omega arith) accesses h
 finishes_turn f at (Some bytes) g accesses l h =
-    finishes_kept (max at.end g) (λ a. nat_le at.issue a.finish) accesses
+    let later : All (λ a. a.finish ≤ max at.end g) accesses =
+    All-weaker (λ a. a.finish ≤ g) (λ a. a.finish ≤ max at.end g) (λ a k. omega arith) accesses h in
+    All-push (λ a. a.finish ≤ max at.end g) (filter (λ a. nat_le at.issue a.finish) accesses)
     (record { bytes = bytes; is_store = f.is_store; finish = at.finish })
-    (finishes_later g (max at.end g) accesses (omega arith) h) (omega arith)
+    (All-filter (λ a. nat_le at.issue a.finish) (λ a. a.finish ≤ max at.end g) accesses later) (omega arith)
 
 -- the station that a step takes had been given back before
 had_ended : (config : Configuration) (taken : List ℕ) (x : Option PoolId) (from issue : ℕ) (station : Option ℕ)

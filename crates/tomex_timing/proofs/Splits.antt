@@ -28,12 +28,10 @@ slot_from config h = cond (nat_lt (count_by (λ d. d.at.issue == last_issue h) h
 
 pub slot_range : (config : Configuration) (h : List Done) → (last_issue h ≤ slot_from config h)
     × (slot_from config h ≤ last_issue h + 1)
-slot_range config h = by (nat_lt (count_by (λ d. d.at.issue == last_issue h) h) config.width)
-  where
-    by : (b : Bool) → (last_issue h ≤ cond b (last_issue h) (last_issue h + 1))
-        × (cond b (last_issue h) (last_issue h + 1) ≤ last_issue h + 1)
-    by true = (omega arith, omega arith)
-    by false = (omega arith, omega arith)
+slot_range config h = elim (cases_Bool (nat_lt (count_by (λ d. d.at.issue == last_issue h) h) config.width)) [
+  | inl e ↦ rw e (omega arith, omega arith)
+  | inr e ↦ rw e (omega arith, omega arith)
+]
 
 -- and later than each branch's finish
 abbrev pub from_of : Configuration → List Done → ℕ
@@ -67,22 +65,14 @@ slot_split config h t good timed = elim (cases_order (last_issue h) t) [
       le-leb (last_issue h) (last_issue h) (omega arith),
     ) refl
   ]
-  | inr (inl l) ↦ rw (
-    none_later config h t timed l,
-    lt-ltb 0 config.width (width_low config good),
-    le-leb (last_issue h) t (omega arith),
-  ) (either (nat_lt (count_by (λ d. d.at.issue == last_issue h) h) config.width) l)
-  | inr (inr l) ↦ rw (lt-leb (last_issue h) t l)
-      (neither (nat_lt (count_by (λ d. d.at.issue == last_issue h) h) config.width) l)
+  | inr (inl l) ↦
+      let low = (slot_range config h).1 in
+      rw (none_later config h t timed l, lt-ltb 0 config.width (width_low config good),
+      le-leb (last_issue h) t (omega arith)) (le-leb (slot_from config h) t (omega (arith, low)))
+  | inr (inr l) ↦
+      let high = (slot_range config h).0 in
+      rw (lt-leb (last_issue h) t l) (lt-leb (slot_from config h) t (omega (arith, high)))
 ]
-  where
-    either : (b : Bool) → last_issue h < t → nat_le (cond b (last_issue h) (last_issue h + 1)) t ≡ true
-    either true l = le-leb (last_issue h) t (omega arith)
-    either false l = le-leb (last_issue h + 1) t (omega arith)
-
-    neither : (b : Bool) → t < last_issue h → nat_le (cond b (last_issue h) (last_issue h + 1)) t ≡ false
-    neither true l = lt-leb (last_issue h) t l
-    neither false l = lt-leb (last_issue h + 1) t (omega arith)
 
 swap_and : (a b c : Bool) → (a && (b && c)) ≡ (b && (a && c))
 swap_and a b c = rw (← and_assoc a b c, and_swap a b) (and_assoc b a c)

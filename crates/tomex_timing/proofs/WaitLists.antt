@@ -91,11 +91,7 @@ needs_within config h needs good timed few are =
 pub waits_more : (config : Configuration) (xs : List Step) (x : Step)
     → waits_in config (xs ++ (x ∷ [])) ≡ waits_in config xs
     ++ (waits_of config (history config xs) (record { step = x; at = times_of config (history config xs) x }) ∷ [])
-waits_more config xs x =
-    let d : Done = record { step = x; at = times_of config (history config xs) x } in
-    let a : waits_in config (xs ++ (x ∷ [])) ≡ reverse (waits_over config (d ∷ history config xs)) =
-    ap (λ h. reverse (waits_over config h)) (history_more config xs x) in
-    a ∙ reverse-append (waits_of config (history config xs) d ∷ []) (waits_over config (history config xs))
+waits_more config xs x = rw (history_more config xs x) (reverse-append (_ ∷ []) (waits_over config (history config xs)))
 
 length-waits_over : (config : Configuration) (h : List Done) → length (waits_over config h) ≡ length h
 length-waits_over config [] = refl
@@ -109,11 +105,11 @@ length-waits_in config xs = length-reverse (waits_over config (history config xs
 sum_over_waits : (config : Configuration) (h : List Done) (cause : Waits → ℕ)
     → sum_by cause (reverse (waits_over config h)) ≡ stalls_by cause config h
 sum_over_waits config [] cause = refl
-sum_over_waits config (d ∷ h) cause =
-    let k : sum_by cause (reverse (waits_over config h)) ≡ stalls_by cause config h = sum_over_waits config h cause in
-    let a = ap (sum_by cause) (reverse-append (waits_of config h d ∷ []) (waits_over config h)) in
-    let b = sum_by_push cause (reverse (waits_over config h)) (waits_of config h d) in
-    a ∙ (b ∙ (omega arith))
+sum_over_waits config (d ∷ h) cause = rw (
+  reverse-append (waits_of config h d ∷ []) (waits_over config h),
+  sum_by_push cause (reverse (waits_over config h)) (waits_of config h d),
+  sum_over_waits config h cause,
+) (omega arith)
 
 pub waits_add_up : WaitsAddUp
 waits_add_up config steps cause = sum_over_waits config (history config steps) cause
