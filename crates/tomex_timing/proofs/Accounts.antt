@@ -1,7 +1,6 @@
 -- The cycles of a run are its waits and its issues; the cycles of its stations are its waits and its operations.
 use Rattle.std.proofs.Common.{ℕ, zero, suc, ◌+◌, ◌-◌, ◌<◌, ◌≤◌, ◌≡◌, Bool, true, false, cond, arith, refl, inl, inr}
-use Rattle.std.proofs.Common.{List, [], ◌∷◌, Option, Some, None, max}
-use Rattle.std.specs.Prelude.{nat_lt, not, ◌&&◌, count_by, is_some}
+use Rattle.std.proofs.Common.{List, [], ◌∷◌, Option, Some, None, max, nat_lt, not, ◌&&◌, count_by, is_some}
 use Rattle.std.specs.Bool.{MatchBool}
 use Rattle.std.specs.List.{range_with_len}
 use Rattle.std.proofs.lemmas.Bool.{cases_Bool, lt-ltb, MatchBool-at_true, MatchBool-at_false}
@@ -22,11 +21,12 @@ use Rattle.tomex_timing.specs.Needs.{lacks_memory, lacks_unit, waits_of, pool_st
 use Rattle.tomex_timing.specs.Recurrence.{IsLeast, IsTimed, AreTimed, can_end, can_start, can_issue_another}
 use Rattle.tomex_timing.specs.Recurrence.{are_branches_finished, has_operands, are_conflicts_finished}
 use Rattle.tomex_timing.proofs.Bands.{none_of, none_pass}
-use Rattle.tomex_timing.proofs.Bound.{end_low, issue_low, start_low, timed_by}
+use Rattle.tomex_timing.proofs.Bound.{end_low, issue_low, timed_by}
 use Rattle.tomex_timing.proofs.Limits.{latency_low}
 use Rattle.tomex_timing.proofs.Settled.{last_issue_by}
 use Rattle.tomex_timing.proofs.Width.{issue_from}
 use Rattle.tomex_timing.proofs.Stations.{one}
+use Rattle.tomex_timing.proofs.Tests.{IsAtOnce, IsOperation, at_once, operation}
 
 -- tests of which each cycle passes one count all of them
 four_ways : (p q r s : ℕ → Bool) (n a : ℕ) → ((t : ℕ) → one (p t) + one (q t) + one (r t) + one (s t) ≡ 1)
@@ -154,8 +154,7 @@ end_account : (config : Configuration) (older : List Done) (d : Done)
 end_account config older d is = elim (cases_Bool (is_some (step_dest d.step))) [
   | inl e ↦
       let least : IsLeast (can_end config older d.at.finish) d.at.end = MatchBool-at_true _ _ e is in
-      let low : d.at.finish < d.at.end = end_low config older d.at.finish d.at.end least.0 in
-      rw e (omega arith)
+      rw e (omega (arith, end_low config older d.at.finish d.at.end least.0))
   | inr e ↦ let same : d.at.end ≡ d.at.finish =
       MatchBool-at_false (IsLeast (can_end config older d.at.finish) d.at.end) _ e is in rw e (omega arith)
 ]
@@ -167,22 +166,14 @@ operation_account : (config : Configuration) (older : List Done) (d : Done) (uni
     + in_units unit (waits_of config older d).unit + (waits_of config older d).bus
     + work_by config unit (is_some (step_dest d.step))
 operation_account config older d None good e is =
-    let s : d.at.start ≡ d.at.issue = rw e at is.start in
-    let f : d.at.finish ≡ d.at.issue = rw e at is.finish in
-    let n : d.at.end ≡ d.at.issue = rw e at is.end in
+    let at : IsAtOnce d.at = at_once e is in
     let a = start_account config older d in
     omega arith
 operation_account config older d (Some u) good e is =
-    let s : IsLeast (can_start config older d.step u d.at.issue (cycle_of d.at.address)) d.at.start =
-    rw e at is.start in
-    let low : d.at.issue < d.at.start =
-    (start_low config older d.step u d.at.issue (cycle_of d.at.address) d.at.start s.0).0 in
-    let f : d.at.finish ≡ d.at.start + (option_of config u).latency - 1 = rw e at is.finish in
-    let n : MatchBool (is_some (step_dest d.step)) (IsLeast (can_end config older d.at.finish) d.at.end)
-    (d.at.end ≡ d.at.finish) = rw e at is.end in
+    let at : IsOperation config older d.step u d.at = operation e is in
     let pos : 0 < (option_of config u).latency = latency_low config u good in
     let a = start_account config older d in
-    let b = end_account config older d n in
+    let b = end_account config older d at.end in
     let k = in_one_unit u (waits_of config older d).unit in
     omega arith
 
@@ -206,9 +197,8 @@ station_stalls config (d ∷ older) timed =
 unit_account : (config : Configuration) (older : List Done) (d : Done) (unit : Option UnitId) → step_unit d.step ≡ unit
     → IsTimed config older d.step d.at → in_units unit (waits_of config older d).unit ≡ (waits_of config older d).unit
 unit_account config older d None e is =
-    let s : d.at.start ≡ d.at.issue = rw e at is.start in
-    let n : (waits_of config older d).unit ≡ 0 =
-    none_of (lacks_unit older d) (d.at.issue + 1) d.at.start (omega arith) in
+    let at : IsAtOnce d.at = at_once e is in
+    let n = none_of (lacks_unit older d) (d.at.issue + 1) d.at.start (omega arith) in
     omega arith
 unit_account config older d (Some u) e is = in_one_unit u (waits_of config older d).unit
 

@@ -1,8 +1,7 @@
 -- Tests by parts.
-use Rattle.std.proofs.Common.{◌≡◌, Bool, true, false, refl, sym}
+use Rattle.std.proofs.Common.{◌≡◌, Bool, true, false, refl, sym, not, ◌&&◌}
 use Rattle.std.proofs.Math.Bool.{and-true}
 pub use Rattle.std.proofs.Math.Bool.{and_assoc, and_comm as and_swap}
-use Rattle.std.specs.Prelude.{not, ◌&&◌}
 
 pub and_true : (x : Bool) → x ≡ (x && true)
 and_true x = sym (and-true x)

@@ -1,7 +1,6 @@
 -- A step's times are at most 67 past the greatest end before it, so n steps take at most 67 * n cycles.
-use Rattle.std.proofs.Common.{ℕ, ◌+◌, ◌*◌, ◌<◌, ◌≤◌, ◌≡◌, true, false, arith, refl, List, [], ◌∷◌, Option, Some}
-use Rattle.std.proofs.Common.{None, inl, inr, length}
-use Rattle.std.specs.Prelude.{◌||◌, is_some}
+use Rattle.std.proofs.Common.{ℕ, ◌+◌, ◌*◌, ◌<◌, ◌≤◌, ◌≡◌, true, false, arith, refl, List, [], ◌∷◌, Option, Some, None}
+use Rattle.std.proofs.Common.{inl, inr, length, ◌||◌, is_some}
 use Rattle.std.specs.Bool.{MatchBool}
 use Rattle.std.proofs.lemmas.Bool.{cases_Bool, MatchBool-at_true, MatchBool-at_false}
 use Rattle.std.proofs.lemmas.List.Elements.{All-from_recursion, All-weaker, recursion_from_All}

@@ -1,8 +1,7 @@
 -- What the evaluator counts of a step's waits is what the definition says: before it issues it waits for branches, the
 -- width, a station; then for its operands, its address, older accesses, a unit.
-use Rattle.std.proofs.Common.{ℕ, ◌+◌, ◌-◌, ◌<◌, ◌≤◌, ◌≡◌, ◌∙◌, true, false, arith, refl, ap, sym, inl, inr, List}
-use Rattle.std.proofs.Common.{max, Option, Some, None}
-use Rattle.std.specs.Prelude.{nat_lt, nat_le, not, ◌&&◌}
+use Rattle.std.proofs.Common.{Bool, ℕ, ◌+◌, ◌-◌, ◌<◌, ◌≤◌, ◌≡◌, ◌∙◌, true, false, arith, refl, ap, sym, inl, inr, List, max}
+use Rattle.std.proofs.Common.{Option, Some, None, nat_lt, nat_le, not, ◌&&◌}
 use Rattle.std.proofs.lemmas.Bool.{cases_Bool, cases_order, le-leb, lt-leb, leb-true, leb-false, lt-ltb, and_parts}
 use Rattle.std.proofs.lemmas.Bool.Decides.{same_from_decides}
 use Rattle.tomex_config.specs.Configuration.{Configuration, IsWithinLimits}
@@ -165,44 +164,34 @@ module _ (h : List Done) (d : Done) where
     bus = d.at.end - d.at.finish - 1;
   }
 
-  -- of a step that starts as it issues
-  waits_idle : (config : Configuration) (marks : Marks) → IsWithinLimits config
-      → AreTimed config h → from_of config h ≤ d.at.issue → marks.from ≡ from_of config h → d.at.start ≡ d.at.issue
-      → marks.operands ≡ d.at.issue → marks.ready ≡ d.at.issue → marks.clear ≡ d.at.issue
-      → waits_at marks ≡ waits_of config h d
-  waits_idle config marks good timed l from start operands ready clear =
-      let w1 = none_of (lacks_operand h d) (d.at.issue + 1) d.at.start (omega arith) in
-      let w2 = none_of (lacks_address h d) (d.at.issue + 1) d.at.start (omega arith) in
-      let w3 = none_of (lacks_memory h d) (d.at.issue + 1) d.at.start (omega arith) in
-      let w4 = none_of (lacks_unit h d) (d.at.issue + 1) d.at.start (omega arith) in
-      same_waits _ _ (sym (branch_waits config h d l)) (rw from (sym (width_waits config h d good timed l)))
-      (rw from (sym (station_waits config h d good timed l)))
-      (omega arith) (omega arith) (omega arith) (omega arith) (omega arith)
-
-  -- and of an operation
-  waits_run : (config : Configuration) (marks : Marks) → IsWithinLimits config
-      → AreTimed config h → from_of config h ≤ d.at.issue → marks.from ≡ from_of config h
-      → marks.operands ≡ operands_at → marks.ready ≡ ready_at → IsClear marks.clear
-      → ready_at ≤ marks.clear → marks.clear ≤ d.at.start → waits_at marks ≡ waits_of config h d
-  waits_run config marks good timed l from operands ready clear r s =
-      let w1 = operand_waits (omega arith) in
-      same_waits _ _ (sym (branch_waits config h d l)) (rw from (sym (width_waits config h d good timed l)))
-      (rw from (sym (station_waits config h d good timed l)))
-      (omega arith) (rw (ready, operands) (sym (address_waits (omega arith))))
-      (rw ready (sym (memory_waits marks.clear clear r s))) (sym (unit_waits marks.clear clear r s)) (omega arith)
-
 module _ {config : Configuration} {h : List Done} {held : Held} {s : Step} {next : Next}
     (c : ComesNext config h held s next) where
   waits_unit : (unit : Option UnitId) → Runs c unit → last_issue h ≤ next.at.issue → from_of config h ≤ next.at.issue
       → waits_at h (record { step = s; at = next.at }) next.marks
       ≡ waits_of config h (record { step = s; at = next.at })
   waits_unit None run late l =
-      waits_idle h (record { step = s; at = next.at }) config next.marks c.good c.timed l (from_is c) run.start
-      run.operands run.ready run.clear
+      let d : Done = record { step = s; at = next.at } in
+      let none = λ (p : ℕ → Bool). none_of p (next.at.issue + 1) next.at.start (omega (arith, run.start)) in
+      same_waits _ _ (sym (branch_waits config h d l))
+      (rw (from_is c) (sym (width_waits config h d c.good c.timed l)))
+      (rw (from_is c) (sym (station_waits config h d c.good c.timed l)))
+      (omega (arith, run.operands, none (lacks_operand h d)))
+      (omega (arith, run.operands, run.ready, none (lacks_address h d)))
+      (omega (arith, run.ready, run.clear, none (lacks_memory h d)))
+      (omega (arith, run.start, run.clear, none (lacks_unit h d))) (omega arith)
   waits_unit (Some u) run late l =
+      let d : Done = record { step = s; at = next.at } in
       let marks : HasMarks h s next = has_marks c u run late in
-      waits_run h (record { step = s; at = next.at }) config next.marks c.good c.timed l (from_is c) marks.operands
-      marks.ready (λ t. rw marks.ready at (marks.clear t)) (rw marks.ready at marks.order) (start_marked c u run)
+      let clear : IsClear h d next.marks.clear = λ t. rw marks.ready at (marks.clear t) in
+      let order : ready_at h d ≤ next.marks.clear = rw marks.ready at marks.order in
+      let start : next.marks.clear ≤ next.at.start = start_marked c u run in
+      let w1 = operand_waits h d (omega arith) in
+      same_waits _ _ (sym (branch_waits config h d l))
+      (rw (from_is c) (sym (width_waits config h d c.good c.timed l)))
+      (rw (from_is c) (sym (station_waits config h d c.good c.timed l)))
+      (omega (arith, w1)) (rw (marks.ready, marks.operands) (sym (address_waits h d (omega arith))))
+      (rw marks.ready (sym (memory_waits h d next.marks.clear clear order start)))
+      (sym (unit_waits h d next.marks.clear clear order start)) (omega arith)
 
   -- what is counted of the next step's waits is what the definition says
   pub waits_are : waits_by held.latest next.marks next.at ≡ waits_of config h (record { step = s; at = next.at })

@@ -1,8 +1,6 @@
 -- One step more: what is counted of its demands is what its needs say of them.
-use Rattle.std.proofs.Common.{ℕ, ◌+◌, ◌∙◌, ◌≡◌, [], ap, arith, refl, sym, Bool, true, false}
-use Rattle.std.proofs.Common.{List, Option, Some, None}
-use Rattle.std.proofs.Common.{map, take, zero, suc}
-use Rattle.std.specs.Prelude.{◌==◌, max, nat_lt, not, ◌||◌, slice_index_or}
+use Rattle.std.proofs.Common.{ℕ, ◌+◌, ◌∙◌, ◌≡◌, [], ap, arith, refl, sym, Bool, true, false, List, Option, Some, None}
+use Rattle.std.proofs.Common.{map, take, zero, suc, ◌==◌, max, nat_lt, not, ◌||◌, slice_index_or}
 use Rattle.std.proofs.Math.Bool.{or-false, or-true}
 use Rattle.std.proofs.Math.ListN.{get_or-map, set}
 use Rattle.std.proofs.lemmas.Bool.{lt-ltb, ne_eqb}

@@ -1,8 +1,7 @@
 -- Which step has a station: a pool's station of a number is one step's at a time. So the stations that are held have
 -- different numbers, and are no more than the numbers up to the greatest.
 use Rattle.std.proofs.Common.{ℕ, ◌<◌, ◌≤◌, ◌≡◌, Bool, true, false, arith, refl, inl, inr, List, [], ◌∷◌, Option, Some}
-use Rattle.std.proofs.Common.{None, zero, suc, ◌+◌, cond}
-use Rattle.std.specs.Prelude.{nat_le, ◌&&◌, is_some, not, MatchOption, ◌==◌, count_by}
+use Rattle.std.proofs.Common.{None, zero, suc, ◌+◌, cond, nat_le, ◌&&◌, is_some, not, MatchOption, ◌==◌, count_by}
 use Rattle.std.specs.Bool.{MatchBool}
 use Rattle.std.proofs.lemmas.Bool.{cases_Bool, and_parts, le-leb, leb-true, cases_order, eqb-true, le-ltb, lt-ltb}
 use Rattle.tomex_rvdec.specs.Operands.{unit_at}

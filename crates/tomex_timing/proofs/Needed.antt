@@ -1,7 +1,6 @@
 -- One step more: the needs that are counted stay those of the history.
-use Rattle.std.proofs.Common.{ℕ, suc, ◌+◌, ◌<◌, ◌≤◌, ◌≡◌, ◌∙◌, cond, arith, refl, ap, sym, inl, inr, List}
-use Rattle.std.proofs.Common.{[], ◌∷◌, Option, Some, None}
-use Rattle.std.specs.Prelude.{◌==◌, ◌&&◌, count_by, is_some, length, slice_index_or, slice_set}
+use Rattle.std.proofs.Common.{ℕ, suc, ◌+◌, ◌<◌, ◌≤◌, ◌≡◌, ◌∙◌, cond, arith, refl, ap, sym, inl, inr, List, [], ◌∷◌}
+use Rattle.std.proofs.Common.{Option, Some, None, ◌==◌, ◌&&◌, count_by, is_some, length, slice_index_or, slice_set}
 use Rattle.std.proofs.lemmas.Bool.{cases_Bool, eqb-true, both_ways, eq-eqb}
 use Rattle.std.proofs.lemmas.List.{get_or-set_same, get_or-set_other, get_or-replicate, length-set}
 use Rattle.tomex_rvdec.specs.Parts.{place_of_pool, place_of_unit}

@@ -1,7 +1,6 @@
 -- The step that comes next by what is held has the times of the recurrence.
 use Rattle.std.proofs.Common.{ℕ, ◌+◌, ◌-◌, ◌<◌, ◌≤◌, ◌≡◌, ◌∙◌, Bool, true, false, cond, arith, refl, sym, inl, inr}
-use Rattle.std.proofs.Common.{List, Option, Some, None, max}
-use Rattle.std.specs.Prelude.{nat_lt, nat_le, ◌&&◌, is_some, count_by, MatchOption}
+use Rattle.std.proofs.Common.{List, Option, Some, None, max, nat_lt, nat_le, ◌&&◌, is_some, count_by, MatchOption}
 use Rattle.std.specs.Bool.{MatchBool}
 use Rattle.std.proofs.lemmas.Bool.{cases_Bool, false_from_ne_true, and_from, and_parts, le-leb, lt-ltb, le-ltb}
 use Rattle.std.proofs.lemmas.Bool.{leb-true, ltb-true}

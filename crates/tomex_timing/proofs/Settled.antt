@@ -1,7 +1,6 @@
 -- After the greatest end of a history nothing in it blocks a next step.
 use Rattle.std.proofs.Common.{ℕ, ◌+◌, ◌<◌, ◌≤◌, ◌≡◌, Bool, true, false, arith, refl, List, [], ◌∷◌, Option, Some, None}
-use Rattle.std.proofs.Common.{inl, inr, zero, suc}
-use Rattle.std.specs.Prelude.{nat_le, ◌==◌, ◌&&◌, is_some, count_by, All, IfSome, IsTrue}
+use Rattle.std.proofs.Common.{inl, inr, zero, suc, nat_le, ◌==◌, ◌&&◌, is_some, count_by, All, IfSome, IsTrue}
 use Rattle.std.specs.List.{list_all, AllByRecursion}
 use Rattle.std.proofs.lemmas.Bool.{cases_Bool, lt-leb, ne_eqb, and_right}
 use Rattle.std.proofs.lemmas.List.Elements.{All-from_recursion, All-weaker}

@@ -1,7 +1,6 @@
 -- Where fewer of a pool's stations are held than there are, one of them is free.
 use Rattle.std.proofs.Common.{ℕ, zero, suc, ◌+◌, ◌<◌, ◌≤◌, ◌≡◌, Bool, true, false, cond, arith, refl, ◌⊎◌, inl, inr}
-use Rattle.std.proofs.Common.{List, [], ◌∷◌, Option, Some, None}
-use Rattle.std.specs.Prelude.{nat_lt, ◌==◌, not, ◌&&◌, count_by}
+use Rattle.std.proofs.Common.{List, [], ◌∷◌, Option, Some, None, nat_lt, ◌==◌, not, ◌&&◌, count_by}
 use Rattle.std.specs.List.{list_all}
 use Rattle.std.proofs.lemmas.Bool.{cases_Bool, cases_order, lt-ltb, le-ltb, ltb-true, ne_eqb, eq-eqb}
 use Rattle.std.proofs.lemmas.List.Sums.{sum_by-cons}

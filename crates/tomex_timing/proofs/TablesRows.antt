@@ -1,6 +1,5 @@
 -- The tables after some cycles of short runs, computed by the definition itself.
-use Rattle.std.proofs.Common.{ℕ, ◌≡◌, refl, List, [], ◌∷◌, Option, Some, None}
-use Rattle.std.specs.Prelude.{replicate, slice_set}
+use Rattle.std.proofs.Common.{ℕ, ◌≡◌, refl, List, [], ◌∷◌, Option, Some, None, replicate, slice_set}
 use Rattle.tomex_rvdec.specs.declared.op.Op.TheVariants.{Addi, Mul, Sw, Lb, Jalr}
 use Rattle.tomex_rvdec.specs.declared.pool.PoolId.{PoolId}
 use Rattle.tomex_rvdec.specs.declared.pool.PoolId.TheVariants as pools

@@ -1,8 +1,7 @@
 -- No history takes more of a part than its configuration has; and what steps wait for is all in use in the cycles in
 -- which they wait for it, so then the history takes all that there is.
-use Rattle.std.proofs.Common.{ℕ, ◌+◌, ◌<◌, ◌≤◌, ◌≡◌, true, arith, refl, inl, inr, List, [], ◌∷◌, Some}
-use Rattle.std.proofs.Common.{zero, suc, ◌-◌, Bool, false, max}
-use Rattle.std.specs.Prelude.{◌==◌, ◌&&◌, count_by, is_some, nat_lt, nat_le, not}
+use Rattle.std.proofs.Common.{ℕ, ◌+◌, ◌<◌, ◌≤◌, ◌≡◌, true, arith, refl, inl, inr, List, [], ◌∷◌, Some, zero, suc, ◌-◌}
+use Rattle.std.proofs.Common.{Bool, false, max, ◌==◌, ◌&&◌, count_by, is_some, nat_lt, nat_le, not}
 use Rattle.std.proofs.lemmas.Bool.{cases_Bool, cases_order, and_from, and_parts, eqb-true, le-leb}
 use Rattle.std.proofs.lemmas.Bool.{lt-ltb, ltb-false, MatchBool-at_false, not-true}
 use Rattle.tomex_rvdec.specs.declared.pool.PoolId.{PoolId}
@@ -83,32 +82,12 @@ some_that p from to l =
 
 -- no cycle has more of a part in use than the greatest number
 
-issues_most : (h : List Done) (t : ℕ) → count_by (λ x. x.at.issue == t) h ≤ peak Width h
-issues_most [] t = omega arith
-issues_most (d ∷ h) t = let k = issues_most h t in elim (cases_Bool (d.at.issue == t)) [
-  | inl e ↦ let s : d.at.issue ≡ t = eqb-true d.at.issue t e in rw (sum_by-cons, e, s) (omega arith)
-  | inr e ↦ rw (sum_by-cons, e) (omega arith)
-]
-
-starts_most : (h : List Done) (u : UnitId) (t : ℕ) → count_by (λ x. is_of u (step_unit x.step) && x.at.start == t) h ≤
-    peak (Units u) h
-starts_most [] u t = omega arith
-starts_most (d ∷ h) u t = let k = starts_most h u t in
-    elim (cases_Bool (is_of u (step_unit d.step) && d.at.start == t)) [
-      | inl e ↦
-          let two = and_parts (is_of u (step_unit d.step)) (d.at.start == t) e in
-          let s : d.at.start ≡ t = eqb-true d.at.start t two.1 in
-          rw (sum_by-cons, e, two.0, s) (omega arith)
-      | inr e ↦ rw (sum_by-cons, e) (omega arith)
-    ]
-
-ends_most : (h : List Done) (t : ℕ) → count_by (λ x. is_some (step_dest x.step) && x.at.end == t) h ≤ peak Buses h
-ends_most [] t = omega arith
-ends_most (d ∷ h) t = let k = ends_most h t in elim (cases_Bool (is_some (step_dest d.step) && d.at.end == t)) [
-  | inl e ↦
-      let two = and_parts (is_some (step_dest d.step)) (d.at.end == t) e in
-      let s : d.at.end ≡ t = eqb-true d.at.end t two.1 in
-      rw (sum_by-cons, e, two.0, s) (omega arith)
+in_use : (part : Part) (q : Done → Bool) (h : List Done)
+    → ((d : Done) (older : List Done) → q d ≡ true → taken_by part older d ≡ count_by q older + 1)
+    → count_by q h ≤ peak part h
+in_use part q [] takes = omega arith
+in_use part q (d ∷ h) takes = let k = in_use part q h takes in elim (cases_Bool (q d)) [
+  | inl e ↦ rw (sum_by-cons, e) (omega (arith, takes d h e))
   | inr e ↦ rw (sum_by-cons, e) (omega arith)
 ]
 
@@ -125,7 +104,8 @@ module _ (config : Configuration) (older : List Done) (d : Done) where
       let order : nat_le (last_issue older) c.0 ≡ true = le-leb (last_issue older) c.0 (omega arith) in
       let none : nat_lt (count_by (λ x. x.at.issue == c.0) older) config.width ≡ false =
       last_fails _ _ order (not-true (can_issue_another config older c.0) fails) in
-      let most : count_by (λ x. x.at.issue == c.0) older ≤ peak Width older = issues_most older c.0 in
+      let most : count_by (λ x. x.at.issue == c.0) older ≤ peak Width older = in_use Width (λ x. x.at.issue == c.0) older
+      (λ x h e. rw (eqb-true x.at.issue c.0 e) refl) in
       let full : config.width ≤ count_by (λ x. x.at.issue == c.0) older =
       ltb-false (count_by (λ x. x.at.issue == c.0) older) config.width none in
       omega arith
@@ -166,7 +146,9 @@ module _ (config : Configuration) (older : List Done) (d : Done) where
         operands.0) conflicts.1) (start.1 c.0 c.2) in
         let full = ltb-false (count_by (λ x. is_of unit (step_unit x.step) && x.at.start == c.0) older)
         (option_of config unit).units none in
-        let most = starts_most older unit c.0 in
+        let most = in_use (Units unit) (λ x. is_of unit (step_unit x.step) && x.at.start == c.0) older (λ x h e.
+            let two = and_parts (is_of unit (step_unit x.step)) (x.at.start == c.0) e in
+            rw (two.0, eqb-true x.at.start c.0 two.1) refl) in
         omega arith
   ]
 
@@ -189,7 +171,9 @@ module _ (config : Configuration) (older : List Done) (d : Done) where
         ((result_end is y).1 (d.at.finish + 1) (omega arith)) in
         let full = ltb-false (count_by (λ x. is_some (step_dest x.step) && x.at.end == d.at.finish + 1) older)
         config.buses none in
-        let most = ends_most older (d.at.finish + 1) in
+        let most = in_use Buses (λ x. is_some (step_dest x.step) && x.at.end == d.at.finish + 1) older (λ x h e.
+            let two = and_parts (is_some (step_dest x.step)) (x.at.end == d.at.finish + 1) e in
+            rw (two.0, eqb-true x.at.end (d.at.finish + 1) two.1) refl) in
         omega arith
   ]
 

@@ -1,7 +1,6 @@
 -- A step passes a test of the recurrence in a cycle exactly if what the test says holds.
 use Rattle.std.proofs.Common.{ℕ, ◌+◌, ◌-◌, ◌<◌, ◌≡◌, ◌⊎◌, Bool, true, false, IsTrue, refl, inl, inr, List, [], ◌∷◌}
-use Rattle.std.proofs.Common.{Option, Some, None}
-use Rattle.std.specs.Prelude.{nat_lt, nat_le, not, ◌||◌, IfSome, count_by, is_some}
+use Rattle.std.proofs.Common.{Option, Some, None, nat_lt, nat_le, not, ◌||◌, IfSome, count_by, is_some}
 use Rattle.std.specs.List.{list_all, AllByRecursion}
 use Rattle.std.proofs.lemmas.Bool.{and_from, and_parts, cases_Bool, le-leb, leb-true, lt-ltb, ltb-true, or_left}
 use Rattle.std.proofs.lemmas.Bool.{or_right}

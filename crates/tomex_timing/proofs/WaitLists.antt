@@ -1,8 +1,7 @@
 -- The waits of a run's steps, in program order, grow by one step at a time, and add up to its stalls. No step waits
 -- longer than until its end, so the stalls of a run are no more than its steps times its cycles.
 use Rattle.std.proofs.Common.{ℕ, ◌+◌, ◌-◌, ◌*◌, ◌^◌, ◌<◌, ◌≤◌, ◌≡◌, Bool, arith, inl, inr, List, [], ◌∷◌, max, suc, ◌∙◌}
-use Rattle.std.proofs.Common.{refl, ◌++◌, ap, length, reverse}
-use Rattle.std.specs.Prelude.{count_by, length, All, sum_by}
+use Rattle.std.proofs.Common.{refl, ◌++◌, ap, length, reverse, count_by, All, sum_by}
 use Rattle.std.specs.List.{range_with_len}
 use Rattle.std.proofs.lemmas.Bool.{cases_Bool}
 use Rattle.std.proofs.lemmas.List.FromFn.{length-range_with_len}

@@ -1,6 +1,5 @@
 -- A step that accesses no memory has nothing in its way, and waits for nothing.
-use Rattle.std.proofs.Common.{ℕ, ◌≡◌, true, refl, List, [], ◌∷◌, None}
-use Rattle.std.specs.Prelude.{nat_le}
+use Rattle.std.proofs.Common.{ℕ, ◌≡◌, true, refl, List, [], ◌∷◌, None, nat_le}
 use Rattle.std.specs.List.{list_all}
 use Rattle.tomex_timing.specs.declared.accesses.Access.{Access}
 use Rattle.tomex_timing.specs.declared.window.Facts.{Facts}
