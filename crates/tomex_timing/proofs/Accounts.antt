@@ -18,7 +18,7 @@ use Rattle.tomex_timing.specs.Laws.{IssueCyclesAddUp, StationCyclesAddUp, Statio
 use Rattle.tomex_timing.specs.Laws.{work_by}
 use Rattle.tomex_timing.specs.Needs.{lacks_branch, lacks_width, lacks_station, lacks_operand, lacks_address}
 use Rattle.tomex_timing.specs.Needs.{lacks_memory, lacks_unit, waits_of, pool_stalls, stalls, stalls_by}
-use Rattle.tomex_timing.specs.Recurrence.{IsLeast, IsTimed, AreTimed, can_end, can_start, can_issue_another}
+use Rattle.tomex_timing.specs.Recurrence.{IsLeast, IsTimed, AreTimed, can_end, can_issue_another}
 use Rattle.tomex_timing.specs.Recurrence.{are_branches_finished, has_operands, are_conflicts_finished}
 use Rattle.tomex_timing.proofs.Bands.{none_of, none_pass}
 use Rattle.tomex_timing.proofs.Bound.{end_low, issue_low, timed_by}

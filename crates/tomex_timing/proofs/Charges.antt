@@ -1,8 +1,8 @@
 -- What the evaluator counts of a step's waits is what the definition says: before it issues it waits for branches, the
 -- width, a station; then for its operands, its address, older accesses, a unit.
-use Rattle.std.proofs.Common.{Bool, ℕ, ◌+◌, ◌-◌, ◌<◌, ◌≤◌, ◌≡◌, ◌∙◌, true, false, arith, refl, ap, sym, inl, inr, List, max}
+use Rattle.std.proofs.Common.{Bool, ℕ, ◌+◌, ◌-◌, ◌<◌, ◌≤◌, ◌≡◌, ◌∙◌, true, arith, refl, ap, sym, inl, inr, List, max}
 use Rattle.std.proofs.Common.{Option, Some, None, nat_lt, nat_le, not, ◌&&◌}
-use Rattle.std.proofs.lemmas.Bool.{cases_Bool, cases_order, le-leb, lt-leb, leb-true, leb-false, lt-ltb, and_parts}
+use Rattle.std.proofs.lemmas.Bool.{cases_Bool, le-leb, lt-leb, leb-true, leb-false, lt-ltb, and_parts}
 use Rattle.std.proofs.lemmas.Bool.Decides.{same_from_decides}
 use Rattle.tomex_config.specs.Configuration.{Configuration, IsWithinLimits}
 use Rattle.tomex_timing.specs.declared.part.Waits.{Waits}
@@ -109,14 +109,7 @@ module _ (h : List Done) (d : Done) where
       let j = source_end h (j_of d.step) in
       let k = source_end h (k_of d.step) in
       let e : operands_at ≡ max (d.at.issue + 1) (max (j + 1) (k + 1)) = omega arith in
-      sym (rw (
-        e,
-        max_split (d.at.issue + 1) (max (j + 1) (k + 1)) t,
-        max_split (j + 1) (k + 1) t,
-        after_split j t,
-        after_split k t,
-        le-leb (d.at.issue + 1) t l,
-      ) refl)
+      sym (rw (e, max_split, max_split, after_split j t, after_split k t, le-leb (d.at.issue + 1) t l) refl)
 
   ready_with : (t : ℕ) → d.at.issue + 1 ≤ t
       → (has_operands h d.step t && nat_lt (cycle_of d.at.address) t) ≡ nat_le ready_at t

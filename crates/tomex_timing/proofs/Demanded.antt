@@ -1,5 +1,5 @@
 -- One step more: what is counted of its demands is what its needs say of them.
-use Rattle.std.proofs.Common.{ℕ, ◌+◌, ◌∙◌, ◌≡◌, [], ap, arith, refl, sym, Bool, true, false, List, Option, Some, None}
+use Rattle.std.proofs.Common.{ℕ, ◌+◌, ◌∙◌, ◌≡◌, [], ap, arith, refl, sym, true, false, List, Option, Some, None}
 use Rattle.std.proofs.Common.{map, take, zero, suc, ◌==◌, max, nat_lt, not, ◌||◌, slice_index_or}
 use Rattle.std.proofs.Math.Bool.{or-false, or-true}
 use Rattle.std.proofs.Math.ListN.{get_or-map, set}

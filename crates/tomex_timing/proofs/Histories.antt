@@ -36,9 +36,11 @@ pub younger_change_nothing : YoungerChangeNothing
 younger_change_nothing config xs [] = ([], ap (times_in config) (append-nil xs) ∙ sym (append-nil (times_in config xs)))
 younger_change_nothing config xs (y ∷ ys) =
     let rest = younger_change_nothing config (xs ++ (y ∷ [])) ys in
-    let t : Times = times_of config (history config xs) y in
-    (t ∷ rest.0, ap (times_in config) (sym (append_assoc xs (y ∷ []) ys)) ∙ (rest.1
-    ∙ rw (times_more config xs y) (append_assoc (times_in config xs) (t ∷ []) rest.0)))
+    let t : Times = times_of config (history config xs) y in (
+      t ∷ rest.0,
+      ap (times_in config) (sym (append_assoc xs (y ∷ []) ys)) ∙ (rest.1
+          ∙ rw (times_more config xs y) (append_assoc (times_in config xs) (t ∷ []) rest.0)),
+    )
 
 total_push : (ts : List Times) (t : Times) → total_of (ts ++ (t ∷ [])) ≡ max t.end (total_of ts)
 total_push [] t = refl

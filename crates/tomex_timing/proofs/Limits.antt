@@ -1,5 +1,5 @@
 -- Pools and kinds of units are known by their places; and the limits of a configuration, as inequations.
-use Rattle.std.proofs.Common.{ℕ, ◌≡◌, ◌∙◌, true, ap, refl, sym, ◌<◌, ◌≤◌, arith, length, Option, Some, None}
+use Rattle.std.proofs.Common.{ℕ, ◌≡◌, ◌∙◌, true, ap, refl, sym, ◌<◌, ◌≤◌, arith, Option, Some, None}
 use Rattle.std.specs.Prelude.{◌==◌, if◌then◌else◌, nat_le}
 use Rattle.std.proofs.lemmas.Bool.{eqb-true, leb-true, and_parts}
 use Rattle.tomex_rvdec.specs.Parts.{place_of_pool, place_of_unit}

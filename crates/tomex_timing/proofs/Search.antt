@@ -81,20 +81,16 @@ times_are_from config older s g None e good h =
       station = station_is config older (step_pool s) _ (issue_station config older s _ i.0);
     }
 times_are_from config older s g (Some u) e good h =
-    let i : IsLeast (can_issue config older s) (issue_of config older s g) = issue_is config older s g good h in
-    let by : issue_of config older s g ≤ g + 1 =
-    least_le (can_issue config older s) _ (g + 1) i (can_issue_after config older s g good h) in
-    let a : cycle_of (address_at older s (issue_of config older s g) g) ≤ g + 2 = address_low older s _ g h by in
-    let can : can_start config older s u (issue_of config older s g)
-    (cycle_of (address_at older s (issue_of config older s g) g)) (g + 3) ≡ true =
-    can_start_after config older s u _ _ g good h by a in
-    let st : IsLeast (can_start config older s u (issue_of config older s g)
-    (cycle_of (address_at older s (issue_of config older s g) g)))
-    (start_of config older s u (issue_of config older s g)
-    (cycle_of (address_at older s (issue_of config older s g) g)) g) =
+    let issue = issue_of config older s g in
+    let address = address_at older s issue g in
+    let start = start_of config older s u issue (cycle_of address) g in
+    let i : IsLeast (can_issue config older s) issue = issue_is config older s g good h in
+    let by : issue ≤ g + 1 = least_le (can_issue config older s) _ (g + 1) i (can_issue_after config older s g good h) in
+    let a : cycle_of address ≤ g + 2 = address_low older s _ g h by in
+    let can = can_start_after config older s u issue (cycle_of address) g good h by a in
+    let st : IsLeast (can_start config older s u issue (cycle_of address)) start =
     least_is (can_start config older s u _ _) (g + 3) can in
-    let late : start_of config older s u (issue_of config older s g)
-    (cycle_of (address_at older s (issue_of config older s g) g)) g ≤ g + 3 = least_le _ _ (g + 3) st can in
+    let late : start ≤ g + 3 = least_le _ _ (g + 3) st can in
     let l : (option_of config u).latency ≤ 64 = latency_high config u good in
     record {
       issue = i;

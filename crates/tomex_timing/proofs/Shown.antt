@@ -18,7 +18,7 @@ use Rattle.tomex_timing.specs.Ahead.{Held, IsSettledBy, end_in, is_past, nothing
 use Rattle.tomex_timing.specs.History.{is_memory, cycle_of, writer_end, source_end, last_issue, last_address}
 use Rattle.tomex_timing.specs.History.{greatest_end, is_of}
 use Rattle.tomex_timing.specs.Recurrence.{IsLeast, IsTimed, AreTimed, can_address, are_conflicts_finished}
-use Rattle.tomex_timing.specs.Window.{facts_of, register_of, nothing_yet, written_by, addressed_by, latest_after}
+use Rattle.tomex_timing.specs.Window.{facts_of, register_of, written_by, addressed_by, latest_after}
 use Rattle.tomex_timing.proofs.Search.{address_pos}
 use Rattle.tomex_timing.proofs.Settled.{AllBy, IsDoneBy, all_pass, starts_none, results_none, last_address_by}
 use Rattle.tomex_timing.proofs.Settled.{last_issue_by, writer_end_by, writer_of_zero}
@@ -43,18 +43,6 @@ pub record IsKept (h : List Done) (latest : Latest) : Type 0 where
   pub branch : latest.branch ≡ branch_finish h
   pub address : latest.address ≡ last_address h
   pub end : latest.end ≡ greatest_end h
-
--- before the first step
-pub start_kept : IsKept [] nothing_yet
-start_kept = record {
-  ends = λ r l. get_or-replicate 32 r 0 0 l;
-  count = refl;
-  issue = refl;
-  issued = refl;
-  branch = refl;
-  address = refl;
-  end = refl;
-}
 
 pub branch_finish_by : (g : ℕ) (h : List Done) → AllBy g h → branch_finish h ≤ g
 branch_finish_by g [] h = omega arith
@@ -156,7 +144,15 @@ place_low pool n l = omega (arith, pool_in pool)
 
 pub nothing_shown : IsShown [] nothing_held
 nothing_shown = record {
-  kept = start_kept;
+  kept = record {
+    ends = λ r l. get_or-replicate 32 r 0 0 l;
+    count = refl;
+    issue = refl;
+    issued = refl;
+    branch = refl;
+    address = refl;
+    end = refl;
+  };
   base = omega arith;
   starts = λ unit t l. nothing_at (place_of_unit unit) t (omega (arith, unit_in unit));
   results = λ t l. nothing_at 5 t (omega arith);

@@ -1,6 +1,6 @@
 -- The tests of the recurrence, split by the first cycle in which each of their parts passes.
-use Rattle.std.proofs.Common.{ℕ, ◌+◌, ◌<◌, ◌≤◌, ◌≡◌, Bool, true, false, cond, arith, refl, List, [], ◌∷◌, add-one, inl}
-use Rattle.std.proofs.Common.{inr, max, nat_lt, nat_le, ◌==◌, ◌&&◌, count_by}
+use Rattle.std.proofs.Common.{◌∙◌, sym, ℕ, ◌+◌, ◌<◌, ◌≤◌, ◌≡◌, Bool, cond, arith, refl, List, [], ◌∷◌, add-one, inl}
+use Rattle.std.proofs.Common.{◌∙◌, sym, inr, max, nat_lt, nat_le, ◌==◌, ◌&&◌, count_by}
 use Rattle.std.proofs.lemmas.Bool.{cases_Bool, cases_order, leb-true, leb-false, lt-ltb}
 use Rattle.std.proofs.lemmas.Bool.{le-leb, lt-leb}
 use Rattle.tomex_steps.specs.Steps.{j_of, is_branch}
@@ -66,8 +66,11 @@ slot_split config h t good timed = elim (cases_order (last_issue h) t) [
   ]
   | inr (inl l) ↦
       let low = (slot_range config h).1 in
-      rw (none_later config h t timed l, lt-ltb 0 config.width (width_low config good),
-      le-leb (last_issue h) t (omega arith)) (le-leb (slot_from config h) t (omega (arith, low)))
+      rw (
+        none_later config h t timed l,
+        lt-ltb 0 config.width (width_low config good),
+        le-leb (last_issue h) t (omega arith),
+      ) (le-leb (slot_from config h) t (omega (arith, low)))
   | inr (inr l) ↦
       let high = (slot_range config h).0 in
       rw (lt-leb (last_issue h) t l) (lt-leb (slot_from config h) t (omega (arith, high)))
@@ -91,29 +94,16 @@ branch_split (d ∷ h) t = elim (cases_Bool (is_branch d.step)) [
 pub issue_split : (config : Configuration) (h : List Done) (t : ℕ) → IsWithinLimits config → AreTimed config h
     → nat_le (from_of config h) t ≡ ((nat_lt 0 t && can_issue_another config h t) && are_branches_finished h t)
 issue_split config h t good timed =
-    rw (
-      max_split (slot_from config h) (branch_finish h + 1) t,
-      slot_split config h t good timed,
-      branch_split h t,
-      ← and_assoc (can_issue_another config h t) (nat_lt 0 t) (are_branches_finished h t),
-      and_swap (can_issue_another config h t) (nat_lt 0 t),
-    ) refl
+    rw (max_split (slot_from config h) (branch_finish h + 1) t, slot_split config h t good timed, branch_split h t)
+    (swap_and (can_issue_another config h t) (nat_lt 0 t) (are_branches_finished h t)
+    ∙ sym (and_assoc (nat_lt 0 t) (can_issue_another config h t) (are_branches_finished h t)))
 
 pub ready_split : (issue address j k t : ℕ) → nat_le (max (max issue address) (max j k) + 1) t
     ≡ ((nat_lt issue t && nat_lt address t) && (nat_lt j t && nat_lt k t))
 ready_split issue address j k t =
     let e : max (max issue address) (max j k) + 1 ≡ max (max (issue + 1) (address + 1)) (max (j + 1) (k + 1)) =
     omega arith in
-    rw (
-      e,
-      max_split (max (issue + 1) (address + 1)) (max (j + 1) (k + 1)) t,
-      max_split (issue + 1) (address + 1) t,
-      max_split (j + 1) (k + 1) t,
-      after_split issue t,
-      after_split address t,
-      after_split j t,
-      after_split k t,
-    ) refl
+    rw (e, max_split, max_split, max_split, after_split, after_split, after_split, after_split) refl
 
 pub address_agree : (h : List Done) (s : Step) (issue : ℕ)
     → IsLeast (can_address h s issue) (max (max issue (source_end h (j_of s))) (last_address h) + 1)

@@ -147,8 +147,8 @@ module _ (config : Configuration) (older : List Done) (d : Done) where
         let full = ltb-false (count_by (λ x. is_of unit (step_unit x.step) && x.at.start == c.0) older)
         (option_of config unit).units none in
         let most = in_use (Units unit) (λ x. is_of unit (step_unit x.step) && x.at.start == c.0) older (λ x h e.
-            let two = and_parts (is_of unit (step_unit x.step)) (x.at.start == c.0) e in
-            rw (two.0, eqb-true x.at.start c.0 two.1) refl) in
+        let two = and_parts (is_of unit (step_unit x.step)) (x.at.start == c.0) e in
+        rw (two.0, eqb-true x.at.start c.0 two.1) refl) in
         omega arith
   ]
 
@@ -172,8 +172,8 @@ module _ (config : Configuration) (older : List Done) (d : Done) where
         let full = ltb-false (count_by (λ x. is_some (step_dest x.step) && x.at.end == d.at.finish + 1) older)
         config.buses none in
         let most = in_use Buses (λ x. is_some (step_dest x.step) && x.at.end == d.at.finish + 1) older (λ x h e.
-            let two = and_parts (is_some (step_dest x.step)) (x.at.end == d.at.finish + 1) e in
-            rw (two.0, eqb-true x.at.end (d.at.finish + 1) two.1) refl) in
+        let two = and_parts (is_some (step_dest x.step)) (x.at.end == d.at.finish + 1) e in
+        rw (two.0, eqb-true x.at.end (d.at.finish + 1) two.1) refl) in
         omega arith
   ]
 
