@@ -20,7 +20,8 @@ use Rattle.tomex_timing.proofs.Least.{least_le}
 use Rattle.tomex_timing.proofs.Limits.{latency_low, latency_high}
 use Rattle.tomex_timing.proofs.Tests.{IsAtOnce, IsOperation, at_once, can_end_is, can_issue_is, can_start_is}
 use Rattle.tomex_timing.proofs.Tests.{cases_unit, operation}
-use Rattle.tomex_timing.proofs.Settled.{AllBy, IsDoneBy, can_issue_after, can_address_after, can_start_after, can_end_after}
+use Rattle.tomex_timing.proofs.Settled.{AllBy, IsDoneBy, can_issue_after, can_address_after, can_start_after}
+use Rattle.tomex_timing.proofs.Settled.{can_end_after}
 
 pub issue_low : (config : Configuration) (older : List Done) (s : Step) (t : ℕ) → can_issue config older s t ≡ true
     → 0 < t
@@ -84,7 +85,8 @@ no_address : (config : Configuration) (older : List Done) (s : Step) (at : Times
     → IsTimed config older s at → cycle_of at.address ≡ 0
 no_address config older s at none timed = elim (cases_Bool (is_memory s)) [
   | inl e ↦ let f : false ≡ true = rw none at (memory_unit (step_pool s) e) in absurd (cc)
-  | inr e ↦ rw (MatchBool-at_false (IsLeast (can_address older s at.issue) (cycle_of at.address)) _ e timed.address) refl
+  | inr e ↦
+      rw (MatchBool-at_false (IsLeast (can_address older s at.issue) (cycle_of at.address)) _ e timed.address) refl
 ]
 
 pub in_reach : (config : Configuration) (older : List Done) (s : Step) (at : Times) (g : ℕ) → IsWithinLimits config

@@ -175,7 +175,8 @@ module _ {config : Configuration} {h : List Done} {held : Held} {s : Step} {next
       → MatchBool (is_some dest) (IsLeast (can_end config h finish) end) (end ≡ finish)
   end_timed None finish end buses late takes = takes.0
   end_timed (Some r) finish end buses late takes =
-      least_agree (λ t. nat_le (finish + 1) t && is_left held.table bus_line config.buses t) (can_end config h finish) end
+      least_agree (λ t. nat_le (finish + 1) t && is_left held.table bus_line config.buses t) (can_end config h finish)
+      end
       (λ t. rw (after_split finish t) (elim (cases_Bool (nat_lt finish t)) [
         | inl e ↦ let l : finish < t = ltb-true finish t e in rw (e, c.shown.results t (omega arith)) refl
         | inr e ↦ rw e refl
@@ -217,7 +218,8 @@ module _ {config : Configuration} {h : List Done} {held : Held} {s : Step} {next
       record {
         issue = first;
         address = address_part (is_memory s) h s next.at.issue next.at.address
-            (rw (source_agree h held.latest.ends (j_of s) c.shown.kept.ends c.registers.j, c.shown.kept.address) at c.by.address);
+            (rw (source_agree h held.latest.ends (j_of s) c.shown.kept.ends c.registers.j, c.shown.kept.address)
+            at c.by.address);
         start = run.start;
         finish = run.finish;
         end = run.end;

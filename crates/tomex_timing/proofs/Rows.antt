@@ -67,13 +67,10 @@ unfolding times_of
 jump_times = (refl, refl)
 
 -- addi x0,x0,0 has no destination, and takes no bus
-nothing_written_times : times_in plain (addi 0 0 0 0 0 ∷ ebreak 4 ∷ []) ≡ on 1 2 2 2 0 ∷ at_once 2 ∷ []
+short_times : (times_in plain (addi 0 0 0 0 0 ∷ ebreak 4 ∷ []) ≡ on 1 2 2 2 0 ∷ at_once 2 ∷ [])
+    × (times_in plain (ebreak 0 ∷ []) ≡ at_once 1 ∷ [])
 unfolding times_of
-nothing_written_times = refl
-
-alone_times : times_in plain (ebreak 0 ∷ []) ≡ at_once 1 ∷ []
-unfolding times_of
-alone_times = refl
+short_times = (refl, refl)
 
 -- two loads of one byte don't wait for each other, unless for a station
 loads_times : (times_in (with_latency units.Mem (with_stations pools.Load plain 2) 2) two_loads ≡ on 1 2 2 3 0

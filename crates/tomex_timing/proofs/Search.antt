@@ -85,7 +85,8 @@ times_are_from config older s g (Some u) e good h =
     let address = address_at older s issue g in
     let start = start_of config older s u issue (cycle_of address) g in
     let i : IsLeast (can_issue config older s) issue = issue_is config older s g good h in
-    let by : issue ≤ g + 1 = least_le (can_issue config older s) _ (g + 1) i (can_issue_after config older s g good h) in
+    let by : issue ≤ g + 1 =
+    least_le (can_issue config older s) _ (g + 1) i (can_issue_after config older s g good h) in
     let a : cycle_of address ≤ g + 2 = address_low older s _ g h by in
     let can = can_start_after config older s u issue (cycle_of address) g good h by a in
     let st : IsLeast (can_start config older s u issue (cycle_of address)) start =

@@ -104,7 +104,7 @@ module _ (config : Configuration) (older : List Done) (d : Done) where
       let order : nat_le (last_issue older) c.0 ≡ true = le-leb (last_issue older) c.0 (omega arith) in
       let none : nat_lt (count_by (λ x. x.at.issue == c.0) older) config.width ≡ false =
       last_fails _ _ order (not-true (can_issue_another config older c.0) fails) in
-      let most : count_by (λ x. x.at.issue == c.0) older ≤ peak Width older = in_use Width (λ x. x.at.issue == c.0) older
+      let most = in_use Width (λ x. x.at.issue == c.0) older
       (λ x h e. rw (eqb-true x.at.issue c.0 e) refl) in
       let full : config.width ≤ count_by (λ x. x.at.issue == c.0) older =
       ltb-false (count_by (λ x. x.at.issue == c.0) older) config.width none in

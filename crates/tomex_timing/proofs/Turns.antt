@@ -168,15 +168,13 @@ module _ {config : Configuration} {steps : List Step} {i : ℕ} {x : Step} {f : 
   one_more = take_more steps i x turn.step.place ∙ ap (λ y. take i steps ++ (y ∷ [])) turn.step.at
 
   longer : history config (take (i + 1) steps) ≡ record { step = x; at = next.at } ∷ history config (take i steps)
-  longer = rw one_more (history_more config (take i steps) x
-      ∙ ap (λ t. record { step = x; at = t } ∷ history config (take i steps)) (sym same_times))
+  longer = rw (one_more, same_times) (history_more config (take i steps) x)
 
   pub held_turn : {after : Held} → IsHeldAfter f next.at held after → IsShown (history config (take (i + 1) steps)) after
   held_turn is_after = rw longer (shown_turn comes (rw turn.step.facts at is_after))
 
   pub times_turn : times_in config (take (i + 1) steps) ≡ times_in config (take i steps) ++ (next.at ∷ [])
-  times_turn = rw one_more (times_more config (take i steps) x
-      ∙ ap (λ t. times_in config (take i steps) ++ (t ∷ [])) (sym same_times))
+  times_turn = rw (one_more, same_times) (times_more config (take i steps) x)
 
   can_keep : held.latest.issued < 2 ^ 63 → CanKeep f next.at held
   can_keep few =
@@ -201,10 +199,7 @@ module _ {config : Configuration} {steps : List Step} {i : ℕ} {x : Step} {f : 
 
   pub waits_turn : {waits : Waits} → waits ≡ waits_by held.latest next.marks next.at
       → waits_in config (take (i + 1) steps) ≡ waits_in config (take i steps) ++ (waits ∷ [])
-  waits_turn told =
-      rw (one_more, told ∙ waits_are comes) (waits_more config (take i steps) x
-      ∙ ap (λ t. waits_in config (take i steps)
-      ++ (waits_of config (history config (take i steps)) (record { step = x; at = t }) ∷ [])) (sym same_times))
+  waits_turn told = rw (one_more, told ∙ waits_are comes, same_times) (waits_more config (take i steps) x)
 
   pub waits_small : {facts : List Facts} {waits : Waits} → AreFacts steps facts → length facts < 2 ^ 28
       → waits ≡ waits_by held.latest next.marks next.at → AreWithin (2 ^ 62) waits

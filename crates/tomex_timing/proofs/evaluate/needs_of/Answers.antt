@@ -35,8 +35,9 @@ loop-step-preserved g c = λ steps are.
     let at = step_of c.args.config.now steps c.args.facts.now c.loop-step.step-index _ c.keeps_limits.ensures are
     c.loop-step-test.true (omega arith) in
     let before = c.loop-step.invariant steps are in
-    let turn = turn_of at.1 before.shown c.next_turn-turn.ensures.next in
+    let e = c.next_turn-turn.ensures in
+    let turn = turn_of at.1 before.shown e.next in
     record {
       shown = held_turn turn c.in_ok-keep.ensures;
-      needs = rw c.note.ensures (needs_turn turn c.next_turn-turn.ensures.waits c.next_turn-turn.ensures.taken before.needs);
+      needs = rw c.note.ensures (needs_turn turn e.waits e.taken before.needs);
     }
