@@ -36,11 +36,7 @@ four_ways p q r s zero a each = refl
 four_ways p q r s (suc n) a each =
     let k = four_ways p q r s n (a + 1) each in
     let h : one (p a) + one (q a) + one (r a) + one (s a) ≡ 1 = each a in
-    let x = sum_by-cons (λ x. one (p x)) a (range_with_len (a + 1) n) in
-    let y = sum_by-cons (λ x. one (q x)) a (range_with_len (a + 1) n) in
-    let z = sum_by-cons (λ x. one (r x)) a (range_with_len (a + 1) n) in
-    let w = sum_by-cons (λ x. one (s x)) a (range_with_len (a + 1) n) in
-    omega arith
+    rw (sum_by-cons, sum_by-cons, sum_by-cons, sum_by-cons) (omega arith)
 
 three_ways : (p q r : ℕ → Bool) (n a : ℕ) → ((t : ℕ) → one (p t) + one (q t) + one (r t) ≡ 1)
     → count_by p (range_with_len a n) + count_by q (range_with_len a n) + count_by r (range_with_len a n) ≡ n

@@ -9,6 +9,7 @@ use Rattle.std.proofs.lemmas.List.{get_or-set_same, get_or-set_other, length-set
 use Rattle.std.proofs.lemmas.List.Elements.{All-filter, All-push, All-weaker}
 use Rattle.std.proofs.lemmas.List.Folds.{list_all-append}
 use Rattle.std.proofs.lemmas.List.Sums.{sum_by-cons}
+use Rattle.std.proofs.lemmas.Bool.Decides.{nat_tests}
 use Rattle.tomex_rvdec.specs.Parts.{place_of_pool}
 use Rattle.tomex_rvdec.specs.declared.pool.PoolId.{PoolId}
 use Rattle.tomex_steps.specs.Steps.{step_pool, step_unit, step_dest, bytes_of, is_in, is_number, is_store}
@@ -80,10 +81,7 @@ station_turn pool (Some p) station taken free issue end t n later l size takes e
     ])
   where
     held : (end t before : ℕ) → before ≤ end → (not (true && nat_le t end) && nat_lt before t) ≡ nat_lt end t
-    held end t before l = elim (cases_Bool (nat_le t end)) [
-      | inl y ↦ let k : t ≤ end = leb-true t end y in rw (y, le-ltb end t k) refl
-      | inr y ↦ let k : end < t = leb-false t end y in rw (y, lt-ltb before t (omega arith), lt-ltb end t k) refl
-    ]
+    held end t before l = grind (arith, nat_tests)
 
 -- the accesses: those that are let go of have finished before the cycle
 all_kept : (p q : Access → Bool) (xs : List Access) → ((x : Access) → q x ≡ false → p x ≡ true)

@@ -3,6 +3,7 @@ use Rattle.std.proofs.Common.{◌∙◌, sym, ℕ, ◌+◌, ◌<◌, ◌≤◌, 
 use Rattle.std.proofs.Common.{◌∙◌, sym, inr, max, nat_lt, nat_le, ◌==◌, ◌&&◌, count_by}
 use Rattle.std.proofs.lemmas.Bool.{cases_Bool, cases_order, leb-true, leb-false, lt-ltb}
 use Rattle.std.proofs.lemmas.Bool.{le-leb, lt-leb}
+use Rattle.std.proofs.lemmas.Bool.Decides.{nat_tests}
 use Rattle.tomex_steps.specs.Steps.{j_of, is_branch}
 use Rattle.tomex_steps.specs.declared.step.Step.{Step}
 use Rattle.tomex_config.specs.Configuration.{Configuration, IsWithinLimits}
@@ -38,13 +39,7 @@ from_of config h = max (slot_from config h) (branch_finish h + 1)
 
 -- the first cycle from a greatest one on
 pub max_split : (a b t : ℕ) → nat_le (max a b) t ≡ (nat_le a t && nat_le b t)
-max_split a b t = elim (cases_Bool (nat_le a t)) [
-  | inl e ↦ let x : a ≤ t = leb-true a t e in elim (cases_Bool (nat_le b t)) [
-    | inl f ↦ let y : b ≤ t = leb-true b t f in rw (e, f) (le-leb (max a b) t (omega arith))
-    | inr f ↦ let y : t < b = leb-false b t f in rw (e, f) (lt-leb (max a b) t (omega arith))
-  ]
-  | inr e ↦ let x : t < a = leb-false a t e in rw e (lt-leb (max a b) t (omega arith))
-]
+max_split a b t = grind (arith, nat_tests)
 
 -- a cycle from the next one on is later
 pub after_split : (a t : ℕ) → nat_le (a + 1) t ≡ nat_lt a t

@@ -3,6 +3,7 @@ use Rattle.std.proofs.Common.{ℕ, ◌+◌, ◌≤◌, ◌≡◌, ◌∙◌, Boo
 use Rattle.std.proofs.Common.{None, ◌==◌, ◌&&◌, if◌then◌else◌}
 use Rattle.std.proofs.lemmas.Bool.{cases_Bool, eq-eqb, eqb-true, ne_eqb}
 use Rattle.tomex_rvdec.specs.declared.pool.UnitId.{UnitId}
+use Rattle.std.proofs.lemmas.Bool.Decides.{nat_tests}
 use Rattle.tomex_config.specs.Configuration.{Configuration}
 use Rattle.tomex_reservations.specs.Reservations.{Reserved, bus_line, is_left, taken_at, taken_with}
 use Rattle.tomex_timing.specs.Ahead.{TakesBus, one}
@@ -14,13 +15,7 @@ use Rattle.tomex_timing.proofs.asking.take_slots.Goals as goal
 
 -- equal either way round
 eqb_turned : (a b : ℕ) → (a == b) ≡ (b == a)
-eqb_turned a b = elim (cases_Bool (a == b)) [
-  | inl e ↦ let s : b ≡ a = sym (eqb-true a b e) in rw e (sym (eq-eqb b a s))
-  | inr e ↦ elim (cases_Bool (b == a)) [
-    | inl f ↦ let s : a ≡ b = sym (eqb-true b a f) in rw f (eq-eqb a b s)
-    | inr f ↦ rw (e, f) refl
-  ]
-]
+eqb_turned a b = grind (arith, nat_tests)
 
 one_more : (b : Bool) (n : ℕ) → (if b then n + 1 else n) ≡ n + one b
 one_more true n = refl
