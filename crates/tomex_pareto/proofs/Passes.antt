@@ -28,13 +28,10 @@ IsFollowed a b = IsUpTo a b × (a.row ≢ b.row)
 -- in a chain of tests, one that implies its neighbour adds nothing
 
 absorbed_first : (x y z : Bool) → (x ≡ true → y ≡ true) → not (y || z) ≡ not (x || (y || z))
-absorbed_first false y z f = refl
-absorbed_first true y z f = ap (λ (t : Bool). not (t || z)) (f refl)
+absorbed_first x y z f = grind (arith, nat_tests)
 
 absorbed_next : (x y z : Bool) → (y ≡ true → x ≡ true) → not (x || z) ≡ not (x || (y || z))
-absorbed_next true y z f = refl
-absorbed_next false false z f = refl
-absorbed_next false true z f = absurd (false≢true (f refl))
+absorbed_next x y z f = grind (arith, nat_tests)
 
 filter_same : (p q : FrontRow → Bool) (rows : List FrontRow) → AllOf (λ s. p s ≡ q s) rows
     → filter p rows ≡ filter q rows

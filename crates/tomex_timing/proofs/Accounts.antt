@@ -4,6 +4,7 @@ use Rattle.std.proofs.Common.{List, [], ◌∷◌, Option, Some, None, max, nat_
 use Rattle.std.specs.Bool.{MatchBool}
 use Rattle.std.specs.List.{range_with_len}
 use Rattle.std.proofs.lemmas.Bool.{cases_Bool, lt-ltb, MatchBool-at_true, MatchBool-at_false}
+use Rattle.std.proofs.lemmas.Bool.Decides.{nat_tests}
 use Rattle.std.proofs.lemmas.List.Sums.{sum_by-cons}
 use Rattle.tomex_rvdec.specs.declared.pool.PoolId.{PoolId}
 use Rattle.tomex_rvdec.specs.declared.pool.PoolId.TheVariants as pools
@@ -50,9 +51,7 @@ three_ways p q r n a each =
     none_of_all (suc n) a = rw (sum_by-cons, none_of_all n (a + 1)) refl
 
 issue_ways : (b w : Bool) → one (not b) + one (b && not w) + one (b && w) ≡ 1
-issue_ways true true = refl
-issue_ways true false = refl
-issue_ways false w = refl
+issue_ways b w = grind (arith, nat_tests)
 
 -- the waits of one issue
 issue_account : (config : Configuration) (older : List Done) (d : Done) → (waits_of config older d).branch
@@ -70,9 +69,7 @@ no_station_wait config older d none is =
     (rw (none, lt-ltb 0 t (omega arith)) at (is.issue.1 t m)))
   where
     last_alone : (b w : Bool) → (((true && w) && b) && true) ≡ false → (b && w) ≡ false
-    last_alone true true h = h
-    last_alone true false h = refl
-    last_alone false w h = refl
+    last_alone b w h = grind (arith, nat_tests)
 
 abbrev in_pools : Option PoolId → ℕ → ℕ
 in_pools x n = cond (is_in pools.Alu x) n 0 + cond (is_in pools.Mul x) n 0 + cond (is_in pools.Div x) n 0
@@ -118,10 +115,7 @@ issue_cycles config d older good timed =
 -- one operation
 
 start_ways : (o a m : Bool) → one (not o) + one (o && not a) + one ((o && a) && not m) + one ((o && a) && m) ≡ 1
-start_ways true true true = refl
-start_ways true true false = refl
-start_ways true false m = refl
-start_ways false a m = refl
+start_ways o a m = grind (arith, nat_tests)
 
 start_account : (config : Configuration) (older : List Done) (d : Done) → (waits_of config older d).operand
     + (waits_of config older d).address + (waits_of config older d).memory

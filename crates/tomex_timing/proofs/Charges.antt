@@ -10,8 +10,7 @@ use Rattle.tomex_timing.specs.declared.times.Done.{Done}
 use Rattle.tomex_timing.specs.History.{last_issue, cycle_of, source_end}
 use Rattle.tomex_timing.specs.Needs.{lacks_branch, lacks_width, lacks_station, issue_waits, waits_of, lacks_operand}
 use Rattle.tomex_timing.specs.Needs.{lacks_address, lacks_memory, lacks_unit, start_waits}
-use Rattle.tomex_timing.specs.Recurrence.{AreTimed, are_branches_finished, has_operands}
-use Rattle.tomex_timing.specs.Recurrence.{are_conflicts_finished}
+use Rattle.tomex_timing.specs.Recurrence.{AreTimed, are_branches_finished, has_operands, are_conflicts_finished}
 use Rattle.tomex_timing.proofs.Bands.{band, is_in_band, none_of}
 use Rattle.tomex_timing.proofs.Splits.{branch_finish, slot_from, slot_range, from_of, max_split, slot_split}
 use Rattle.tomex_timing.proofs.Splits.{branch_split, issue_split, after_split, ready_split}

@@ -1,6 +1,6 @@
 -- One step more: what is counted of its demands is what its needs say of them.
-use Rattle.std.proofs.Common.{ℕ, ◌+◌, ◌∙◌, ◌≡◌, [], ap, arith, refl, sym, true, false, List, Option, Some, None}
-use Rattle.std.proofs.Common.{map, take, zero, suc, ◌==◌, max, nat_lt, not, ◌||◌, slice_index_or}
+use Rattle.std.proofs.Common.{ℕ, ◌+◌, ◌∙◌, ◌≡◌, [], ap, arith, refl, sym, true, false, List, Option, Some, None, map}
+use Rattle.std.proofs.Common.{take, zero, suc, ◌==◌, max, nat_lt, not, ◌||◌, slice_index_or}
 use Rattle.std.proofs.Math.Bool.{or-false, or-true}
 use Rattle.std.proofs.Math.ListN.{get_or-map, set}
 use Rattle.std.proofs.lemmas.Bool.{lt-ltb, ne_eqb}
@@ -23,13 +23,12 @@ use Rattle.tomex_timing.specs.declared.waiting.Taken.{Taken}
 use Rattle.tomex_timing.specs.declared.window.Facts.{Facts}
 use Rattle.tomex_timing.specs.Ahead.{Held, IsHeldAfter}
 use Rattle.tomex_timing.specs.Demands.{AreDemands, demand_after, demand_from, demand_of, demands_after, demands_of}
-use Rattle.tomex_timing.specs.Demands.{no_demand}
-use Rattle.tomex_timing.specs.Demands.{nothing_asked, stations_asked, units_asked}
+use Rattle.tomex_timing.specs.Demands.{no_demand, nothing_asked, stations_asked, units_asked}
 use Rattle.tomex_timing.specs.Needs.{no_need, peak, stalls}
 use Rattle.tomex_timing.specs.History.{greatest_end}
 use Rattle.tomex_timing.specs.Search.{history}
-use Rattle.tomex_timing.specs.Waiting.{need_after, needs_after, nothing_needed, stations_after, units_after}
-use Rattle.tomex_timing.specs.Waiting.{taken_from, waits_by}
+use Rattle.tomex_timing.specs.Waiting.{need_after, needs_after, nothing_needed, stations_after, units_after, taken_from}
+use Rattle.tomex_timing.specs.Waiting.{waits_by}
 use Rattle.tomex_timing.proofs.Needed.{needs_none}
 use Rattle.tomex_timing.proofs.Shown.{IsShown}
 use Rattle.tomex_timing.proofs.Turns.{IsTurn, held_turn, needs_turn}

@@ -3,7 +3,7 @@
 use Rattle.std.proofs.Common.{ℕ, ◌<◌, ◌≤◌, ◌≡◌, Bool, true, false, arith, refl, inl, inr, List, [], ◌∷◌, Option, Some}
 use Rattle.std.proofs.Common.{None, zero, suc, ◌+◌, cond, nat_le, ◌&&◌, is_some, not, MatchOption, ◌==◌, count_by}
 use Rattle.std.specs.Bool.{MatchBool}
-use Rattle.std.proofs.lemmas.Bool.{cases_Bool, and_parts, le-leb, leb-true, cases_order, eqb-true, le-ltb, lt-ltb}
+use Rattle.std.proofs.lemmas.Bool.{cases_Bool, and_parts, cases_order, eqb-true, le-ltb, lt-ltb}
 use Rattle.tomex_rvdec.specs.Operands.{unit_at}
 use Rattle.tomex_rvdec.specs.declared.pool.PoolId.{PoolId}
 use Rattle.tomex_rvdec.specs.declared.pool.UnitId.{UnitId}
@@ -19,6 +19,7 @@ use Rattle.tomex_timing.proofs.Least.{least_same}
 use Rattle.tomex_timing.proofs.Search.{issue_station}
 use Rattle.tomex_timing.proofs.Stations.{number_is, lower, split_count}
 use Rattle.std.specs.List.{list_all}
+use Rattle.std.proofs.lemmas.Bool.Decides.{nat_tests}
 use Rattle.std.proofs.lemmas.List.Sums.{sum_by-cons}
 use Rattle.tomex_timing.specs.declared.part.Part.TheVariants.{Stations}
 use Rattle.tomex_timing.specs.History.{last_issue}
@@ -46,11 +47,7 @@ number_low config d older pool n timed a b =
 
 free_one : (a b : Bool) (i t end : ℕ) → i ≤ t → not ((a && nat_le i end) && b) ≡ true
     → not ((a && nat_le t end) && b) ≡ true
-free_one false b i t end l free = refl
-free_one true b i t end l free = elim (cases_Bool (nat_le t end)) [
-  | inr e ↦ rw e refl
-  | inl e ↦ let k : t ≤ end = leb-true t end e in rw e (rw (le-leb i end (omega arith)) at free)
-]
+free_one a b i t end l free = grind (arith, nat_tests)
 
 -- what is free stays free of the steps that had issued
 pub free_later : (p : PoolId) (older : List Done) (n i t : ℕ) → i ≤ t → is_free p older i n ≡ true

@@ -1,7 +1,8 @@
 -- Pools and kinds of units are known by their places; and the limits of a configuration, as inequations.
 use Rattle.std.proofs.Common.{ℕ, ◌≡◌, ◌∙◌, true, ap, refl, sym, ◌<◌, ◌≤◌, arith, Option, Some, None}
-use Rattle.std.specs.Prelude.{◌==◌, if◌then◌else◌, nat_le}
-use Rattle.std.proofs.lemmas.Bool.{eqb-true, leb-true, and_parts}
+use Rattle.std.specs.Prelude.{◌==◌, if◌then◌else◌}
+use Rattle.std.proofs.lemmas.Bool.{eqb-true, and_parts}
+use Rattle.std.proofs.lemmas.Bool.Decides.{nat_tests}
 use Rattle.tomex_rvdec.specs.Parts.{place_of_pool, place_of_unit}
 use Rattle.tomex_rvdec.specs.declared.pool.PoolId.{PoolId}
 use Rattle.tomex_rvdec.specs.declared.pool.PoolId.TheVariants as pools
@@ -65,9 +66,7 @@ unit_in units.Mem = omega arith
 unit_in units.Bru = omega arith
 
 between : (low high n : ℕ) → is_between low high n ≡ true → (low ≤ n) × (n ≤ high)
-between low high n h =
-    let two = and_parts (nat_le low n) (nat_le n high) h in
-    (leb-true low n two.0, leb-true n high two.1)
+between low high n h = grind (arith, nat_tests)
 
 stations_are : (config : Configuration) (pool : PoolId) → IsWithinLimits config
     → (1 ≤ stations_of config pool) × (stations_of config pool ≤ 16)

@@ -1,8 +1,8 @@
 -- The times of a step are in order.
-use Rattle.std.proofs.Common.{ℕ, ◌<◌, ◌≤◌, ◌≡◌, ◌∙◌, true, arith, refl, inl, inr, List, [], ◌∷◌, ◌++◌, Option, Some}
-use Rattle.std.proofs.Common.{None}
-use Rattle.std.specs.Prelude.{nat_le, nat_lt, is_some}
-use Rattle.std.proofs.lemmas.Bool.{and_parts, leb-true, lt-ltb, ltb-true, MatchBool-at_true}
+use Rattle.std.proofs.Common.{ℕ, ◌≤◌, ◌≡◌, ◌∙◌, true, arith, refl, inl, inr, List, [], ◌∷◌, ◌++◌, Option, Some, None}
+use Rattle.std.specs.Prelude.{is_some}
+use Rattle.std.proofs.lemmas.Bool.{and_parts, MatchBool-at_true}
+use Rattle.std.proofs.lemmas.Bool.Decides.{nat_tests}
 use Rattle.tomex_rvdec.specs.declared.pool.PoolId.{PoolId}
 use Rattle.tomex_steps.specs.declared.step.ByteRange.{ByteRange}
 use Rattle.tomex_steps.specs.declared.step.Step.{Step}
@@ -79,14 +79,7 @@ address_rises config d older timed memory =
 share_from : (x y : Option ByteRange) (a : ℕ) → is_among x a ≡ true → is_among y a ≡ true → shares_byte x y ≡ true
 share_from None y a e f = absurd (cc)
 share_from (Some x) None a e f = absurd (cc)
-share_from (Some x) (Some y) a e f =
-    let p = and_parts (nat_le x.from a) (nat_lt a x.to) e in
-    let q = and_parts (nat_le y.from a) (nat_lt a y.to) f in
-    let low : x.from ≤ a = leb-true x.from a p.0 in
-    let high : a < x.to = ltb-true a x.to p.1 in
-    let from : y.from ≤ a = leb-true y.from a q.0 in
-    let to : a < y.to = ltb-true a y.to q.1 in
-    rw (lt-ltb x.from y.to (omega arith), lt-ltb y.from x.to (omega arith)) refl
+share_from (Some x) (Some y) a e f = grind (arith, nat_tests)
 
 pub conflict_at : AccessesConflict
 conflict_at x y a e f store = rw (share_from (bytes_of x) (bytes_of y) a e f, store) refl

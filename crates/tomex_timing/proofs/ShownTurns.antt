@@ -3,8 +3,7 @@ use Rattle.std.proofs.Common.{ℕ, ◌<◌, ◌≤◌, ◌≡◌, ◌≢◌, ◌
 use Rattle.std.proofs.Common.{Option, Some, None, length, max}
 use Rattle.std.specs.Prelude.{nat_lt, nat_le, ◌==◌, not, ◌&&◌, is_some, slice_set, MatchOption}
 use Rattle.std.specs.List.{filter, list_all, All}
-use Rattle.std.proofs.lemmas.Bool.{and_right, cases_Bool, and_parts, eq-eqb, eqb-true, lt-ltb, le-ltb, leb-false}
-use Rattle.std.proofs.lemmas.Bool.{leb-true, or_right}
+use Rattle.std.proofs.lemmas.Bool.{and_right, cases_Bool, and_parts, eq-eqb, eqb-true, lt-ltb, leb-false, or_right}
 use Rattle.std.proofs.lemmas.List.{get_or-set_same, get_or-set_other, length-set}
 use Rattle.std.proofs.lemmas.List.Elements.{All-filter, All-push, All-weaker}
 use Rattle.std.proofs.lemmas.List.Folds.{list_all-append}

@@ -1,16 +1,14 @@
 -- The tests of the recurrence, split by the first cycle in which each of their parts passes.
-use Rattle.std.proofs.Common.{◌∙◌, sym, ℕ, ◌+◌, ◌<◌, ◌≤◌, ◌≡◌, Bool, cond, arith, refl, List, [], ◌∷◌, add-one, inl}
-use Rattle.std.proofs.Common.{◌∙◌, sym, inr, max, nat_lt, nat_le, ◌==◌, ◌&&◌, count_by}
-use Rattle.std.proofs.lemmas.Bool.{cases_Bool, cases_order, leb-true, leb-false, lt-ltb}
-use Rattle.std.proofs.lemmas.Bool.{le-leb, lt-leb}
+use Rattle.std.proofs.Common.{◌∙◌, sym, ℕ, ◌+◌, ◌≤◌, ◌≡◌, Bool, cond, arith, refl, List, [], ◌∷◌, add-one, inl, inr}
+use Rattle.std.proofs.Common.{max, nat_lt, nat_le, ◌==◌, ◌&&◌, count_by}
+use Rattle.std.proofs.lemmas.Bool.{cases_Bool, cases_order, lt-ltb, le-leb, lt-leb}
 use Rattle.std.proofs.lemmas.Bool.Decides.{nat_tests}
 use Rattle.tomex_steps.specs.Steps.{j_of, is_branch}
 use Rattle.tomex_steps.specs.declared.step.Step.{Step}
 use Rattle.tomex_config.specs.Configuration.{Configuration, IsWithinLimits}
 use Rattle.tomex_timing.specs.declared.times.Done.{Done}
 use Rattle.tomex_timing.specs.History.{source_end, last_issue, last_address}
-use Rattle.tomex_timing.specs.Recurrence.{IsLeast, AreTimed, can_address}
-use Rattle.tomex_timing.specs.Recurrence.{can_issue_another, are_branches_finished}
+use Rattle.tomex_timing.specs.Recurrence.{IsLeast, AreTimed, can_address, can_issue_another, are_branches_finished}
 use Rattle.tomex_timing.proofs.Bools.{and_assoc, and_swap}
 use Rattle.tomex_timing.proofs.Limits.{width_low}
 use Rattle.tomex_timing.proofs.Tests.{can_address_from, can_address_is}

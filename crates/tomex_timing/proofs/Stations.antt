@@ -2,7 +2,7 @@
 use Rattle.std.proofs.Common.{ℕ, zero, suc, ◌+◌, ◌<◌, ◌≤◌, ◌≡◌, Bool, true, false, cond, arith, refl, ◌⊎◌, inl, inr}
 use Rattle.std.proofs.Common.{List, [], ◌∷◌, Option, Some, None, nat_lt, ◌==◌, not, ◌&&◌, count_by}
 use Rattle.std.specs.List.{list_all}
-use Rattle.std.proofs.lemmas.Bool.{cases_Bool, cases_order, lt-ltb, le-ltb, ltb-true, ne_eqb, eq-eqb}
+use Rattle.std.proofs.lemmas.Bool.{cases_Bool, ltb-true}
 use Rattle.std.proofs.lemmas.Bool.Decides.{nat_tests}
 use Rattle.std.proofs.lemmas.List.Sums.{sum_by-cons}
 use Rattle.tomex_rvdec.specs.declared.pool.PoolId.{PoolId}
@@ -78,9 +78,7 @@ pigeons held station xs (suc n) h =
     omega arith
 
 pub one_part : (a b : Bool) → one (a && b) ≤ one a
-one_part false b = omega arith
-one_part true false = omega arith
-one_part true true = omega arith
+one_part a b = grind (arith, nat_tests)
 
 pub part_count : {X : Type 0} (held : X → Bool) (station : X → Option ℕ) (n : ℕ) (xs : List X)
     → count_by (λ d. held d && lower (station d) n) xs ≤ count_by (held) xs

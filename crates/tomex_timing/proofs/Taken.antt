@@ -2,8 +2,8 @@
 -- which they wait for it, so then the history takes all that there is.
 use Rattle.std.proofs.Common.{ℕ, ◌+◌, ◌<◌, ◌≤◌, ◌≡◌, true, arith, refl, inl, inr, List, [], ◌∷◌, Some, zero, suc, ◌-◌}
 use Rattle.std.proofs.Common.{Bool, false, max, ◌==◌, ◌&&◌, count_by, is_some, nat_lt, nat_le, not}
-use Rattle.std.proofs.lemmas.Bool.{cases_Bool, cases_order, and_from, and_parts, eqb-true, le-leb}
-use Rattle.std.proofs.lemmas.Bool.{lt-ltb, ltb-false, MatchBool-at_false, not-true}
+use Rattle.std.proofs.lemmas.Bool.{cases_Bool, cases_order, and_from, and_parts, eqb-true, le-leb, lt-ltb, ltb-false}
+use Rattle.std.proofs.lemmas.Bool.{MatchBool-at_false, not-true}
 use Rattle.tomex_rvdec.specs.declared.pool.PoolId.{PoolId}
 use Rattle.tomex_rvdec.specs.declared.pool.UnitId.{UnitId}
 use Rattle.tomex_steps.specs.Steps.{step_pool, step_unit, step_dest, is_in}
@@ -13,11 +13,10 @@ use Rattle.tomex_timing.specs.declared.part.Part.TheVariants.{Stations, Units, B
 use Rattle.tomex_timing.specs.declared.times.Done.{Done}
 use Rattle.tomex_timing.specs.History.{is_of, cycle_of, last_issue}
 use Rattle.tomex_timing.specs.Laws.{PeakIsWithin, StalledPartsAreFull}
-use Rattle.tomex_timing.specs.Needs.{count_of, peak, taken_by, cycles_that, lacks_width, lacks_station}
-use Rattle.tomex_timing.specs.Needs.{lacks_unit, stalls, waits_for, waits_of}
-use Rattle.tomex_timing.specs.Recurrence.{IsLeast, IsTimed, can_end, AreTimed, can_issue_another}
-use Rattle.tomex_timing.specs.Recurrence.{are_branches_finished, has_operands, are_conflicts_finished}
-use Rattle.tomex_timing.specs.Recurrence.{has_unit, has_bus}
+use Rattle.tomex_timing.specs.Needs.{count_of, peak, taken_by, cycles_that, lacks_width, lacks_station, lacks_unit}
+use Rattle.tomex_timing.specs.Needs.{stalls, waits_for, waits_of}
+use Rattle.tomex_timing.specs.Recurrence.{IsLeast, IsTimed, can_end, AreTimed, can_issue_another, are_branches_finished}
+use Rattle.tomex_timing.specs.Recurrence.{has_operands, are_conflicts_finished, has_unit, has_bus}
 use Rattle.tomex_timing.specs.Station.{has_station, is_held}
 use Rattle.tomex_timing.proofs.Holders.{number_low, stations_held}
 use Rattle.tomex_timing.proofs.Orders.{result_end}

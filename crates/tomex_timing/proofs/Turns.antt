@@ -1,6 +1,6 @@
 -- The turns of the evaluator's loops: what is held before a step of a run, and after it.
 use Rattle.std.proofs.Common.{ℕ, ◌+◌, ◌*◌, ◌^◌, ◌<◌, ◌≤◌, ◌≡◌, ◌∙◌, arith, List, [], ◌∷◌, ◌++◌, Option, Some, None, ap}
-use Rattle.std.proofs.Common.{refl, sym, length, map, take, zero, suc}
+use Rattle.std.proofs.Common.{refl, length, map, take, zero, suc}
 use Rattle.std.specs.Prelude.{nat_le, slice_index_or, IfSome, MatchOption, ◌==◌}
 use Rattle.std.proofs.lemmas.Bool.{and_parts, ltb-true}
 use Rattle.std.proofs.lemmas.List.{length-map, length-take-le, map-append, take_more}
@@ -22,7 +22,7 @@ use Rattle.tomex_timing.specs.Ahead.{CanKeep, Held, IsHeldAfter, IsIdle, IsNextB
 use Rattle.tomex_timing.specs.Ahead.{TakesStation, end_in}
 use Rattle.tomex_timing.specs.History.{last_issue, greatest_end}
 use Rattle.tomex_timing.specs.Laws.{InReach}
-use Rattle.tomex_timing.specs.Needs.{AreNeeds, waits_in, waits_of}
+use Rattle.tomex_timing.specs.Needs.{AreNeeds, waits_in}
 use Rattle.tomex_timing.specs.Recurrence.{IsTimed}
 use Rattle.tomex_timing.specs.Search.{times_of, history, times_in}
 use Rattle.tomex_timing.specs.Waiting.{AreWithin, IsWithin, needs_after, taken_from, waits_by}
@@ -170,7 +170,8 @@ module _ {config : Configuration} {steps : List Step} {i : ℕ} {x : Step} {f : 
   longer : history config (take (i + 1) steps) ≡ record { step = x; at = next.at } ∷ history config (take i steps)
   longer = rw (one_more, same_times) (history_more config (take i steps) x)
 
-  pub held_turn : {after : Held} → IsHeldAfter f next.at held after → IsShown (history config (take (i + 1) steps)) after
+  pub held_turn : {after : Held} → IsHeldAfter f next.at held after
+      → IsShown (history config (take (i + 1) steps)) after
   held_turn is_after = rw longer (shown_turn comes (rw turn.step.facts at is_after))
 
   pub times_turn : times_in config (take (i + 1) steps) ≡ times_in config (take i steps) ++ (next.at ∷ [])

@@ -1,7 +1,7 @@
 -- What is taken of one line leaves the others as they were: the unit's line is not the buses'.
-use Rattle.std.proofs.Common.{ℕ, ◌+◌, ◌≤◌, ◌≡◌, ◌∙◌, Bool, true, false, arith, refl, sym, ap, inl, inr, Option, Some}
+use Rattle.std.proofs.Common.{ℕ, ◌+◌, ◌≤◌, ◌≡◌, ◌∙◌, Bool, true, false, arith, refl, ap, Option, Some}
 use Rattle.std.proofs.Common.{None, ◌==◌, ◌&&◌, if◌then◌else◌}
-use Rattle.std.proofs.lemmas.Bool.{cases_Bool, eq-eqb, eqb-true, ne_eqb}
+use Rattle.std.proofs.lemmas.Bool.{ne_eqb}
 use Rattle.tomex_rvdec.specs.declared.pool.UnitId.{UnitId}
 use Rattle.std.proofs.lemmas.Bool.Decides.{nat_tests}
 use Rattle.tomex_config.specs.Configuration.{Configuration}
@@ -18,8 +18,7 @@ eqb_turned : (a b : ℕ) → (a == b) ≡ (b == a)
 eqb_turned a b = grind (arith, nat_tests)
 
 one_more : (b : Bool) (n : ℕ) → (if b then n + 1 else n) ≡ n + one b
-one_more true n = refl
-one_more false n = omega arith
+one_more b n = grind (arith, nat_tests)
 
 -- a unit that is taken leaves the buses
 buses_stay : (before after : Reserved) (unit : UnitId) (cycle t : ℕ)
