@@ -131,9 +131,6 @@ module _ (rows : List FrontRow) where
 
 -- the order by cost, then number
 
-never_both : (a b : FrontRow) → ComesBefore a b → ComesBefore b a → ⊥
-never_both a b h k = grind (arith, nat_tests)
-
 put_moves : (r : FrontRow) (qs : List FrontRow) → IsPermutation (r ∷ qs) (put r qs)
 put_moves r [] = IsPermutation-refl (r ∷ [])
 put_moves r (q ∷ qs) =
@@ -175,13 +172,13 @@ rises_ordered (r ∷ rs) apart = rises_put r (ordered rs) (rises_ordered rs apar
 same_head : (x y : FrontRow) (xs ys : List FrontRow) → AllOf (ComesBefore x) xs → AllOf (ComesBefore y) ys
     → Has (y ∷ ys) x → Has (x ∷ xs) y → y ≡ x
 same_head x y xs ys ux uy h k =
-    grind (arith, never_both x y, all_has (ComesBefore x) xs y ux, all_has (ComesBefore y) ys x uy)
+    grind (arith, nat_tests, all_has (ComesBefore x) xs y ux, all_has (ComesBefore y) ys x uy)
 
 same_tail : (x : FrontRow) (xs ys : List FrontRow) → AllOf (ComesBefore x) xs
     → ((r : FrontRow) → Has (x ∷ xs) r → Has (x ∷ ys) r) → (r : FrontRow) → Has xs r → Has ys r
 same_tail x xs ys up f r h = ⊎_elim
     (λ (i : x ≡ r). let b = subst (ComesBefore x) (sym i) (all_has (ComesBefore x) xs r up h) in
-    absurd (never_both x x b b)) (λ (t : Has ys r). t) (f r (inr h))
+    absurd (grind (arith, nat_tests))) (λ (t : Has ys r). t) (f r (inr h))
 
 same_rows : (xs ys : List FrontRow) → Rises ComesBefore xs → Rises ComesBefore ys
     → ((r : FrontRow) → Has xs r → Has ys r) → ((r : FrontRow) → Has ys r → Has xs r) → xs ≡ ys

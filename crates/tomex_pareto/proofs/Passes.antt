@@ -1,9 +1,9 @@
 -- One pass over rows that are sorted by cost, cycles and number keeps their front.
-use Rattle.std.proofs.Common.{◌≡◌, ◌≢◌, ◌∙◌, ap, arith, refl, sym, List, [], ◌∷◌, Bool, true, false}
-use Rattle.std.proofs.Common.{cond, not, ◌||◌, ◌==◌, get_or, Option, Some, None}
+use Rattle.std.proofs.Common.{◌≡◌, ◌≢◌, ◌∙◌, arith, refl, List, [], ◌∷◌, Bool, true, false}
+use Rattle.std.proofs.Common.{inl, inr, cond, not, ◌||◌, ◌==◌, get_or, Option, Some, None}
 use Rattle.std.specs.List.{AllPairs, filter}
 use Rattle.std.specs.List.Sorted.{IsPermutation}
-use Rattle.std.proofs.lemmas.Bool.{cond-true, cond-false, cond_both, false_from_ne_true, false≢true, or_left}
+use Rattle.std.proofs.lemmas.Bool.{cases_Bool, false_from_ne_true}
 use Rattle.std.proofs.lemmas.Bool.Decides.{nat_tests}
 use Rattle.std.proofs.lemmas.List.Elements.{filter_agree}
 use Rattle.std.proofs.lemmas.List.Kept.{AllPairs-filter}
@@ -50,25 +50,24 @@ none_beats r rs after = (
 passing_some : (b : FrontRow) (rs : List FrontRow) → Rises IsFollowed (b ∷ rs)
     → passing (Some b) rs ≡ filter (is_undominated (b ∷ rs)) rs
 passing_some b [] up = refl
-passing_some b (r ∷ rs) up =
-    let test = is_undominated (b ∷ r ∷ rs) in
-    let rest = filter test rs in
-    cond_both (stays_after (Some b) r) (r ∷ passing (Some r) rs) (passing (Some b) rs)
-    (λ l. l ≡ cond (test r) (r ∷ rest) rest)
-    (λ e. ap (λ (l : List FrontRow). r ∷ l) (passing_some r rs up.1
-    ∙ filter_same (is_undominated (r ∷ rs)) test rs (all_from _ rs (λ s h. let f = all_has (IsFollowed r) rs s up.1.0 h in
-    absorbed_first (dominates b s) (dominates r s) _ (λ v. grind (arith, nat_tests)))))
-    ∙ sym (cond-true (test r) (r ∷ rest) rest
-    (undominated (b ∷ r ∷ rs) r (grind (arith, nat_tests), none_beats r rs up.1.0))))
-    (λ e. let f : IsFollowed b r = up.0.0 in let v : dominates b r ≡ true = grind (arith, nat_tests) in
-    passing_some b rs (up.0.1, up.1.1) ∙ (filter_agree (is_undominated (b ∷ rs)) test
-    (λ s. absorbed_next (dominates b s) (dominates r s) _ (λ w. grind (arith, nat_tests))) rs
-    ∙ sym (cond-false (test r) (r ∷ rest) rest (ap not (or_left (dominates b r) _ v)))))
+passing_some b (r ∷ rs) up = elim (cases_Bool (stays_after (Some b) r)) [
+  | inl e ↦
+      let free = undominated (b ∷ r ∷ rs) r (grind (arith, nat_tests), none_beats r rs up.1.0) in
+      let same = filter_same (is_undominated (r ∷ rs)) (is_undominated (b ∷ r ∷ rs)) rs (all_from _ rs (λ s h.
+      let f = all_has (IsFollowed r) rs s up.1.0 h in
+      absorbed_first (dominates b s) (dominates r s) _ (λ v. grind (arith, nat_tests)))) in
+      rw (e, free, passing_some r rs up.1, same) refl
+  | inr e ↦
+      let f : IsFollowed b r = up.0.0 in
+      let v : dominates b r ≡ true = grind (arith, nat_tests) in
+      let same = filter_agree (is_undominated (b ∷ rs)) (is_undominated (b ∷ r ∷ rs))
+      (λ s. absorbed_next (dominates b s) (dominates r s) _ (λ w. grind (arith, nat_tests))) rs in
+      rw (e, v, passing_some b rs (up.0.1, up.1.1), same) refl
+]
 
 passing_all : (rows : List FrontRow) → Rises IsFollowed rows → passing None rows ≡ kept rows
 passing_all [] up = refl
-passing_all (r ∷ rs) up = ap (λ (l : List FrontRow). r ∷ l) (passing_some r rs up)
-    ∙ sym (cond-true (is_undominated (r ∷ rs) r) _ _ (undominated (r ∷ rs) r (none_beats r rs up.0)))
+passing_all (r ∷ rs) up = rw (undominated (r ∷ rs) r (none_beats r rs up.0), passing_some r rs up) refl
 
 kept_rises : (rows : List FrontRow) → Rises IsFollowed rows → Rises ComesBefore (kept rows)
 kept_rises rows up = pairs_rise ComesBefore (kept rows) (λ j k d l m.
