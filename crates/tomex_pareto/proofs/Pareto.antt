@@ -147,14 +147,9 @@ rises_put : (r : FrontRow) (qs : List FrontRow) → Rises ComesBefore qs → All
     → Rises ComesBefore (put r qs)
 rises_put r [] up apart = (tt, tt)
 rises_put r (q ∷ qs) up apart = elim (cases_Bool (comes_before r q)) [
-  | inl e ↦ rw e (
-    (
-      e,
-      all_from (ComesBefore r) qs (λ s h. let k = all_has (ComesBefore q) qs s up.0 h in
-          grind (arith, nat_tests)),
-    ),
-    up,
-  )
+  | inl e ↦
+      let rest = all_from (ComesBefore r) qs (λ s h. grind (arith, nat_tests, all_has (ComesBefore q) qs s up.0 h)) in
+      rw e ((e, rest), up)
   | inr e ↦
       let moved = all_moved (ComesBefore q) (r ∷ qs) (put r qs) (put_moves r qs) (grind (arith, nat_tests), up.0) in
       rw e (moved, rises_put r qs up.1 apart.1)

@@ -40,7 +40,9 @@ filter_same p q (r ∷ rs) same = rw (same.0, filter_same p q rs same.1)
 
 none_beats : (r : FrontRow) (rs : List FrontRow) → AllOf (IsFollowed r) rs → AllOf (λ q. dominates q r ≡ false) (r ∷ rs)
 none_beats r rs after =
-    (grind (arith, nat_tests), all_from _ rs (λ q h. grind (arith, nat_tests, all_has (IsFollowed r) rs q after h)))
+    let rest = all_from (λ q. dominates q r ≡ false) rs
+    (λ q h. grind (arith, nat_tests, all_has (IsFollowed r) rs q after h)) in
+    (grind (arith, nat_tests), rest)
 
 -- the rows that stay are the undominated ones
 
