@@ -110,6 +110,4 @@ front_within costs cycles k d l =
     let rows = rows_from 0 costs cycles in
     let o = (front_is rows (rows_apart 0 costs cycles)).only _ (has_at (front_of rows) k d l) in
     let w = row_at 0 costs cycles _ o.0 in
-    let n = w.number in
-    let m = w.within in
-    omega arith
+    omega (arith, w.number, w.within)

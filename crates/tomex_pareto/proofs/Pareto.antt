@@ -3,7 +3,7 @@ use Rattle.std.proofs.Common.{◌≡◌, ◌≢◌, ℕ, zero, suc, ◌<◌, ◌
 use Rattle.std.proofs.Common.{List, [], ◌∷◌, length, Bool, true, false, not, get_or, ◌==◌}
 use Rattle.std.specs.List.{filter, AllByRecursion, AllPairs, Contains, IsDistinct}
 use Rattle.std.specs.List.Sorted.{IsPermutation}
-use Rattle.std.proofs.lemmas.Bool.{both_ways, cond_both, eq-eqb, false_from_ne_true, ne_eqb, not-true}
+use Rattle.std.proofs.lemmas.Bool.{both_ways, cases_Bool, eq-eqb, false_from_ne_true, ne_eqb, not-true}
 use Rattle.std.proofs.lemmas.Bool.Decides.{nat_tests}
 use Rattle.std.proofs.lemmas.List.Elements.{All-contains, All-filter, All-from_recursion, filter_passes}
 use Rattle.std.proofs.lemmas.List.Elements.{recursion_from_All}
@@ -98,10 +98,9 @@ IsFree rows r = (q : FrontRow) → Has rows q → Dominates q r → ⊥
 
 filter_has : (p : FrontRow → Bool) (xs : List FrontRow) (r : FrontRow) → Has xs r → p r ≡ true → Has (filter p xs) r
 filter_has p [] r h t = h
-filter_has p (x ∷ xs) r (inl i) t = cond_both (p x) (x ∷ filter p xs) (filter p xs) (λ l. Has l r) (λ e. inl i)
-    (λ e. absurd (both_ways (p x) e (ap p i ∙ t)))
+filter_has p (x ∷ xs) r (inl i) t = rw (ap p i ∙ t) (inl i)
 filter_has p (x ∷ xs) r (inr h) t = let k = filter_has p xs r h t in
-    cond_both (p x) (x ∷ filter p xs) (filter p xs) (λ l. Has l r) (λ e. inr k) (λ e. k)
+    elim (cases_Bool (p x)) [ inl e ↦ rw e (inr k) | inr e ↦ rw e k ]
 
 pub undominated : (rows : List FrontRow) (r : FrontRow) → AllOf (λ q. dominates q r ≡ false) rows
     → is_undominated rows r ≡ true
@@ -131,22 +130,13 @@ module _ (rows : List FrontRow) where
 
 -- the order by cost, then number
 
-before_chain : (a b c : FrontRow) → ComesBefore a b → ComesBefore b c → ComesBefore a c
-before_chain a b c h k = grind (arith, nat_tests)
-
-never_both : (a b : FrontRow) → ComesBefore a b → ComesBefore b a → ⊥
-never_both a b h k = grind (arith, nat_tests)
-
-before_or_after : (a b : FrontRow) → comes_before a b ≡ false → a.row ≢ b.row → ComesBefore b a
-before_or_after a b e f = grind (arith, nat_tests)
-
 put_moves : (r : FrontRow) (qs : List FrontRow) → IsPermutation (r ∷ qs) (put r qs)
 put_moves r [] = IsPermutation-refl (r ∷ [])
-put_moves r (q ∷ qs) =
-    cond_both (comes_before r q) (r ∷ q ∷ qs) (q ∷ put r qs) (IsPermutation (r ∷ q ∷ qs))
-    (λ e. IsPermutation-refl (r ∷ q ∷ qs))
-    (λ e. IsPermutation-trans (r ∷ q ∷ qs) (q ∷ r ∷ qs) (q ∷ put r qs) (IsPermutation-middle (r ∷ []) q qs)
-    (IsPermutation-cons q (r ∷ qs) (put r qs) (put_moves r qs)))
+put_moves r (q ∷ qs) = elim (cases_Bool (comes_before r q)) [
+  | inl e ↦ rw e (IsPermutation-refl (r ∷ q ∷ qs))
+  | inr e ↦ rw e (IsPermutation-trans (r ∷ q ∷ qs) (q ∷ r ∷ qs) (q ∷ put r qs)
+      (IsPermutation-middle (r ∷ []) q qs) (IsPermutation-cons q (r ∷ qs) (put r qs) (put_moves r qs)))
+]
 
 ordered_moves : (rs : List FrontRow) → IsPermutation rs (ordered rs)
 ordered_moves [] = IsPermutation-refl []
@@ -156,13 +146,14 @@ ordered_moves (r ∷ rs) = IsPermutation-trans (r ∷ rs) (r ∷ ordered rs) (or
 rises_put : (r : FrontRow) (qs : List FrontRow) → Rises ComesBefore qs → AllOf (λ q. r.row ≢ q.row) qs
     → Rises ComesBefore (put r qs)
 rises_put r [] up apart = (tt, tt)
-rises_put r (q ∷ qs) up apart =
-    cond_both (comes_before r q) (r ∷ q ∷ qs) (q ∷ put r qs) (Rises ComesBefore)
-    (λ e. ((e, all_from (ComesBefore r) qs (λ s h. before_chain r q s e (all_has (ComesBefore q) qs s up.0 h))), up))
-    (λ e. (
-      all_moved (ComesBefore q) (r ∷ qs) (put r qs) (put_moves r qs) (before_or_after r q e apart.0, up.0),
-      rises_put r qs up.1 apart.1,
-    ))
+rises_put r (q ∷ qs) up apart = elim (cases_Bool (comes_before r q)) [
+  | inl e ↦
+      let rest = all_from (ComesBefore r) qs (λ s h. grind (arith, nat_tests, all_has (ComesBefore q) qs s up.0 h)) in
+      rw e ((e, rest), up)
+  | inr e ↦
+      let moved = all_moved (ComesBefore q) (r ∷ qs) (put r qs) (put_moves r qs) (grind (arith, nat_tests), up.0) in
+      rw e (moved, rises_put r qs up.1 apart.1)
+]
 
 rises_ordered : (rs : List FrontRow) → AreApart rs → Rises ComesBefore (ordered rs)
 rises_ordered [] apart = tt
@@ -174,13 +165,13 @@ rises_ordered (r ∷ rs) apart = rises_put r (ordered rs) (rises_ordered rs apar
 same_head : (x y : FrontRow) (xs ys : List FrontRow) → AllOf (ComesBefore x) xs → AllOf (ComesBefore y) ys
     → Has (y ∷ ys) x → Has (x ∷ xs) y → y ≡ x
 same_head x y xs ys ux uy h k =
-    grind (arith, never_both x y, all_has (ComesBefore x) xs y ux, all_has (ComesBefore y) ys x uy)
+    grind (arith, nat_tests, all_has (ComesBefore x) xs y ux, all_has (ComesBefore y) ys x uy)
 
 same_tail : (x : FrontRow) (xs ys : List FrontRow) → AllOf (ComesBefore x) xs
     → ((r : FrontRow) → Has (x ∷ xs) r → Has (x ∷ ys) r) → (r : FrontRow) → Has xs r → Has ys r
 same_tail x xs ys up f r h = ⊎_elim
     (λ (i : x ≡ r). let b = subst (ComesBefore x) (sym i) (all_has (ComesBefore x) xs r up h) in
-    absurd (never_both x x b b)) (λ (t : Has ys r). t) (f r (inr h))
+    absurd (grind (arith, nat_tests))) (λ (t : Has ys r). t) (f r (inr h))
 
 same_rows : (xs ys : List FrontRow) → Rises ComesBefore xs → Rises ComesBefore ys
     → ((r : FrontRow) → Has xs r → Has ys r) → ((r : FrontRow) → Has ys r → Has xs r) → xs ≡ ys
@@ -189,11 +180,9 @@ same_rows [] (y ∷ ys) ux uy f g = absurd (g y (inl refl))
 same_rows (x ∷ xs) [] ux uy f g = absurd (f x (inl refl))
 same_rows (x ∷ xs) (y ∷ ys) ux uy f g =
     let e : y ≡ x = same_head x y xs ys ux.0 uy.0 (f x (inl refl)) (g y (inl refl)) in
-    ap (λ (zs : List FrontRow). x ∷ zs) (same_rows xs ys ux.1 uy.1
-    (same_tail x xs ys ux.0 (λ r h. subst (λ (z : FrontRow). Has (z ∷ ys) r) e (f r h)))
-    (same_tail x ys xs (subst (λ (z : FrontRow). AllOf (ComesBefore z) ys) e uy.0)
-    (λ r h. g r (subst (λ (z : FrontRow). Has (z ∷ ys) r) (sym e) h))))
-    ∙ ap (λ (z : FrontRow). z ∷ ys) (sym e)
+    let same : xs ≡ ys = same_rows xs ys ux.1 uy.1 (same_tail x xs ys ux.0 (λ r h. rw e at (f r h)))
+    (same_tail x ys xs (rw e at uy.0) (λ r h. g r (rw e h))) in
+    rw (e, same) refl
 
 -- a front of these rows, by recursion
 pub record IsSortedFront (rows front : List FrontRow) : Type 0 where

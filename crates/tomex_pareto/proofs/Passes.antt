@@ -1,9 +1,9 @@
 -- One pass over rows that are sorted by cost, cycles and number keeps their front.
-use Rattle.std.proofs.Common.{◌≡◌, ◌≢◌, ◌∙◌, ap, arith, refl, sym, List, [], ◌∷◌, Bool, true, false}
-use Rattle.std.proofs.Common.{cond, not, ◌||◌, ◌==◌, get_or, Option, Some, None}
+use Rattle.std.proofs.Common.{◌≡◌, ◌≢◌, ◌∙◌, arith, refl, List, [], ◌∷◌, Bool, true, false}
+use Rattle.std.proofs.Common.{inl, inr, cond, not, ◌||◌, ◌==◌, get_or, Option, Some, None}
 use Rattle.std.specs.List.{AllPairs, filter}
 use Rattle.std.specs.List.Sorted.{IsPermutation}
-use Rattle.std.proofs.lemmas.Bool.{cond-true, cond-false, cond_both, false_from_ne_true, false≢true, or_left}
+use Rattle.std.proofs.lemmas.Bool.{cases_Bool, false_from_ne_true}
 use Rattle.std.proofs.lemmas.Bool.Decides.{nat_tests}
 use Rattle.std.proofs.lemmas.List.Elements.{filter_agree}
 use Rattle.std.proofs.lemmas.List.Kept.{AllPairs-filter}
@@ -25,40 +25,13 @@ passing last (r ∷ rs) = cond (stays_after last r) (r ∷ passing (Some r) rs) 
 abbrev pub IsFollowed : FrontRow → FrontRow → Type 0
 IsFollowed a b = IsUpTo a b × (a.row ≢ b.row)
 
--- a row b, a row r after it, and a row s after both: their costs, cycles and numbers
-
-never_beats : (b r : FrontRow) → IsFollowed b r → dominates r b ≡ false
-never_beats b r f = grind (arith, nat_tests)
-
-never_itself : (r : FrontRow) → dominates r r ≡ false
-never_itself r = grind (arith, nat_tests)
-
-left_beaten : (b r : FrontRow) → IsFollowed b r → stays_after (Some b) r ≡ false → dominates b r ≡ true
-left_beaten b r f e = grind (arith, nat_tests)
-
-left_beats : (b r s : FrontRow) → dominates b r ≡ true → dominates r s ≡ true → dominates b s ≡ true
-left_beats b r s v w = grind (arith, nat_tests)
-
-kept_free : (b r : FrontRow) → stays_after (Some b) r ≡ true → dominates b r ≡ false
-kept_free b r e = grind (arith, nat_tests)
-
-kept_beats : (b r s : FrontRow) → stays_after (Some b) r ≡ true → IsFollowed r s → dominates b s ≡ true
-    → dominates r s ≡ true
-kept_beats b r s e f w = grind (arith, nat_tests)
-
-free_before : (b r : FrontRow) → IsFollowed b r → dominates b r ≡ false → ComesBefore b r
-free_before b r f e = grind (arith, nat_tests)
-
 -- in a chain of tests, one that implies its neighbour adds nothing
 
 absorbed_first : (x y z : Bool) → (x ≡ true → y ≡ true) → not (y || z) ≡ not (x || (y || z))
-absorbed_first false y z f = refl
-absorbed_first true y z f = ap (λ (t : Bool). not (t || z)) (f refl)
+absorbed_first x y z f = grind (arith, nat_tests)
 
 absorbed_next : (x y z : Bool) → (y ≡ true → x ≡ true) → not (x || z) ≡ not (x || (y || z))
-absorbed_next true y z f = refl
-absorbed_next false false z f = refl
-absorbed_next false true z f = absurd (false≢true (f refl))
+absorbed_next x y z f = grind (arith, nat_tests)
 
 filter_same : (p q : FrontRow → Bool) (rows : List FrontRow) → AllOf (λ s. p s ≡ q s) rows
     → filter p rows ≡ filter q rows
@@ -66,40 +39,42 @@ filter_same p q [] same = refl
 filter_same p q (r ∷ rs) same = rw (same.0, filter_same p q rs same.1)
 
 none_beats : (r : FrontRow) (rs : List FrontRow) → AllOf (IsFollowed r) rs → AllOf (λ q. dominates q r ≡ false) (r ∷ rs)
-none_beats r rs after = (never_itself r, all_from _ rs (λ q h. never_beats r q (all_has (IsFollowed r) rs q after h)))
+none_beats r rs after =
+    let rest = all_from (λ q. dominates q r ≡ false) rs
+    (λ q h. grind (arith, nat_tests, all_has (IsFollowed r) rs q after h)) in
+    (grind (arith, nat_tests), rest)
 
 -- the rows that stay are the undominated ones
 
 passing_some : (b : FrontRow) (rs : List FrontRow) → Rises IsFollowed (b ∷ rs)
     → passing (Some b) rs ≡ filter (is_undominated (b ∷ rs)) rs
 passing_some b [] up = refl
-passing_some b (r ∷ rs) up =
-    let test = is_undominated (b ∷ r ∷ rs) in
-    let rest = filter test rs in
-    cond_both (stays_after (Some b) r) (r ∷ passing (Some r) rs) (passing (Some b) rs)
-    (λ l. l ≡ cond (test r) (r ∷ rest) rest)
-    (λ e. ap (λ (l : List FrontRow). r ∷ l) (passing_some r rs up.1
-    ∙ filter_same (is_undominated (r ∷ rs)) test rs (all_from _ rs (λ s h. absorbed_first (dominates b s) _ _
-    (kept_beats b r s e (all_has (IsFollowed r) rs s up.1.0 h)))))
-    ∙ sym (cond-true (test r) (r ∷ rest) rest
-    (undominated (b ∷ r ∷ rs) r (kept_free b r e, none_beats r rs up.1.0))))
-    (λ e. let v = left_beaten b r up.0.0 e in
-    passing_some b rs (up.0.1, up.1.1)
-    ∙ (filter_agree (is_undominated (b ∷ rs)) test (λ s. absorbed_next (dominates b s) _ _ (left_beats b r s v)) rs
-    ∙ sym (cond-false (test r) (r ∷ rest) rest (ap not (or_left (dominates b r) _ v)))))
+passing_some b (r ∷ rs) up = elim (cases_Bool (stays_after (Some b) r)) [
+  | inl e ↦
+      let free = undominated (b ∷ r ∷ rs) r (grind (arith, nat_tests), none_beats r rs up.1.0) in
+      let same = filter_same (is_undominated (r ∷ rs)) (is_undominated (b ∷ r ∷ rs)) rs (all_from _ rs (λ s h.
+      let f = all_has (IsFollowed r) rs s up.1.0 h in
+      absorbed_first (dominates b s) (dominates r s) _ (λ v. grind (arith, nat_tests)))) in
+      rw (e, free, passing_some r rs up.1, same) refl
+  | inr e ↦
+      let f : IsFollowed b r = up.0.0 in
+      let v : dominates b r ≡ true = grind (arith, nat_tests) in
+      let same = filter_agree (is_undominated (b ∷ rs)) (is_undominated (b ∷ r ∷ rs))
+      (λ s. absorbed_next (dominates b s) (dominates r s) _ (λ w. grind (arith, nat_tests))) rs in
+      rw (e, v, passing_some b rs (up.0.1, up.1.1), same) refl
+]
 
 passing_all : (rows : List FrontRow) → Rises IsFollowed rows → passing None rows ≡ kept rows
 passing_all [] up = refl
-passing_all (r ∷ rs) up = ap (λ (l : List FrontRow). r ∷ l) (passing_some r rs up)
-    ∙ sym (cond-true (is_undominated (r ∷ rs) r) _ _ (undominated (r ∷ rs) r (none_beats r rs up.0)))
+passing_all (r ∷ rs) up = rw (undominated (r ∷ rs) r (none_beats r rs up.0), passing_some r rs up) refl
 
 kept_rises : (rows : List FrontRow) → Rises IsFollowed rows → Rises ComesBefore (kept rows)
 kept_rises rows up = pairs_rise ComesBefore (kept rows) (λ j k d l m.
     let one = kept_only rows (get_or (kept rows) j d) (has_at (kept rows) j d (omega arith)) in
     let other = kept_only rows (get_or (kept rows) k d) (has_at (kept rows) k d m) in
-    free_before (get_or (kept rows) j d) (get_or (kept rows) k d)
-    (AllPairs-filter IsFollowed (is_undominated rows) rows (rises_pairs IsFollowed rows up) j k d l m)
-    (false_from_ne_true _ (λ e. other.1 (get_or (kept rows) j d) one.0 (beats _ _ e))))
+    let f = AllPairs-filter IsFollowed (is_undominated rows) rows (rises_pairs IsFollowed rows up) j k d l m in
+    let e = false_from_ne_true _ (λ e. other.1 (get_or (kept rows) j d) one.0 (beats _ _ e)) in
+    grind (arith, nat_tests))
 
 -- of sorted rows with different numbers those that stay are the front, in whatever order the rows were
 pub passed : (rows sorted : List FrontRow) → AreNumbered rows → IsPermutation rows sorted → AllPairs IsUpTo sorted

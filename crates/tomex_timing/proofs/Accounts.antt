@@ -1,10 +1,10 @@
 -- The cycles of a run are its waits and its issues; the cycles of its stations are its waits and its operations.
 use Rattle.std.proofs.Common.{ℕ, zero, suc, ◌+◌, ◌-◌, ◌<◌, ◌≤◌, ◌≡◌, Bool, true, false, cond, arith, refl, inl, inr}
-use Rattle.std.proofs.Common.{List, [], ◌∷◌, Option, Some, None, max}
-use Rattle.std.specs.Prelude.{nat_lt, not, ◌&&◌, count_by, is_some}
+use Rattle.std.proofs.Common.{List, [], ◌∷◌, Option, Some, None, max, nat_lt, not, ◌&&◌, count_by, is_some}
 use Rattle.std.specs.Bool.{MatchBool}
 use Rattle.std.specs.List.{range_with_len}
 use Rattle.std.proofs.lemmas.Bool.{cases_Bool, lt-ltb, MatchBool-at_true, MatchBool-at_false}
+use Rattle.std.proofs.lemmas.Bool.Decides.{nat_tests}
 use Rattle.std.proofs.lemmas.List.Sums.{sum_by-cons}
 use Rattle.tomex_rvdec.specs.declared.pool.PoolId.{PoolId}
 use Rattle.tomex_rvdec.specs.declared.pool.PoolId.TheVariants as pools
@@ -19,14 +19,15 @@ use Rattle.tomex_timing.specs.Laws.{IssueCyclesAddUp, StationCyclesAddUp, Statio
 use Rattle.tomex_timing.specs.Laws.{work_by}
 use Rattle.tomex_timing.specs.Needs.{lacks_branch, lacks_width, lacks_station, lacks_operand, lacks_address}
 use Rattle.tomex_timing.specs.Needs.{lacks_memory, lacks_unit, waits_of, pool_stalls, stalls, stalls_by}
-use Rattle.tomex_timing.specs.Recurrence.{IsLeast, IsTimed, AreTimed, can_end, can_start, can_issue_another}
+use Rattle.tomex_timing.specs.Recurrence.{IsLeast, IsTimed, AreTimed, can_end, can_issue_another}
 use Rattle.tomex_timing.specs.Recurrence.{are_branches_finished, has_operands, are_conflicts_finished}
 use Rattle.tomex_timing.proofs.Bands.{none_of, none_pass}
-use Rattle.tomex_timing.proofs.Bound.{end_low, issue_low, start_low, timed_by}
+use Rattle.tomex_timing.proofs.Bound.{end_low, issue_low, timed_by}
 use Rattle.tomex_timing.proofs.Limits.{latency_low}
 use Rattle.tomex_timing.proofs.Settled.{last_issue_by}
 use Rattle.tomex_timing.proofs.Width.{issue_from}
 use Rattle.tomex_timing.proofs.Stations.{one}
+use Rattle.tomex_timing.proofs.Tests.{IsAtOnce, IsOperation, at_once, operation}
 
 -- tests of which each cycle passes one count all of them
 four_ways : (p q r s : ℕ → Bool) (n a : ℕ) → ((t : ℕ) → one (p t) + one (q t) + one (r t) + one (s t) ≡ 1)
@@ -36,11 +37,7 @@ four_ways p q r s zero a each = refl
 four_ways p q r s (suc n) a each =
     let k = four_ways p q r s n (a + 1) each in
     let h : one (p a) + one (q a) + one (r a) + one (s a) ≡ 1 = each a in
-    let x = sum_by-cons (λ x. one (p x)) a (range_with_len (a + 1) n) in
-    let y = sum_by-cons (λ x. one (q x)) a (range_with_len (a + 1) n) in
-    let z = sum_by-cons (λ x. one (r x)) a (range_with_len (a + 1) n) in
-    let w = sum_by-cons (λ x. one (s x)) a (range_with_len (a + 1) n) in
-    omega arith
+    rw (sum_by-cons, sum_by-cons, sum_by-cons, sum_by-cons) (omega arith)
 
 three_ways : (p q r : ℕ → Bool) (n a : ℕ) → ((t : ℕ) → one (p t) + one (q t) + one (r t) ≡ 1)
     → count_by p (range_with_len a n) + count_by q (range_with_len a n) + count_by r (range_with_len a n) ≡ n
@@ -54,9 +51,7 @@ three_ways p q r n a each =
     none_of_all (suc n) a = rw (sum_by-cons, none_of_all n (a + 1)) refl
 
 issue_ways : (b w : Bool) → one (not b) + one (b && not w) + one (b && w) ≡ 1
-issue_ways true true = refl
-issue_ways true false = refl
-issue_ways false w = refl
+issue_ways b w = grind (arith, nat_tests)
 
 -- the waits of one issue
 issue_account : (config : Configuration) (older : List Done) (d : Done) → (waits_of config older d).branch
@@ -74,9 +69,7 @@ no_station_wait config older d none is =
     (rw (none, lt-ltb 0 t (omega arith)) at (is.issue.1 t m)))
   where
     last_alone : (b w : Bool) → (((true && w) && b) && true) ≡ false → (b && w) ≡ false
-    last_alone true true h = h
-    last_alone true false h = refl
-    last_alone false w h = refl
+    last_alone b w h = grind (arith, nat_tests)
 
 abbrev in_pools : Option PoolId → ℕ → ℕ
 in_pools x n = cond (is_in pools.Alu x) n 0 + cond (is_in pools.Mul x) n 0 + cond (is_in pools.Div x) n 0
@@ -122,10 +115,7 @@ issue_cycles config d older good timed =
 -- one operation
 
 start_ways : (o a m : Bool) → one (not o) + one (o && not a) + one ((o && a) && not m) + one ((o && a) && m) ≡ 1
-start_ways true true true = refl
-start_ways true true false = refl
-start_ways true false m = refl
-start_ways false a m = refl
+start_ways o a m = grind (arith, nat_tests)
 
 start_account : (config : Configuration) (older : List Done) (d : Done) → (waits_of config older d).operand
     + (waits_of config older d).address + (waits_of config older d).memory
@@ -154,8 +144,7 @@ end_account : (config : Configuration) (older : List Done) (d : Done)
 end_account config older d is = elim (cases_Bool (is_some (step_dest d.step))) [
   | inl e ↦
       let least : IsLeast (can_end config older d.at.finish) d.at.end = MatchBool-at_true _ _ e is in
-      let low : d.at.finish < d.at.end = end_low config older d.at.finish d.at.end least.0 in
-      rw e (omega arith)
+      rw e (omega (arith, end_low config older d.at.finish d.at.end least.0))
   | inr e ↦ let same : d.at.end ≡ d.at.finish =
       MatchBool-at_false (IsLeast (can_end config older d.at.finish) d.at.end) _ e is in rw e (omega arith)
 ]
@@ -167,22 +156,14 @@ operation_account : (config : Configuration) (older : List Done) (d : Done) (uni
     + in_units unit (waits_of config older d).unit + (waits_of config older d).bus
     + work_by config unit (is_some (step_dest d.step))
 operation_account config older d None good e is =
-    let s : d.at.start ≡ d.at.issue = rw e at is.start in
-    let f : d.at.finish ≡ d.at.issue = rw e at is.finish in
-    let n : d.at.end ≡ d.at.issue = rw e at is.end in
+    let at : IsAtOnce d.at = at_once e is in
     let a = start_account config older d in
     omega arith
 operation_account config older d (Some u) good e is =
-    let s : IsLeast (can_start config older d.step u d.at.issue (cycle_of d.at.address)) d.at.start =
-    rw e at is.start in
-    let low : d.at.issue < d.at.start =
-    (start_low config older d.step u d.at.issue (cycle_of d.at.address) d.at.start s.0).0 in
-    let f : d.at.finish ≡ d.at.start + (option_of config u).latency - 1 = rw e at is.finish in
-    let n : MatchBool (is_some (step_dest d.step)) (IsLeast (can_end config older d.at.finish) d.at.end)
-    (d.at.end ≡ d.at.finish) = rw e at is.end in
+    let at : IsOperation config older d.step u d.at = operation e is in
     let pos : 0 < (option_of config u).latency = latency_low config u good in
     let a = start_account config older d in
-    let b = end_account config older d n in
+    let b = end_account config older d at.end in
     let k = in_one_unit u (waits_of config older d).unit in
     omega arith
 
@@ -206,9 +187,8 @@ station_stalls config (d ∷ older) timed =
 unit_account : (config : Configuration) (older : List Done) (d : Done) (unit : Option UnitId) → step_unit d.step ≡ unit
     → IsTimed config older d.step d.at → in_units unit (waits_of config older d).unit ≡ (waits_of config older d).unit
 unit_account config older d None e is =
-    let s : d.at.start ≡ d.at.issue = rw e at is.start in
-    let n : (waits_of config older d).unit ≡ 0 =
-    none_of (lacks_unit older d) (d.at.issue + 1) d.at.start (omega arith) in
+    let at : IsAtOnce d.at = at_once e is in
+    let n = none_of (lacks_unit older d) (d.at.issue + 1) d.at.start (omega arith) in
     omega arith
 unit_account config older d (Some u) e is = in_one_unit u (waits_of config older d).unit
 

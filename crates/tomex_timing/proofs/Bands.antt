@@ -2,7 +2,8 @@
 use Rattle.std.proofs.Common.{ℕ, zero, suc, ◌+◌, ◌-◌, ◌<◌, ◌≤◌, ◌≡◌, ◌∙◌, Bool, false, arith, refl, inl, inr, max, min}
 use Rattle.std.specs.Prelude.{nat_le, not, ◌&&◌, count_by}
 use Rattle.std.specs.List.{range_with_len}
-use Rattle.std.proofs.lemmas.Bool.{cases_Bool, cases_lt, le-leb, leb-true, leb-false}
+use Rattle.std.proofs.lemmas.Bool.{cases_lt, le-leb}
+use Rattle.std.proofs.lemmas.Bool.Decides.{nat_tests}
 use Rattle.std.proofs.lemmas.List.Sums.{sum_by-cons}
 use Rattle.tomex_timing.specs.Needs.{cycles_that}
 use Rattle.tomex_timing.proofs.Stations.{one}
@@ -11,13 +12,7 @@ abbrev pub is_in_band : ℕ → ℕ → ℕ → Bool
 is_in_band a b t = nat_le a t && not (nat_le b t)
 
 one_step : (a b t n : ℕ) → one (is_in_band a b t) + (min b (t + 1 + n) - max a (t + 1)) ≡ min b (t + suc n) - max a t
-one_step a b t n = elim (cases_Bool (nat_le a t)) [
-  | inl e ↦ let l : a ≤ t = leb-true a t e in elim (cases_Bool (nat_le b t)) [
-    | inl f ↦ let m : b ≤ t = leb-true b t f in rw (e, f) (omega arith)
-    | inr f ↦ let m : t < b = leb-false b t f in rw (e, f) (omega arith)
-  ]
-  | inr e ↦ let l : t < a = leb-false a t e in rw e (omega arith)
-]
+one_step a b t n = grind (arith, nat_tests)
 
 -- a test that passes just in a band counts its length
 band_count : (p : ℕ → Bool) (a b n t : ℕ) → ((s : ℕ) → t ≤ s → s < t + n → p s ≡ is_in_band a b s)

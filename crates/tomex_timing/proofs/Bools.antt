@@ -1,19 +1,10 @@
--- Truth tables.
-use Rattle.std.proofs.Common.{◌≡◌, Bool, true, false, refl}
-use Rattle.std.specs.Prelude.{not, ◌&&◌}
+-- Tests by parts.
+use Rattle.std.proofs.Common.{◌≡◌, Bool, true, false, refl, sym, not, ◌&&◌}
+use Rattle.std.proofs.Math.Bool.{and-true}
+pub use Rattle.std.proofs.Math.Bool.{and_assoc, and_comm as and_swap}
 
 pub and_true : (x : Bool) → x ≡ (x && true)
-and_true true = refl
-and_true false = refl
-
-pub and_swap : (x y : Bool) → (x && y) ≡ (y && x)
-and_swap true y = and_true y
-and_swap false true = refl
-and_swap false false = refl
-
-pub and_assoc : (x y z : Bool) → ((x && y) && z) ≡ (x && (y && z))
-and_assoc true y z = refl
-and_assoc false y z = refl
+and_true x = sym (and-true x)
 
 pub and_but : (x y : Bool) → (x && not y) ≡ (x && not (x && y))
 and_but true y = refl

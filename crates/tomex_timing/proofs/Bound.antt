@@ -1,9 +1,9 @@
 -- A step's times are at most 67 past the greatest end before it, so n steps take at most 67 * n cycles.
-use Rattle.std.proofs.Common.{ℕ, ◌+◌, ◌*◌, ◌-◌, ◌<◌, ◌≤◌, ◌≡◌, true, false, arith, refl, List, [], ◌∷◌, Option, Some}
-use Rattle.std.proofs.Common.{None, inl, inr, length}
-use Rattle.std.specs.Prelude.{◌||◌, is_some, MatchOption}
+use Rattle.std.proofs.Common.{ℕ, ◌+◌, ◌*◌, ◌<◌, ◌≤◌, ◌≡◌, true, false, arith, refl, List, [], ◌∷◌, Option, Some, None}
+use Rattle.std.proofs.Common.{inl, inr, length, ◌||◌, is_some}
 use Rattle.std.specs.Bool.{MatchBool}
 use Rattle.std.proofs.lemmas.Bool.{cases_Bool, MatchBool-at_true, MatchBool-at_false}
+use Rattle.std.proofs.lemmas.List.Elements.{All-from_recursion, All-weaker, recursion_from_All}
 use Rattle.tomex_rvdec.specs.Operands.{unit_at}
 use Rattle.tomex_rvdec.specs.declared.pool.PoolId.{PoolId}
 use Rattle.tomex_rvdec.specs.declared.pool.PoolId.TheVariants.{Load, Store}
@@ -18,8 +18,10 @@ pub use Rattle.tomex_timing.specs.Laws.{InReach}
 use Rattle.tomex_timing.specs.Recurrence.{IsLeast, IsTimed, AreTimed, can_issue, can_address, can_start, can_end}
 use Rattle.tomex_timing.proofs.Least.{least_le}
 use Rattle.tomex_timing.proofs.Limits.{latency_low, latency_high}
-use Rattle.tomex_timing.proofs.Tests.{can_end_is, can_issue_is, can_start_is}
-use Rattle.tomex_timing.proofs.Settled.{AllBy, can_issue_after, can_address_after, can_start_after, can_end_after}
+use Rattle.tomex_timing.proofs.Tests.{IsAtOnce, IsOperation, at_once, can_end_is, can_issue_is, can_start_is}
+use Rattle.tomex_timing.proofs.Tests.{cases_unit, operation}
+use Rattle.tomex_timing.proofs.Settled.{AllBy, IsDoneBy, can_issue_after, can_address_after, can_start_after}
+use Rattle.tomex_timing.proofs.Settled.{can_end_after}
 
 pub issue_low : (config : Configuration) (older : List Done) (s : Step) (t : ℕ) → can_issue config older s t ≡ true
     → 0 < t
@@ -78,59 +80,47 @@ reach_made g at low reach address start order finish end = record {
   order = order;
 }
 
-in_reach_from : (config : Configuration) (older : List Done) (s : Step) (at : Times) (g : ℕ) (unit : Option UnitId)
-    → IsWithinLimits config → AllBy g older → (is_memory s ≡ true → is_some unit ≡ true)
-    → IsLeast (can_issue config older s) at.issue
-    → MatchBool (is_memory s) (IsLeast (can_address older s at.issue) (cycle_of at.address)) (at.address ≡ None)
-    → at.issue ≤ g + 1 → cycle_of at.address ≤ g + 2 → MatchOption unit (at.start ≡ at.issue)
-    (λ u. IsLeast (can_start config older s u at.issue (cycle_of at.address)) at.start)
-    → MatchOption unit (at.finish ≡ at.issue) (λ u. at.finish ≡ at.start + (option_of config u).latency - 1)
-    → MatchOption unit (at.end ≡ at.issue)
-    (λ u. MatchBool (is_some (step_dest s)) (IsLeast (can_end config older at.finish) at.end) (at.end ≡ at.finish))
-    → InReach g at
-in_reach_from config older s at g None good h memory issue address i a start finish end =
-    let none : cycle_of at.address ≡ 0 =
-    elim (cases_Bool (is_memory s)) [
-      | inl e ↦ absurd (let k : false ≡ true = memory e in
-          cc)
-      | inr e ↦ let z : at.address ≡ None =
-          MatchBool-at_false (IsLeast (can_address older s at.issue) (cycle_of at.address)) _ e address in rw z refl
-    ] in
-    let low : 0 < at.issue = issue_low config older s at.issue issue.0 in
-    reach_made g at low i (omega arith) (omega arith) (omega arith) (omega arith) (omega arith)
-in_reach_from config older s at g (Some u) good h memory issue address i a start finish end =
-    let low : 0 < at.issue = issue_low config older s at.issue issue.0 in
-    let after = start_low config older s u at.issue (cycle_of at.address) at.start start.0 in
-    let by : at.start ≤ g + 3 = least_le (can_start config older s u at.issue (cycle_of at.address)) at.start (g + 3)
-    start (can_start_after config older s u at.issue (cycle_of at.address) g good h i a) in
-    let l : 0 < (option_of config u).latency = latency_low config u good in
-    let k : (option_of config u).latency ≤ 64 = latency_high config u good in
-    let fin : at.finish ≡ at.start + (option_of config u).latency - 1 = finish in
-    let ends = end_reach config older s at.finish at.end g good h (omega arith) end in
-    reach_made g at low i (omega arith) (omega arith) (omega arith) (omega arith) (omega arith)
+-- without a unit there is no address cycle
+no_address : (config : Configuration) (older : List Done) (s : Step) (at : Times) → step_unit s ≡ None
+    → IsTimed config older s at → cycle_of at.address ≡ 0
+no_address config older s at none timed = elim (cases_Bool (is_memory s)) [
+  | inl e ↦ let f : false ≡ true = rw none at (memory_unit (step_pool s) e) in absurd (cc)
+  | inr e ↦
+      rw (MatchBool-at_false (IsLeast (can_address older s at.issue) (cycle_of at.address)) _ e timed.address) refl
+]
 
 pub in_reach : (config : Configuration) (older : List Done) (s : Step) (at : Times) (g : ℕ) → IsWithinLimits config
     → AllBy g older → IsTimed config older s at → InReach g at
 in_reach config older s at g good h timed =
+    let low : 0 < at.issue = issue_low config older s at.issue timed.issue.0 in
     let i : at.issue ≤ g + 1 = least_le (can_issue config older s) at.issue (g + 1) timed.issue
     (can_issue_after config older s g good h) in
-    in_reach_from config older s at g (step_unit s) good h (memory_unit (step_pool s)) timed.issue timed.address i
-    (address_reach config older s at g h timed i) timed.start timed.finish timed.end
+    let a : cycle_of at.address ≤ g + 2 = address_reach config older s at g h timed i in
+    elim (cases_unit s) [
+      | inl none ↦
+          let is : IsAtOnce at = at_once none timed in
+          let no : cycle_of at.address ≡ 0 = no_address config older s at none timed in
+          reach_made g at low i (omega arith) (omega arith) (omega arith) (omega arith) (omega arith)
+      | inr u ↦
+          let is : IsOperation config older s u.0 at = operation u.1 timed in
+          let by : at.start ≤ g + 3 = least_le (can_start config older s u.0 at.issue (cycle_of at.address)) at.start
+          (g + 3) is.start (can_start_after config older s u.0 at.issue (cycle_of at.address) g good h i a) in
+          let long : 0 < (option_of config u.0).latency = latency_low config u.0 good in
+          let short : (option_of config u.0).latency ≤ 64 = latency_high config u.0 good in
+          let ends = end_reach config older s at.finish at.end g good h (omega arith) is.end in
+          reach_made g at low i (omega arith) (omega arith) (omega arith) (omega arith) (omega arith)
+    ]
 
 -- a time within a bound is within a larger one
 AllBy-more : (a b : ℕ) (older : List Done) → a ≤ b → AllBy a older → AllBy b older
-AllBy-more a b [] l h = tt
-AllBy-more a b (d ∷ older) l h = (
-  record {
-    issue = omega (arith, h.0.issue);
-    address = omega (arith, h.0.address);
-    start = omega (arith, h.0.start);
-    finish = omega (arith, h.0.finish);
-    end = omega (arith, h.0.end);
-  },
-  AllBy-more a b older l
-      h.1,
-)
+AllBy-more a b older l h =
+    recursion_from_All (IsDoneBy b) older (All-weaker (IsDoneBy a) (IsDoneBy b) (λ d by. record {
+      issue = omega (arith, by.issue);
+      address = omega (arith, by.address);
+      start = omega (arith, by.start);
+      finish = omega (arith, by.finish);
+      end = omega (arith, by.end);
+    }) older (All-from_recursion (IsDoneBy a) older h))
 
 -- nothing of a history lies past its greatest end
 pub timed_by : (config : Configuration) (h : List Done) → IsWithinLimits config → AreTimed config h

@@ -1,45 +1,34 @@
 -- What the evaluator counts of a step's waits is what the definition says: before it issues it waits for branches, the
 -- width, a station; then for its operands, its address, older accesses, a unit.
-use Rattle.std.proofs.Common.{ℕ, ◌+◌, ◌-◌, ◌<◌, ◌≤◌, ◌≡◌, ◌∙◌, true, false, arith, refl, ap, sym, inl, inr, List}
-use Rattle.std.proofs.Common.{max, Option, Some, None}
-use Rattle.std.specs.Prelude.{nat_lt, nat_le, not, ◌&&◌}
-use Rattle.std.proofs.lemmas.Bool.{cases_Bool, cases_order, le-leb, lt-leb, leb-true, leb-false, lt-ltb, and_parts}
+use Rattle.std.proofs.Common.{Bool, ℕ, ◌+◌, ◌-◌, ◌<◌, ◌≤◌, ◌≡◌, ◌∙◌, true, arith, refl, ap, sym, inl, inr, List, max}
+use Rattle.std.proofs.Common.{Option, Some, None, nat_lt, nat_le, not, ◌&&◌}
+use Rattle.std.proofs.lemmas.Bool.{cases_Bool, le-leb, lt-leb, leb-true, leb-false, lt-ltb, and_parts}
+use Rattle.std.proofs.lemmas.Bool.Decides.{same_from_decides}
 use Rattle.tomex_config.specs.Configuration.{Configuration, IsWithinLimits}
 use Rattle.tomex_timing.specs.declared.part.Waits.{Waits}
 use Rattle.tomex_timing.specs.declared.times.Done.{Done}
 use Rattle.tomex_timing.specs.History.{last_issue, cycle_of, source_end}
 use Rattle.tomex_timing.specs.Needs.{lacks_branch, lacks_width, lacks_station, issue_waits, waits_of, lacks_operand}
 use Rattle.tomex_timing.specs.Needs.{lacks_address, lacks_memory, lacks_unit, start_waits}
-use Rattle.tomex_timing.specs.Recurrence.{AreTimed, are_branches_finished, IsTimed, has_operands}
-use Rattle.tomex_timing.specs.Recurrence.{are_conflicts_finished}
+use Rattle.tomex_timing.specs.Recurrence.{AreTimed, are_branches_finished, has_operands, are_conflicts_finished}
 use Rattle.tomex_timing.proofs.Bands.{band, is_in_band, none_of}
 use Rattle.tomex_timing.proofs.Splits.{branch_finish, slot_from, slot_range, from_of, max_split, slot_split}
 use Rattle.tomex_timing.proofs.Splits.{branch_split, issue_split, after_split, ready_split}
 use Rattle.tomex_rvdec.specs.declared.pool.UnitId.{UnitId}
 use Rattle.tomex_steps.specs.Steps.{step_unit, j_of, k_of}
 use Rattle.tomex_steps.specs.declared.step.Step.{Step}
-use Rattle.tomex_reservations.specs.Reservations.{Reserved}
-use Rattle.tomex_timing.specs.declared.accesses.Access.{Access}
+use Rattle.tomex_timing.specs.Ahead.{Held}
 use Rattle.tomex_timing.specs.declared.next.Marks.{Marks}
 use Rattle.tomex_timing.specs.declared.next.Next.{Next}
-use Rattle.tomex_timing.specs.declared.window.Latest.{Latest}
 use Rattle.tomex_timing.specs.Waiting.{operands_from, waits_by}
 use Rattle.tomex_timing.specs.Window.{ready_from}
 use Rattle.tomex_timing.proofs.Bools.{and_but, and_swap, and_true}
-use Rattle.tomex_timing.proofs.NextTimed.{ComesNext, HasMarks, Runs, from_is, has_marks, start_marked}
+use Rattle.tomex_timing.proofs.NextTimed.{ComesNext, HasMarks, Runs, from_is, has_marks, next_timed, start_marked}
 use Rattle.tomex_timing.proofs.Width.{issue_from as issue_after}
 
 abbrev waits_made : (branch width station operand address memory unit bus : ℕ) → Waits
-waits_made branch width station operand address memory unit bus = record {
-  branch = branch;
-  width = width;
-  station = station;
-  operand = operand;
-  address = address;
-  memory = memory;
-  unit = unit;
-  bus = bus;
-}
+waits_made b w s o a m u n =
+    record { branch = b; width = w; station = s; operand = o; address = a; memory = m; unit = u; bus = n }
 
 pub same_waits : (a b : Waits) → a.branch ≡ b.branch → a.width ≡ b.width → a.station ≡ b.station → a.operand ≡ b.operand
     → a.address ≡ b.address → a.memory ≡ b.memory → a.unit ≡ b.unit → a.bus ≡ b.bus → a ≡ b
@@ -62,17 +51,8 @@ branches_at h t l = sym (let p : nat_lt 0 t ≡ true = lt-ltb 0 t (omega arith) 
     branch_split h t ∙ ap (λ b. b && are_branches_finished h t) p)
 
 leb_same : (a b t : ℕ) → (a ≤ t → b ≤ t) → (b ≤ t → a ≤ t) → nat_le a t ≡ nat_le b t
-leb_same a b t f g = elim (cases_Bool (nat_le a t)) [
-  | inl e ↦ e ∙ sym (le-leb b t (f (leb-true a t e)))
-  | inr e ↦ e ∙ sym (lt-leb b t (more e))
-]
-  where
-    more : nat_le a t ≡ false → t < b
-    more e = let l : t < a = leb-false a t e in elim (cases_order b t) [
-      | inl s ↦ let k = g (omega arith) in absurd (omega arith)
-      | inr (inl s) ↦ let k = g (omega arith) in absurd (omega arith)
-      | inr (inr s) ↦ s
-    ]
+leb_same a b t f g = same_from_decides {P = a ≤ t} (nat_le a t) (nat_le b t) (leb-true a t, le-leb a t)
+    (λ e. g (leb-true b t e), λ l. le-leb b t (f l))
 
 pub branch_waits : (config : Configuration) (h : List Done) (d : Done) → from_of config h ≤ d.at.issue
     → issue_waits h d (lacks_branch h) ≡ branches_of h - low_of h
@@ -128,14 +108,7 @@ module _ (h : List Done) (d : Done) where
       let j = source_end h (j_of d.step) in
       let k = source_end h (k_of d.step) in
       let e : operands_at ≡ max (d.at.issue + 1) (max (j + 1) (k + 1)) = omega arith in
-      sym (rw (
-        e,
-        max_split (d.at.issue + 1) (max (j + 1) (k + 1)) t,
-        max_split (j + 1) (k + 1) t,
-        after_split j t,
-        after_split k t,
-        le-leb (d.at.issue + 1) t l,
-      ) refl)
+      sym (rw (e, max_split, max_split, after_split j t, after_split k t, le-leb (d.at.issue + 1) t l) refl)
 
   ready_with : (t : ℕ) → d.at.issue + 1 ≤ t
       → (has_operands h d.step t && nat_lt (cycle_of d.at.address) t) ≡ nat_le ready_at t
@@ -183,49 +156,39 @@ module _ (h : List Done) (d : Done) where
     bus = d.at.end - d.at.finish - 1;
   }
 
-  -- of a step that starts as it issues
-  waits_idle : (config : Configuration) (marks : Marks) → IsWithinLimits config
-      → AreTimed config h → from_of config h ≤ d.at.issue → marks.from ≡ from_of config h → d.at.start ≡ d.at.issue
-      → marks.operands ≡ d.at.issue → marks.ready ≡ d.at.issue → marks.clear ≡ d.at.issue
-      → waits_at marks ≡ waits_of config h d
-  waits_idle config marks good timed l from start operands ready clear =
-      let w1 = none_of (lacks_operand h d) (d.at.issue + 1) d.at.start (omega arith) in
-      let w2 = none_of (lacks_address h d) (d.at.issue + 1) d.at.start (omega arith) in
-      let w3 = none_of (lacks_memory h d) (d.at.issue + 1) d.at.start (omega arith) in
-      let w4 = none_of (lacks_unit h d) (d.at.issue + 1) d.at.start (omega arith) in
-      same_waits _ _ (sym (branch_waits config h d l)) (rw from (sym (width_waits config h d good timed l)))
-      (rw from (sym (station_waits config h d good timed l)))
-      (omega arith) (omega arith) (omega arith) (omega arith) (omega arith)
-
-  -- and of an operation
-  waits_run : (config : Configuration) (marks : Marks) → IsWithinLimits config
-      → AreTimed config h → from_of config h ≤ d.at.issue → marks.from ≡ from_of config h
-      → marks.operands ≡ operands_at → marks.ready ≡ ready_at → IsClear marks.clear
-      → ready_at ≤ marks.clear → marks.clear ≤ d.at.start → waits_at marks ≡ waits_of config h d
-  waits_run config marks good timed l from operands ready clear r s =
-      let w1 = operand_waits (omega arith) in
-      same_waits _ _ (sym (branch_waits config h d l)) (rw from (sym (width_waits config h d good timed l)))
-      (rw from (sym (station_waits config h d good timed l)))
-      (omega arith) (rw (ready, operands) (sym (address_waits (omega arith))))
-      (rw ready (sym (memory_waits marks.clear clear r s))) (sym (unit_waits marks.clear clear r s)) (omega arith)
-
-module _ {config : Configuration} {h : List Done} {latest : Latest} {table : Reserved} {taken : List ℕ}
-    {accesses : List Access} {s : Step} {next : Next} (c : ComesNext config h latest table taken accesses s next) where
+module _ {config : Configuration} {h : List Done} {held : Held} {s : Step} {next : Next}
+    (c : ComesNext config h held s next) where
   waits_unit : (unit : Option UnitId) → Runs c unit → last_issue h ≤ next.at.issue → from_of config h ≤ next.at.issue
       → waits_at h (record { step = s; at = next.at }) next.marks
       ≡ waits_of config h (record { step = s; at = next.at })
   waits_unit None run late l =
-      waits_idle h (record { step = s; at = next.at }) config next.marks c.good c.timed l (from_is c) run.start
-      run.operands run.ready run.clear
+      let d : Done = record { step = s; at = next.at } in
+      let none = λ (p : ℕ → Bool). none_of p (next.at.issue + 1) next.at.start (omega (arith, run.start)) in
+      same_waits _ _ (sym (branch_waits config h d l))
+      (rw (from_is c) (sym (width_waits config h d c.good c.timed l)))
+      (rw (from_is c) (sym (station_waits config h d c.good c.timed l)))
+      (omega (arith, run.operands, none (lacks_operand h d)))
+      (omega (arith, run.operands, run.ready, none (lacks_address h d)))
+      (omega (arith, run.ready, run.clear, none (lacks_memory h d)))
+      (omega (arith, run.start, run.clear, none (lacks_unit h d))) (omega arith)
   waits_unit (Some u) run late l =
+      let d : Done = record { step = s; at = next.at } in
       let marks : HasMarks h s next = has_marks c u run late in
-      waits_run h (record { step = s; at = next.at }) config next.marks c.good c.timed l (from_is c) marks.operands
-      marks.ready (λ t. rw marks.ready at (marks.clear t)) (rw marks.ready at marks.order) (start_marked c u run)
+      let clear : IsClear h d next.marks.clear = λ t. rw marks.ready at (marks.clear t) in
+      let order : ready_at h d ≤ next.marks.clear = rw marks.ready at marks.order in
+      let start : next.marks.clear ≤ next.at.start = start_marked c u run in
+      let w1 = operand_waits h d (omega arith) in
+      same_waits _ _ (sym (branch_waits config h d l))
+      (rw (from_is c) (sym (width_waits config h d c.good c.timed l)))
+      (rw (from_is c) (sym (station_waits config h d c.good c.timed l)))
+      (omega (arith, w1)) (rw (marks.ready, marks.operands) (sym (address_waits h d (omega arith))))
+      (rw marks.ready (sym (memory_waits h d next.marks.clear clear order start)))
+      (sym (unit_waits h d next.marks.clear clear order start)) (omega arith)
 
   -- what is counted of the next step's waits is what the definition says
-  pub waits_are : IsTimed config h s next.at
-      → waits_by latest next.marks next.at ≡ waits_of config h (record { step = s; at = next.at })
-  waits_are is =
+  pub waits_are : waits_by held.latest next.marks next.at ≡ waits_of config h (record { step = s; at = next.at })
+  waits_are =
+      let is = next_timed c in
       let late : last_issue h ≤ next.at.issue = issue_after config h s next.at.issue is.issue.0 in
       let l : from_of config h ≤ next.at.issue =
       leb-true (from_of config h) next.at.issue (issue_split config h next.at.issue c.good c.timed

@@ -1,20 +1,15 @@
 -- One step more: what is counted of its demands is what its needs say of them.
-use Rattle.std.proofs.Common.{ℕ, ◌+◌, ◌∙◌, ◌≡◌, [], ap, arith, refl, sym, Bool, true, false}
-use Rattle.std.proofs.Common.{List, Option, Some, None}
-use Rattle.std.proofs.Common.{map, take, zero, suc}
-use Rattle.std.specs.Prelude.{◌==◌, is_some, max, nat_lt, not, ◌||◌, slice_index_or}
-use Rattle.std.proofs.Math.ListN.{get_or-map}
-use Rattle.std.proofs.Math.ListN.{set}
+use Rattle.std.proofs.Common.{ℕ, ◌+◌, ◌∙◌, ◌≡◌, [], ap, arith, refl, sym, true, false, List, Option, Some, None, map}
+use Rattle.std.proofs.Common.{take, zero, suc, ◌==◌, max, nat_lt, not, ◌||◌, slice_index_or}
+use Rattle.std.proofs.Math.Bool.{or-false, or-true}
+use Rattle.std.proofs.Math.ListN.{get_or-map, set}
 use Rattle.std.proofs.lemmas.Bool.{lt-ltb, ne_eqb}
 use Rattle.std.proofs.lemmas.List.{map-set}
 use Rattle.tomex_rvdec.specs.Parts.{place_of_pool, place_of_unit}
 use Rattle.tomex_rvdec.specs.declared.pool.PoolId.{PoolId}
 use Rattle.tomex_rvdec.specs.declared.pool.UnitId.{UnitId}
 use Rattle.tomex_steps.specs.declared.step.Step.{Step}
-use Rattle.tomex_steps.proofs.Fields.{bytes_of_memory}
 use Rattle.tomex_config.specs.Configuration.{Configuration}
-use Rattle.tomex_reservations.specs.Reservations.{Reserved}
-use Rattle.tomex_timing.specs.declared.accesses.Access.{Access}
 use Rattle.tomex_timing.specs.declared.demands.Demands.{Demands}
 use Rattle.tomex_timing.specs.declared.needs.Needs.{Needs}
 use Rattle.tomex_timing.specs.declared.next.Next.{Next}
@@ -26,36 +21,25 @@ use Rattle.tomex_timing.specs.declared.times.Done.{Done}
 use Rattle.tomex_timing.specs.declared.times.Times.{Times}
 use Rattle.tomex_timing.specs.declared.waiting.Taken.{Taken}
 use Rattle.tomex_timing.specs.declared.window.Facts.{Facts}
-use Rattle.tomex_timing.specs.declared.window.Latest.{Latest}
-use Rattle.tomex_timing.specs.Ahead.{IsTableAfter, accesses_after, ends_after}
+use Rattle.tomex_timing.specs.Ahead.{Held, IsHeldAfter}
 use Rattle.tomex_timing.specs.Demands.{AreDemands, demand_after, demand_from, demand_of, demands_after, demands_of}
-use Rattle.tomex_timing.specs.Demands.{no_demand}
-use Rattle.tomex_timing.specs.Demands.{nothing_asked, stations_asked, units_asked}
+use Rattle.tomex_timing.specs.Demands.{no_demand, nothing_asked, stations_asked, units_asked}
 use Rattle.tomex_timing.specs.Needs.{no_need, peak, stalls}
 use Rattle.tomex_timing.specs.History.{greatest_end}
 use Rattle.tomex_timing.specs.Search.{history}
-use Rattle.tomex_timing.specs.Waiting.{need_after, needs_after, nothing_needed, stations_after, units_after}
-use Rattle.tomex_timing.specs.Waiting.{taken_from, waits_by}
+use Rattle.tomex_timing.specs.Waiting.{need_after, needs_after, nothing_needed, stations_after, units_after, taken_from}
+use Rattle.tomex_timing.specs.Waiting.{waits_by}
 use Rattle.tomex_timing.proofs.Needed.{needs_none}
 use Rattle.tomex_timing.proofs.Shown.{IsShown}
 use Rattle.tomex_timing.proofs.Turns.{IsTurn, held_turn, needs_turn}
-use Rattle.tomex_timing.specs.Window.{facts_of, is_memory_pool, latest_after}
-
-or_none : (b : Bool) → b ≡ (b || false)
-or_none true = refl
-or_none false = refl
-
-or_some : (b : Bool) → true ≡ (b || true)
-or_some true = refl
-or_some false = refl
 
 -- some wait if some waited before, or the step does
 waits_more : (w s : ℕ) → not ((w + s) == 0) ≡ (not (s == 0) || nat_lt 0 w)
-waits_more zero s = let e : 0 + s ≡ s = omega arith in rw e (or_none (not (s == 0)))
+waits_more zero s = let e : 0 + s ≡ s = omega arith in rw e (sym (or-false (not (s == 0))))
 waits_more (suc w) s =
     let some : (suc w + s == 0) ≡ false = ne_eqb (suc w + s) 0 (λ (e : suc w + s ≡ 0). absurd (omega arith)) in
     let waits : nat_lt 0 (suc w) ≡ true = lt-ltb 0 (suc w) (omega arith) in
-    rw (some, waits) (or_some (not (s == 0)))
+    rw (some, waits) (sym (or-true (not (s == 0))))
 
 demand_more : (need : Need) (taken waited : ℕ)
     → demand_from (need_after need taken waited) ≡ demand_after (demand_from need) taken waited
@@ -99,39 +83,33 @@ demands_none config = record { needs = nothing_needed; are = needs_none config; 
 abbrev pub with_total : ℕ → Demands → Demands
 with_total total demands = record demands { total = total }
 
--- what touches bytes is of the pools of loads and stores
-pub touches : (x : Step) (f : Facts) → f ≡ facts_of x → is_some f.bytes ≡ is_memory_pool f.pool
-touches x f is = rw is (bytes_of_memory x)
-
-module _ {config : Configuration} {steps : List Step} {i : ℕ} {x : Step} {f : Facts} {latest : Latest}
-    {table : Reserved} {taken : List ℕ} {accesses : List Access} {next : Next}
-    (turn : IsTurn config steps i x f latest table taken accesses next) where
-  held_demands : (demands : Demands) → AreDemands config (history config (take i steps)) (with_total latest.end demands)
+module _ {config : Configuration} {steps : List Step} {i : ℕ} {x : Step} {f : Facts} {held : Held} {next : Next}
+    (turn : IsTurn config steps i x f held next) where
+  held_demands : (demands : Demands)
+      → AreDemands config (history config (take i steps)) (with_total held.latest.end demands)
       → AreDemands config (history config (take (i + 1) steps))
-      (with_total (max next.at.end latest.end) (demands_after f (waits_by latest next.marks next.at)
-      (taken_from latest next) demands.total demands))
+      (with_total (max next.at.end held.latest.end) (demands_after f (waits_by held.latest next.marks next.at)
+      (taken_from held.latest next) demands.total demands))
   held_demands demands before =
-      let waits = waits_by latest next.marks next.at in
-      let takes = taken_from latest next in
-      let total : latest.end ≡ before.needs.total = ap (λ (d : Demands). d.total) before.same in
+      let waits = waits_by held.latest next.marks next.at in
+      let takes = taken_from held.latest next in
+      let total : held.latest.end ≡ before.needs.total = ap (λ (d : Demands). d.total) before.same in
       record {
         needs = needs_after f waits takes next.at before.needs;
         are = needs_turn turn refl refl before.are;
-        same = ap (λ (d : Demands). demands_after f waits takes (max next.at.end latest.end) d) before.same
+        same = ap (λ (d : Demands). demands_after f waits takes (max next.at.end held.latest.end) d) before.same
             ∙ (ap (λ (n : ℕ). demands_after f waits takes (max next.at.end n) (demands_of before.needs)) total
             ∙ sym (demands_more f waits takes next.at before.needs));
       }
 
   -- so what a step leaves shows the steps up to it
-  pub asked_turn : {demands : Demands} {last : Latest} {after : Reserved} {ends : List ℕ} {under : List Access}
-      {noted : Demands} → AreDemands config (history config (take i steps)) (with_total latest.end demands)
-      → last ≡ latest_after f next.at latest → IsTableAfter f next.at table after → ends ≡ ends_after f next.at taken
-      → under ≡ accesses_after f next.at accesses
-      → noted ≡ demands_after f (waits_by latest next.marks next.at) (taken_from latest next) demands.total demands
-      → IsShown (history config (take (i + 1) steps)) last after ends under
-      × AreDemands config (history config (take (i + 1) steps)) (with_total last.end noted)
-  asked_turn {demands} are last tabled ends under noted =
-      (rw (last, ends, under) (held_turn turn tabled), rw (noted, last) (held_demands demands are))
+  pub asked_turn : {demands : Demands} {after : Held} {noted : Demands}
+      → AreDemands config (history config (take i steps)) (with_total held.latest.end demands)
+      → IsHeldAfter f next.at held after → noted ≡ demands_after f (waits_by held.latest next.marks next.at)
+      (taken_from held.latest next) demands.total demands → IsShown (history config (take (i + 1) steps)) after
+      × AreDemands config (history config (take (i + 1) steps)) (with_total after.latest.end noted)
+  asked_turn {demands} are is_after noted =
+      (held_turn turn is_after, rw (noted, is_after.latest) (held_demands demands are))
 
 -- the demand for a part is its peak, and whether it has stalls
 pub demand_is : {config : Configuration} {h : List Done} {demands : Demands} (part : Part) → AreDemands config h demands

@@ -1,7 +1,6 @@
 -- A run's history grows by one step at a time, and its older steps stay.
 use Rattle.std.proofs.Common.{ℕ, ◌+◌, ◌≤◌, ◌*◌, ◌<◌, ◌≡◌, ◌∙◌, arith, refl, List, [], ◌∷◌, ◌++◌, ap, sym, suc, max}
-use Rattle.std.proofs.Common.{length, map, reverse, append_assoc}
-use Rattle.std.specs.Prelude.{slice_index_or, take}
+use Rattle.std.proofs.Common.{length, map, reverse, append_assoc, slice_index_or, take}
 use Rattle.std.proofs.lemmas.List.{reverse-append, length-map, length-reverse, map-append, take_more, append-nil}
 use Rattle.tomex_steps.specs.declared.step.Step.{Step}
 use Rattle.tomex_config.specs.Configuration.{Configuration, IsWithinLimits}
@@ -29,24 +28,19 @@ reverse_more d h = reverse-append (d ∷ []) h
 pub times_more : (config : Configuration) (xs : List Step) (x : Step)
     → times_in config (xs ++ (x ∷ [])) ≡ times_in config xs ++ (times_of config (history config xs) x ∷ [])
 times_more config xs x =
-    let a = history_more config xs x in
     let d : Done = record { step = x; at = times_of config (history config xs) x } in
-    let b : times_in config (xs ++ (x ∷ [])) ≡ map (λ d. d.at) (reverse (d ∷ history config xs)) =
-    ap (λ h. map (λ d. d.at) (reverse h)) a in
-    let c : map (λ (d : Done). d.at) (reverse (d ∷ history config xs)) ≡ map (λ d. d.at) (reverse (history config xs)
-    ++ (d ∷ [])) = ap (λ h. map (λ (d : Done). d.at) h) (reverse_more d (history config xs)) in
-    b ∙ (c ∙ map-append (λ d. d.at) (reverse (history config xs)) (d ∷ []))
+    rw (history_more config xs x, reverse_more d (history config xs))
+    (map-append (λ d. d.at) (reverse (history config xs)) (d ∷ []))
 
 pub younger_change_nothing : YoungerChangeNothing
 younger_change_nothing config xs [] = ([], ap (times_in config) (append-nil xs) ∙ sym (append-nil (times_in config xs)))
 younger_change_nothing config xs (y ∷ ys) =
     let rest = younger_change_nothing config (xs ++ (y ∷ [])) ys in
-    let t : Times = times_of config (history config xs) y in
-    let a : times_in config (xs ++ (y ∷ ys)) ≡ times_in config ((xs ++ (y ∷ [])) ++ ys) =
-    ap (times_in config) (sym (append_assoc xs (y ∷ []) ys)) in
-    let b : times_in config (xs ++ (y ∷ [])) ++ rest.0 ≡ (times_in config xs ++ (t ∷ [])) ++ rest.0 =
-    ap (λ ts. ts ++ rest.0) (times_more config xs y) in
-    (t ∷ rest.0, a ∙ (rest.1 ∙ (b ∙ append_assoc (times_in config xs) (t ∷ []) rest.0)))
+    let t : Times = times_of config (history config xs) y in (
+      t ∷ rest.0,
+      ap (times_in config) (sym (append_assoc xs (y ∷ []) ys)) ∙ (rest.1
+          ∙ rw (times_more config xs y) (append_assoc (times_in config xs) (t ∷ []) rest.0)),
+    )
 
 total_push : (ts : List Times) (t : Times) → total_of (ts ++ (t ∷ [])) ≡ max t.end (total_of ts)
 total_push [] t = refl
@@ -56,12 +50,8 @@ total_push (x ∷ ts) t = let e : total_of (ts ++ (t ∷ [])) ≡ max t.end (tot
 pub total_of-history : (h : List Done) → total_of (map (λ d. d.at) (reverse h)) ≡ greatest_end h
 total_of-history [] = refl
 total_of-history (d ∷ h) =
-    let a : map (λ (d : Done). d.at) (reverse (d ∷ h)) ≡ map (λ d. d.at) (reverse h ++ (d ∷ [])) =
-    ap (λ h. map (λ (d : Done). d.at) h) (reverse_more d h) in
-    let b : map (λ (d : Done). d.at) (reverse h ++ (d ∷ [])) ≡ map (λ d. d.at) (reverse h) ++ (d.at ∷ []) =
-    map-append (λ d. d.at) (reverse h) (d ∷ []) in
-    ap total_of (a ∙ b) ∙ (total_push (map (λ d. d.at) (reverse h)) d.at
-    ∙ ap (λ k. max d.at.end k) (total_of-history h))
+    rw (reverse_more d h, map-append (λ (d : Done). d.at) (reverse h) (d ∷ []))
+    (total_push (map (λ d. d.at) (reverse h)) d.at ∙ ap (λ k. max d.at.end k) (total_of-history h))
 
 pub total_is : TotalIsGreatestEnd
 total_is config xs = sym (total_of-history (history config xs))

@@ -1,69 +1,53 @@
 -- Which step has a station: a pool's station of a number is one step's at a time. So the stations that are held have
 -- different numbers, and are no more than the numbers up to the greatest.
 use Rattle.std.proofs.Common.{ℕ, ◌<◌, ◌≤◌, ◌≡◌, Bool, true, false, arith, refl, inl, inr, List, [], ◌∷◌, Option, Some}
-use Rattle.std.proofs.Common.{None, zero, suc, ◌+◌, cond, ap}
-use Rattle.std.specs.Prelude.{nat_le, ◌&&◌, is_some, not, MatchOption, ◌==◌, count_by}
+use Rattle.std.proofs.Common.{None, zero, suc, ◌+◌, cond, nat_le, ◌&&◌, is_some, not, MatchOption, ◌==◌, count_by}
 use Rattle.std.specs.Bool.{MatchBool}
-use Rattle.std.proofs.lemmas.Bool.{cases_Bool, and_parts, le-leb, leb-true, cases_order, eqb-true, le-ltb, lt-ltb}
+use Rattle.std.proofs.lemmas.Bool.{cases_Bool, and_parts, cases_order, eqb-true, le-ltb, lt-ltb}
 use Rattle.tomex_rvdec.specs.Operands.{unit_at}
 use Rattle.tomex_rvdec.specs.declared.pool.PoolId.{PoolId}
 use Rattle.tomex_rvdec.specs.declared.pool.UnitId.{UnitId}
 use Rattle.tomex_steps.specs.Steps.{is_in, is_number, step_dest, step_pool}
-use Rattle.tomex_config.specs.Configuration.{stations_of, Configuration}
+use Rattle.tomex_config.specs.Configuration.{Configuration}
 use Rattle.tomex_timing.specs.declared.tables.Tag.{Tag}
 use Rattle.tomex_timing.specs.declared.times.Done.{Done}
 use Rattle.tomex_timing.specs.Laws.{NumbersAreLow, StationsAreApart, StationsAreThere}
-use Rattle.tomex_timing.specs.Recurrence.{IsLeast, can_end, AreTimed}
-use Rattle.tomex_timing.specs.Search.{least}
+use Rattle.tomex_timing.specs.Recurrence.{IsLeast, IsTimed, can_end, AreTimed}
 use Rattle.tomex_timing.specs.Station.{has_station, is_free, is_held}
 use Rattle.tomex_timing.specs.Tables.{tag_at}
 use Rattle.tomex_timing.proofs.Least.{least_same}
 use Rattle.tomex_timing.proofs.Search.{issue_station}
-use Rattle.tomex_timing.proofs.Stations.{number_is, one, lower, split_count}
+use Rattle.tomex_timing.proofs.Stations.{number_is, lower, split_count}
 use Rattle.std.specs.List.{list_all}
+use Rattle.std.proofs.lemmas.Bool.Decides.{nat_tests}
 use Rattle.std.proofs.lemmas.List.Sums.{sum_by-cons}
-use Rattle.tomex_rvdec.specs.Parts.{place_of_pool}
 use Rattle.tomex_timing.specs.declared.part.Part.TheVariants.{Stations}
 use Rattle.tomex_timing.specs.History.{last_issue}
 use Rattle.tomex_timing.specs.Needs.{peak, stations_up_to}
-use Rattle.tomex_timing.proofs.Limits.{same_pool}
+use Rattle.tomex_timing.proofs.Limits.{pool_is}
 use Rattle.tomex_timing.proofs.Width.{issue_from}
 use Rattle.tomex_timing.proofs.Bools.{and_true}
 
 -- the number is the least free one
-number_least : (older : List Done) (station : Option ℕ) (issue n : ℕ) (p q : PoolId) → q ≡ p → station ≡ Some n
-    → ((m : ℕ) × (station ≡ Some m) × IsLeast (is_free q older issue) m) → IsLeast (is_free p older issue) n
-number_least older station issue n p q same e is =
-    let f : station ≡ Some is.0 = is.1 in
-    let g : is.0 ≡ n = cc in
-    rw (← same, ← g) is.2
-
-station_least : (older : List Done) (pool : Option PoolId) (station : Option ℕ) (issue n : ℕ) (p : PoolId)
-    → pool ≡ Some p → station ≡ Some n
-    → MatchOption pool (station ≡ None) (λ q. (m : ℕ) × (station ≡ Some m) × IsLeast (is_free q older issue) m)
-    → IsLeast (is_free p older issue) n
-station_least older None station issue n p a b is = absurd (cc)
-station_least older (Some q) station issue n p a b is = number_least older station issue n p q (let e : q ≡ p = cc in
-    e) b is
+station_least : (config : Configuration) (older : List Done) (d : Done) (pool : PoolId) (n : ℕ)
+    → IsTimed config older d.step d.at → step_pool d.step ≡ Some pool → d.at.station ≡ Some n
+    → IsLeast (is_free pool older d.at.issue) n
+station_least config older d pool n timed a b =
+    let is = rw a at timed.station in
+    let same : is.0 ≡ n = cc (is.1, b) in
+    rw same at is.2
 
 pub number_low : NumbersAreLow
 number_low config d older pool n timed a b =
-    let here : IsLeast (is_free pool older d.at.issue) n =
-    station_least older (step_pool d.step) d.at.station d.at.issue n pool a b timed.station in
+    let here = station_least config older d pool n timed a b in
     let left : has_station config older (Some pool) d.at.issue ≡ true =
     rw a at (issue_station config older d.step d.at.issue timed.issue.0) in
     let found = number_is config older pool d.at.issue left in
-    let same : n ≡ least (is_free pool older d.at.issue) (stations_of config pool) =
-    least_same (is_free pool older d.at.issue) n _ here found.0 in
-    rw same found.1
+    rw (least_same (is_free pool older d.at.issue) n _ here found.0) found.1
 
 free_one : (a b : Bool) (i t end : ℕ) → i ≤ t → not ((a && nat_le i end) && b) ≡ true
     → not ((a && nat_le t end) && b) ≡ true
-free_one false b i t end l free = refl
-free_one true b i t end l free = elim (cases_Bool (nat_le t end)) [
-  | inr e ↦ rw e refl
-  | inl e ↦ let k : t ≤ end = leb-true t end e in rw e (rw (le-leb i end (omega arith)) at free)
-]
+free_one a b i t end l free = grind (arith, nat_tests)
 
 -- what is free stays free of the steps that had issued
 pub free_later : (p : PoolId) (older : List Done) (n i t : ℕ) → i ≤ t → is_free p older i n ≡ true
@@ -79,8 +63,7 @@ free_later p (e ∷ older) n i t l free =
 
 pub stations_apart : StationsAreApart
 stations_apart config d older pool n t timed a b l =
-    free_later pool older n d.at.issue t l
-    (station_least older (step_pool d.step) d.at.station d.at.issue n pool a b timed.station).0
+    free_later pool older n d.at.issue t l (station_least config older d pool n timed a b).0
 
 tag_there : (pool : Option PoolId) (station : Option ℕ) (issue end : ℕ) (Q : UnitId → Type 0) (R : PoolId → ℕ → Type 0)
     → MatchOption (unit_at pool) (end ≡ issue) Q
@@ -110,17 +93,14 @@ abbrev is_holder : PoolId → ℕ → ℕ → Done → Bool
 is_holder pool t n d = is_held pool t d && is_number d.at.station n
 
 -- a number that a step holds was free of what is older
-holder_free : (pool : PoolId) (older : List Done) (x : Option PoolId) (station : Option ℕ) (issue t n : ℕ) (b : Bool)
-    → issue ≤ t → MatchOption x (station ≡ None) (λ p. (m : ℕ) × (station ≡ Some m) × IsLeast (is_free p older issue) m)
-    → ((is_in pool x && b) && is_number station n) ≡ true → is_free pool older t n ≡ true
-holder_free pool older None station issue t n b l is h = absurd (cc)
-holder_free pool older (Some p) station issue t n b l is h =
-    let two = and_parts ((place_of_pool p == place_of_pool pool) && b) (is_number station n) h in
-    let same : p ≡ pool = same_pool p pool (and_parts (place_of_pool p == place_of_pool pool) b two.0).0 in
+holder_free : (config : Configuration) (older : List Done) (d : Done) (pool : PoolId) (t n : ℕ) → d.at.issue ≤ t
+    → IsTimed config older d.step d.at → is_holder pool t n d ≡ true → is_free pool older t n ≡ true
+holder_free config older d pool t n l timed h =
+    let two = and_parts (is_held pool t d) (is_number d.at.station n) h in
+    let of = pool_is pool (step_pool d.step) (and_parts (is_in pool (step_pool d.step)) (nat_le t d.at.end) two.0).0 in
+    let is = rw of at timed.station in
     let number : (is.0 == n) ≡ true = rw is.1 at two.1 in
-    let is_n : is.0 ≡ n = eqb-true is.0 n number in
-    let free : is_free pool older issue n ≡ true = rw (← same, ← is_n) is.2.0 in
-    free_later pool older n issue t l free
+    free_later pool older n d.at.issue t l (rw (eqb-true is.0 n number) at is.2.0)
 
 -- no two steps hold one number
 one_holder : (config : Configuration) (h : List Done) (pool : PoolId) (t n : ℕ) → AreTimed config h → last_issue h ≤ t
@@ -128,9 +108,8 @@ one_holder : (config : Configuration) (h : List Done) (pool : PoolId) (t n : ℕ
 one_holder config [] pool t n timed l = omega arith
 one_holder config (d ∷ h) pool t n timed l = elim (cases_Bool (is_holder pool t n d)) [
   | inl e ↦
-      let free : is_free pool h t n ≡ true =
-      holder_free pool h (step_pool d.step) d.at.station d.at.issue t n (nat_le t d.at.end) l timed.0.station e in
-      let none : count_by (is_holder pool t n) h ≡ 0 = none_pass (is_holder pool t n) h free in
+      let none : count_by (is_holder pool t n) h ≡ 0 =
+      none_pass (is_holder pool t n) h (holder_free config h d pool t n l timed.0 e) in
       rw (sum_by-cons, e, none) (omega arith)
   | inr e ↦
       let k : last_issue h ≤ d.at.issue = issue_from config h d.step d.at.issue timed.0.issue.0 in
@@ -180,16 +159,14 @@ fewer held station xs (suc m) n one_each l none = elim (cases_order n m) [
 ]
 
 -- a number of the pool lies below what is taken
-held_low : (pool : PoolId) (x : Option PoolId) (station : Option ℕ) (m : ℕ) (b : Bool) (R : PoolId → ℕ → Type 0)
-    → MatchOption x (station ≡ None) (λ p. (n : ℕ) × (station ≡ Some n) × R p n)
-    → cond (is_in pool x) (stations_up_to station) 0 ≤ m
-    → (is_in pool x && b) ≡ ((is_in pool x && b) && lower station m)
-held_low pool None station m b R is l = refl
-held_low pool (Some p) station m b R is l = elim (cases_Bool (place_of_pool p == place_of_pool pool)) [
+held_low : (config : Configuration) (older : List Done) (d : Done) (pool : PoolId) (t m : ℕ)
+    → IsTimed config older d.step d.at → cond (is_in pool (step_pool d.step)) (stations_up_to d.at.station) 0 ≤ m
+    → is_held pool t d ≡ (is_held pool t d && lower d.at.station m)
+held_low config older d pool t m timed l = elim (cases_Bool (is_in pool (step_pool d.step))) [
   | inl e ↦
-      let up : stations_up_to station ≤ m = rw e at l in
-      let up_n : is.0 + 1 ≤ m = rw is.1 at up in
-      rw (e, is.1, lt-ltb is.0 m (omega arith)) (and_true b)
+      let is = rw (pool_is pool (step_pool d.step) e) at timed.station in
+      let up : is.0 + 1 ≤ m = rw (e, is.1) at l in
+      rw (is.1, lt-ltb is.0 m (omega arith)) (and_true (is_held pool t d))
   | inr e ↦ rw e refl
 ]
 
@@ -198,19 +175,8 @@ all_low : (config : Configuration) (h : List Done) (pool : PoolId) (t m : ℕ) �
     ≡ count_by (λ d. is_held pool t d && lower d.at.station m) h
 all_low config [] pool t m timed l = refl
 all_low config (d ∷ h) pool t m timed l =
-    let taken : cond (is_in pool (step_pool d.step)) (stations_up_to d.at.station) 0 ≤ m = omega arith in
-    let rest : peak (Stations pool) h ≤ m = omega arith in
-    let e : is_held pool t d ≡ (is_held pool t d && lower d.at.station m) =
-    held_low pool (step_pool d.step) d.at.station m (nat_le t d.at.end) (λ p n. IsLeast (is_free p h d.at.issue) n)
-    timed.0.station taken in
-    let k = all_low config h pool t m timed.1 rest in
-    let a : count_by (is_held pool t) (d ∷ h) ≡ one (is_held pool t d) + count_by (is_held pool t) h =
-    sum_by-cons (λ x. one (is_held pool t x)) d h in
-    let b : count_by (λ d. is_held pool t d && lower d.at.station m) (d ∷ h)
-    ≡ one (is_held pool t d && lower d.at.station m) + count_by (λ d. is_held pool t d && lower d.at.station m) h =
-    sum_by-cons (λ x. one (is_held pool t x && lower x.at.station m)) d h in
-    let f : one (is_held pool t d) ≡ one (is_held pool t d && lower d.at.station m) = ap one e in
-    omega arith
+    let e = held_low config h d pool t m timed.0 (omega arith) in
+    rw (sum_by-cons, sum_by-cons, ← e, ← all_low config h pool t m timed.1 (omega arith)) refl
 
 -- if a number below m is free, fewer than m stations are held
 pub stations_fit : (config : Configuration) (h : List Done) (pool : PoolId) (t n m : ℕ) → AreTimed config h

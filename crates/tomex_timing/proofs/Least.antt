@@ -1,7 +1,6 @@
 -- The least number that passes a test: it is one, and a bounded search finds it.
 use Rattle.std.proofs.Common.{ℕ, zero, suc, ◌+◌, ◌<◌, ◌≤◌, ◌≡◌, Bool, true, false, refl, IsTrue, arith, inl, inr, subst}
-use Rattle.std.proofs.Common.{add-zero, zero-add, sym, ◌∙◌}
-use Rattle.std.specs.Prelude.{nat_le, ◌==◌, ◌&&◌}
+use Rattle.std.proofs.Common.{add-zero, zero-add, sym, ◌∙◌, nat_le, ◌==◌, ◌&&◌}
 use Rattle.std.proofs.lemmas.Bool.{and_parts, cases_Bool, cases_order, both_ways, eq-eqb, leb-true, ne_eqb}
 use Rattle.tomex_reservations.specs.Reservations.{IsFirst}
 use Rattle.tomex_timing.specs.Recurrence.{IsLeast}

@@ -15,7 +15,6 @@ pub mod Holders
 pub mod Taken
 pub mod Implied
 pub mod Serving
-pub mod UnderWay
 pub mod Bools
 pub mod Splits
 pub mod Bands
@@ -27,6 +26,4 @@ pub mod Needed
 pub mod ShownTurns
 pub mod WaitLists
 pub mod Turns
-pub mod Facts
 pub mod Demanded
-pub mod Slots

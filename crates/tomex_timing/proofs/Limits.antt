@@ -1,7 +1,8 @@
 -- Pools and kinds of units are known by their places; and the limits of a configuration, as inequations.
-use Rattle.std.proofs.Common.{ℕ, ◌≡◌, ◌∙◌, true, ap, refl, sym, ◌<◌, ◌≤◌, arith, length}
-use Rattle.std.specs.Prelude.{◌==◌, if◌then◌else◌, nat_le}
-use Rattle.std.proofs.lemmas.Bool.{eqb-true, leb-true, and_parts}
+use Rattle.std.proofs.Common.{ℕ, ◌≡◌, ◌∙◌, true, ap, refl, sym, ◌<◌, ◌≤◌, arith, Option, Some, None}
+use Rattle.std.specs.Prelude.{◌==◌, if◌then◌else◌}
+use Rattle.std.proofs.lemmas.Bool.{eqb-true, and_parts}
+use Rattle.std.proofs.lemmas.Bool.Decides.{nat_tests}
 use Rattle.tomex_rvdec.specs.Parts.{place_of_pool, place_of_unit}
 use Rattle.tomex_rvdec.specs.declared.pool.PoolId.{PoolId}
 use Rattle.tomex_rvdec.specs.declared.pool.PoolId.TheVariants as pools
@@ -9,6 +10,8 @@ use Rattle.tomex_rvdec.specs.declared.pool.UnitId.{UnitId}
 use Rattle.tomex_rvdec.specs.declared.pool.UnitId.TheVariants as units
 use Rattle.tomex_config.specs.Configuration.{Configuration, IsWithinLimits, is_between, is_option, stations_of}
 use Rattle.tomex_config.specs.Configuration.{option_of, plain_option}
+use Rattle.tomex_steps.specs.Steps.{is_in}
+use Rattle.tomex_timing.specs.History.{is_of}
 
 abbrev pool_at : ℕ → PoolId
 pool_at n = if n == 0 then pools.Alu else (if n == 1 then pools.Mul else (if n == 2 then pools.Div else
@@ -39,6 +42,14 @@ same_pool p q e = sym (pool_place p) ∙ (ap pool_at (eqb-true (place_of_pool p)
 pub same_unit : (p q : UnitId) → (place_of_unit p == place_of_unit q) ≡ true → p ≡ q
 same_unit p q e = sym (unit_place p) ∙ (ap unit_at (eqb-true (place_of_unit p) (place_of_unit q) e) ∙ unit_place q)
 
+pub pool_is : (pool : PoolId) (x : Option PoolId) → is_in pool x ≡ true → x ≡ Some pool
+pool_is pool None e = absurd (cc)
+pool_is pool (Some p) e = ap Some (same_pool p pool e)
+
+pub unit_is : (unit : UnitId) (x : Option UnitId) → is_of unit x ≡ true → x ≡ Some unit
+unit_is unit None e = absurd (cc)
+unit_is unit (Some p) e = ap Some (same_unit p unit e)
+
 pub pool_in : (pool : PoolId) → place_of_pool pool < 6
 pool_in pools.Alu = omega arith
 pool_in pools.Mul = omega arith
@@ -55,57 +66,51 @@ unit_in units.Mem = omega arith
 unit_in units.Bru = omega arith
 
 between : (low high n : ℕ) → is_between low high n ≡ true → (low ≤ n) × (n ≤ high)
-between low high n h =
-    let two = and_parts (nat_le low n) (nat_le n high) h in
-    (leb-true low n two.0, leb-true n high two.1)
+between low high n h = grind (arith, nat_tests)
 
 stations_are : (config : Configuration) (pool : PoolId) → IsWithinLimits config
-    → is_between 1 16 (stations_of config pool) ≡ true
+    → (1 ≤ stations_of config pool) × (stations_of config pool ≤ 16)
 stations_are config pool good =
-    let l : place_of_pool pool < length config.stations = rw good.pools (pool_in pool) in
-    good.stations (place_of_pool pool) 0 l
+    between 1 16 (stations_of config pool) (good.stations (place_of_pool pool) 0 (rw good.pools (pool_in pool)))
 
 option_is : (config : Configuration) (unit : UnitId) → IsWithinLimits config
     → is_option 8 (option_of config unit) ≡ true
-option_is config unit good =
-    let l : place_of_unit unit < length config.units = rw good.kinds (unit_in unit) in
-    good.units (place_of_unit unit) plain_option l
+option_is config unit good = good.units (place_of_unit unit) plain_option (rw good.kinds (unit_in unit))
 
-pub stations_low : (config : Configuration) (pool : PoolId) → IsWithinLimits config → 0 < stations_of config pool
-stations_low config pool good = let two = between 1 16 (stations_of config pool) (stations_are config pool good) in
-    omega (arith, two.0)
-
-pub stations_high : (config : Configuration) (pool : PoolId) → IsWithinLimits config → stations_of config pool ≤ 16
-stations_high config pool good = (between 1 16 (stations_of config pool) (stations_are config pool good)).1
-
-pub units_low : (config : Configuration) (unit : UnitId) → IsWithinLimits config → 0 < (option_of config unit).units
-units_low config unit good =
-    let o = option_of config unit in
-    let two = between 1 8 o.units (and_parts _ _ (and_parts _ _ (option_is config unit good)).0).0 in
-    omega (arith, two.0)
-
-pub units_high : (config : Configuration) (unit : UnitId) → IsWithinLimits config → (option_of config unit).units ≤ 8
-units_high config unit good =
-    let o = option_of config unit in
-    (between 1 8 o.units (and_parts _ _ (and_parts _ _ (option_is config unit good)).0).0).1
+units_are : (config : Configuration) (unit : UnitId) → IsWithinLimits config
+    → (1 ≤ (option_of config unit).units) × ((option_of config unit).units ≤ 8)
+units_are config unit good =
+    between 1 8 (option_of config unit).units (and_parts _ _ (and_parts _ _ (option_is config unit good)).0).0
 
 latency_is : (config : Configuration) (unit : UnitId) → IsWithinLimits config
-    → is_between 1 64 (option_of config unit).latency ≡ true
-latency_is config unit good = (and_parts _ _ (and_parts _ _ (option_is config unit good)).0).1
+    → (1 ≤ (option_of config unit).latency) × ((option_of config unit).latency ≤ 64)
+latency_is config unit good =
+    between 1 64 (option_of config unit).latency (and_parts _ _ (and_parts _ _ (option_is config unit good)).0).1
+
+pub stations_low : (config : Configuration) (pool : PoolId) → IsWithinLimits config → 0 < stations_of config pool
+stations_low config pool good = omega (arith, (stations_are config pool good).0)
+
+pub stations_high : (config : Configuration) (pool : PoolId) → IsWithinLimits config → stations_of config pool ≤ 16
+stations_high config pool good = (stations_are config pool good).1
+
+pub units_low : (config : Configuration) (unit : UnitId) → IsWithinLimits config → 0 < (option_of config unit).units
+units_low config unit good = omega (arith, (units_are config unit good).0)
+
+pub units_high : (config : Configuration) (unit : UnitId) → IsWithinLimits config → (option_of config unit).units ≤ 8
+units_high config unit good = (units_are config unit good).1
 
 pub latency_low : (config : Configuration) (unit : UnitId) → IsWithinLimits config → 0 < (option_of config unit).latency
-latency_low config unit good = let two = between 1 64 (option_of config unit).latency (latency_is config unit good) in
-    omega (arith, two.0)
+latency_low config unit good = omega (arith, (latency_is config unit good).0)
 
 pub latency_high : (config : Configuration) (unit : UnitId) → IsWithinLimits config
     → (option_of config unit).latency ≤ 64
-latency_high config unit good = (between 1 64 (option_of config unit).latency (latency_is config unit good)).1
+latency_high config unit good = (latency_is config unit good).1
 
 pub buses_low : (config : Configuration) → IsWithinLimits config → 0 < config.buses
-buses_low config good = let two = between 1 8 config.buses good.buses in omega (arith, two.0)
+buses_low config good = omega (arith, (between 1 8 config.buses good.buses).0)
 
 pub buses_high : (config : Configuration) → IsWithinLimits config → config.buses ≤ 8
 buses_high config good = (between 1 8 config.buses good.buses).1
 
 pub width_low : (config : Configuration) → IsWithinLimits config → 0 < config.width
-width_low config good = let two = between 1 4 config.width good.width in omega (arith, two.0)
+width_low config good = omega (arith, (between 1 4 config.width good.width).0)

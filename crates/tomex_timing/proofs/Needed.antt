@@ -1,7 +1,6 @@
 -- One step more: the needs that are counted stay those of the history.
-use Rattle.std.proofs.Common.{ℕ, suc, ◌+◌, ◌<◌, ◌≤◌, ◌≡◌, ◌∙◌, true, false, cond, arith, refl, ap, sym, inl, inr, List}
-use Rattle.std.proofs.Common.{[], ◌∷◌, Option, Some, None}
-use Rattle.std.specs.Prelude.{◌==◌, ◌&&◌, count_by, is_some, length, slice_index_or, slice_set}
+use Rattle.std.proofs.Common.{ℕ, suc, ◌+◌, ◌<◌, ◌≤◌, ◌≡◌, ◌∙◌, cond, arith, refl, ap, sym, inl, inr, List, [], ◌∷◌}
+use Rattle.std.proofs.Common.{Option, Some, None, ◌==◌, ◌&&◌, count_by, is_some, length, slice_index_or, slice_set}
 use Rattle.std.proofs.lemmas.Bool.{cases_Bool, eqb-true, both_ways, eq-eqb}
 use Rattle.std.proofs.lemmas.List.{get_or-set_same, get_or-set_other, get_or-replicate, length-set}
 use Rattle.tomex_rvdec.specs.Parts.{place_of_pool, place_of_unit}
@@ -10,8 +9,6 @@ use Rattle.tomex_rvdec.specs.declared.pool.UnitId.{UnitId}
 use Rattle.tomex_steps.specs.Steps.{step_pool, step_unit, step_dest, is_in}
 use Rattle.tomex_steps.specs.declared.step.Step.{Step}
 use Rattle.tomex_config.specs.Configuration.{Configuration}
-use Rattle.tomex_reservations.specs.Reservations.{Reserved}
-use Rattle.tomex_timing.specs.declared.accesses.Access.{Access}
 use Rattle.tomex_timing.specs.declared.needs.Needs.{Needs}
 use Rattle.tomex_timing.specs.declared.next.Next.{Next}
 use Rattle.tomex_timing.specs.declared.part.Need.{Need}
@@ -20,18 +17,17 @@ use Rattle.tomex_timing.specs.declared.part.Part.TheVariants.{Stations, Units, B
 use Rattle.tomex_timing.specs.declared.waiting.Taken.{Taken}
 use Rattle.tomex_timing.specs.declared.part.Waits.{Waits}
 use Rattle.tomex_timing.specs.declared.times.Done.{Done}
-use Rattle.tomex_timing.specs.declared.window.Latest.{Latest}
-use Rattle.tomex_timing.specs.Ahead.{TakesBus}
+use Rattle.tomex_timing.specs.Ahead.{Held}
 use Rattle.tomex_timing.specs.History.{is_of, last_issue, greatest_end}
 use Rattle.tomex_timing.specs.Needs.{AreNeeds, need_of, no_need, peak, stalls, taken_by, waits_for, waits_of}
 use Rattle.tomex_timing.specs.Laws.{InReach}
-use Rattle.tomex_timing.specs.Recurrence.{IsTimed}
 use Rattle.tomex_timing.specs.Waiting.{need_after, needs_after, nothing_needed, stations_after, taken_from, units_after}
 use Rattle.tomex_timing.specs.Window.{facts_of}
 use Rattle.tomex_timing.proofs.Shown.{issued_kept}
-use Rattle.tomex_timing.proofs.Limits.{pool_in, unit_in, same_unit}
-use Rattle.tomex_timing.proofs.NextTimed.{ComesNext, Runs}
-use Rattle.tomex_timing.proofs.Orders.{dest_unit, reach, start_later}
+use Rattle.tomex_timing.proofs.Limits.{pool_in, unit_in, unit_is}
+use Rattle.tomex_timing.proofs.NextTimed.{ComesNext, next_timed}
+use Rattle.tomex_timing.proofs.Orders.{dest_unit, reach}
+use Rattle.tomex_timing.proofs.Tests.{cases_unit, operation, unit_of}
 use Rattle.tomex_timing.proofs.Width.{issue_from}
 
 -- of what a step takes, what it takes of a part
@@ -89,53 +85,48 @@ length-units_after : (x : Option UnitId) (taken waited : ℕ) (xs : List Need) �
 length-units_after None taken waited xs = refl
 length-units_after (Some p) taken waited xs = length-set xs (place_of_unit p) _
 
-module _ {config : Configuration} {h : List Done} {latest : Latest} {table : Reserved} {taken : List ℕ}
-    {accesses : List Access} {s : Step} {next : Next} (c : ComesNext config h latest table taken accesses s next) where
-  units_are : (unit : UnitId) (x : Option UnitId) → step_unit s ≡ x → Runs c x → IsTimed config h s next.at
-      → cond (is_of unit x) next.units 0 ≡ cond (is_of unit x)
+module _ {config : Configuration} {h : List Done} {held : Held} {s : Step} {next : Next}
+    (c : ComesNext config h held s next) where
+  late : last_issue h ≤ next.at.issue
+  late = issue_from config h s next.at.issue (next_timed c).issue.0
+
+  units_are : (unit : UnitId) → cond (is_of unit (step_unit s)) next.units 0 ≡ cond (is_of unit (step_unit s))
       (count_by (λ y. is_of unit (step_unit y.step) && y.at.start == next.at.start) h + 1) 0
-  units_are unit None of run is = refl
-  units_are unit (Some u) of run is = elim (cases_Bool (place_of_unit u == place_of_unit unit)) [
+  units_are unit = elim (cases_Bool (is_of unit (step_unit s))) [
     | inl e ↦
-        let same : u ≡ unit = same_unit u unit e in
-        let l : last_issue h ≤ next.at.issue = issue_from config h s next.at.issue is.issue.0 in
-        let later : next.at.issue < next.at.start =
-        (start_later config (record { step = s; at = next.at }) h is (rw of refl)).0 in
-        rw (e, run.units, c.shown.starts u next.at.start (omega arith), same) refl
+        let of : step_unit s ≡ Some unit = unit_is unit (step_unit s) e in
+        let after = (operation of (next_timed c)).can.after_issue in
+        let run = rw of at c.by.run in
+        rw (e, run.units, c.shown.starts unit next.at.start (omega (arith, late, after))) refl
     | inr e ↦ rw e refl
   ]
 
-  buses_are : (x : Option UnitId) (dest : Option ℕ) → step_unit s ≡ x → step_dest s ≡ dest → Runs c x
-      → IsTimed config h s next.at → next.buses ≡ cond (is_some dest)
+  buses_are : (dest : Option ℕ) → step_dest s ≡ dest → next.buses ≡ cond (is_some dest)
       (count_by (λ y. is_some (step_dest y.step) && y.at.end == next.at.end) h + 1) 0
-  buses_are None None of to run is = run.buses
-  buses_are None (Some r) of to run is =
-      let u : is_some (step_unit s) ≡ true = dest_unit s (rw to refl) in
-      let f : false ≡ true = rw of at u in
-      absurd (cc)
-  buses_are (Some u) None of to run is = let end = rw to at run.end in end.1
-  buses_are (Some u) (Some r) of to run is =
-      let end : TakesBus config table (Some r) next.at.finish next.at.end next.buses = rw to at run.end in
-      let l : last_issue h ≤ next.at.issue = issue_from config h s next.at.issue is.issue.0 in
+  buses_are None to = elim (cases_unit s) [
+    | inl none ↦ let run = rw none at c.by.run in run.buses
+    | inr u ↦ let run = rw u.1 at c.by.run in let end = rw to at run.end in end.1
+  ]
+  buses_are (Some r) to =
+      let of = (unit_of s (dest_unit s (rw to refl))).1 in
+      let run = rw of at c.by.run in
+      let end = rw to at run.end in
       let reaches : InReach (greatest_end h) next.at =
-      reach config (record { step = s; at = next.at }) h c.good (is, c.timed) in
-      let later : next.at.issue < next.at.start =
-      (start_later config (record { step = s; at = next.at }) h is (rw of refl)).0 in
-      rw (end.1, c.shown.results next.at.end (omega arith)) refl
+      reach config (record { step = s; at = next.at }) h c.good (next_timed c, c.timed) in
+      let after = (operation of (next_timed c)).can.after_issue in
+      rw (end.1, c.shown.results next.at.end (omega (arith, late, after))) refl
 
   -- what is counted as taken is what is taken
-  pub taken_is : IsTimed config h s next.at → (part : Part)
-      → taken_for part (record { step = s; at = next.at }) (taken_from latest next)
+  pub taken_is : (part : Part) → taken_for part (record { step = s; at = next.at }) (taken_from held.latest next)
       ≡ taken_by part h (record { step = s; at = next.at })
-  taken_is is (Stations pool) = refl
-  taken_is is (Units unit) = units_are unit (step_unit s) refl c.by.run is
-  taken_is is Buses = buses_are (step_unit s) (step_dest s) refl refl c.by.run is
-  taken_is is Width =
-      let l : last_issue h ≤ next.at.issue = issue_from config h s next.at.issue is.issue.0 in
-      let e : latest.issued ≡ count_by (λ d. d.at.issue == last_issue h) h = c.shown.kept.issued in
-      let k : cond (next.at.issue == last_issue h) (latest.issued + 1) 1
+  taken_is (Stations pool) = refl
+  taken_is (Units unit) = units_are unit
+  taken_is Buses = buses_are (step_dest s) refl
+  taken_is Width =
+      let e : held.latest.issued ≡ count_by (λ d. d.at.issue == last_issue h) h = c.shown.kept.issued in
+      let k : cond (next.at.issue == last_issue h) (held.latest.issued + 1) 1
       ≡ suc (count_by (λ x. x.at.issue == next.at.issue) h) =
-      issued_kept config h next.at.issue latest.issued c.timed l e in
+      issued_kept config h next.at.issue held.latest.issued c.timed late e in
       let s : suc (count_by (λ x. x.at.issue == next.at.issue) h) ≡ count_by (λ x. x.at.issue == next.at.issue) h + 1 =
       omega arith in
       rw c.shown.kept.issue (k ∙ s)

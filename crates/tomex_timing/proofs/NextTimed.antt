@@ -1,9 +1,7 @@
 -- The step that comes next by what is held has the times of the recurrence.
 use Rattle.std.proofs.Common.{ℕ, ◌+◌, ◌-◌, ◌<◌, ◌≤◌, ◌≡◌, ◌∙◌, Bool, true, false, cond, arith, refl, sym, inl, inr}
-use Rattle.std.proofs.Common.{List, Option, Some, None, max}
-use Rattle.std.specs.Prelude.{nat_lt, nat_le, ◌&&◌, is_some, count_by, MatchOption}
+use Rattle.std.proofs.Common.{List, Option, Some, None, max, nat_lt, nat_le, ◌&&◌, is_some, count_by, MatchOption}
 use Rattle.std.specs.Bool.{MatchBool}
-use Rattle.std.specs.Option.{ForSome}
 use Rattle.std.proofs.lemmas.Bool.{cases_Bool, false_from_ne_true, and_from, and_parts, le-leb, lt-ltb, le-ltb}
 use Rattle.std.proofs.lemmas.Bool.{leb-true, ltb-true}
 use Rattle.tomex_rvdec.specs.Parts.{place_of_unit}
@@ -12,20 +10,18 @@ use Rattle.tomex_rvdec.specs.declared.pool.UnitId.{UnitId}
 use Rattle.tomex_steps.specs.Steps.{step_pool, step_unit, step_dest, j_of, k_of}
 use Rattle.tomex_steps.specs.declared.step.Step.{Step}
 use Rattle.tomex_config.specs.Configuration.{Configuration, IsWithinLimits, stations_of, option_of}
-use Rattle.tomex_timing.specs.declared.accesses.Access.{Access}
 use Rattle.tomex_timing.specs.declared.next.Next.{Next}
 use Rattle.tomex_timing.specs.declared.part.Part.TheVariants.{Stations}
 use Rattle.tomex_timing.specs.declared.times.Done.{Done}
-use Rattle.tomex_timing.specs.declared.window.Latest.{Latest}
-use Rattle.tomex_timing.specs.Ahead.{IsIdle, IsNextBy, RunsOn, TakesBus, TakesStation, end_in}
-use Rattle.tomex_reservations.specs.Reservations.{IsFreeFirst, Reserved, bus_line, end_at, is_left}
+use Rattle.tomex_timing.specs.Ahead.{Held, IsIdle, IsNextBy, RunsOn, TakesBus, TakesStation, end_in}
+use Rattle.tomex_reservations.specs.Reservations.{IsFreeFirst, bus_line, end_at, is_left}
 use Rattle.tomex_timing.specs.History.{cycle_of, is_memory, last_address, last_issue, source_end}
 use Rattle.tomex_timing.specs.Recurrence.{IsLeast, IsTimed, AreTimed, EndsAfter, are_conflicts_finished, can_address}
 use Rattle.tomex_timing.specs.Recurrence.{can_end, can_issue, can_start, has_operands}
 use Rattle.tomex_timing.specs.Search.{least}
 use Rattle.tomex_timing.specs.Station.{is_held, has_station, is_free}
 use Rattle.tomex_timing.specs.Waiting.{operands_from}
-use Rattle.tomex_timing.specs.Window.{facts_of, ready_from, register_of}
+use Rattle.tomex_timing.specs.Window.{HasRegisters, facts_of, ready_from, register_of}
 use Rattle.tomex_timing.proofs.Shown.{source_agree, IsShown}
 use Rattle.tomex_timing.proofs.Least.{first_from_le, least_agree}
 use Rattle.tomex_timing.proofs.Limits.{latency_low, stations_high}
@@ -38,14 +34,12 @@ use Rattle.tomex_timing.proofs.Taken.{peak_within}
 use Rattle.tomex_timing.proofs.Width.{issue_from as issue_after}
 
 -- a step comes next after a history, by what is held of that
-pub record ComesNext (config : Configuration) (h : List Done) (latest : Latest) (table : Reserved) (taken : List ℕ)
-    (accesses : List Access) (s : Step) (next : Next) : Type 0 where
+pub record ComesNext (config : Configuration) (h : List Done) (held : Held) (s : Step) (next : Next) : Type 0 where
   pub good : IsWithinLimits config
   pub timed : AreTimed config h
-  pub shown : IsShown h latest table taken accesses
-  pub j : ForSome (j_of s) (λ o. o.register < 32)
-  pub k : ForSome (k_of s) (λ o. o.register < 32)
-  pub by : IsNextBy config latest table taken accesses (facts_of s) next
+  pub shown : IsShown h held
+  pub registers : HasRegisters (facts_of s)
+  pub by : IsNextBy config held (facts_of s) next
 
 -- the issue and the station of a step of this pool
 record HasIssue (config : Configuration) (h : List Done) (pool : Option PoolId) (from issue : ℕ)
@@ -77,22 +71,22 @@ record HasRun (config : Configuration) (h : List Done) (s : Step) (unit : Option
       (λ u. next.at.finish ≡ next.at.start + (option_of config u).latency - 1)
   end : MatchOption unit (next.at.end ≡ next.at.issue) (λ u. EndsAfter config h s next.at.finish next.at.end)
 
-module _ {config : Configuration} {h : List Done} {latest : Latest} {table : Reserved} {taken : List ℕ}
-    {accesses : List Access} {s : Step} {next : Next} (c : ComesNext config h latest table taken accesses s next) where
+module _ {config : Configuration} {h : List Done} {held : Held} {s : Step} {next : Next}
+    (c : ComesNext config h held s next) where
   -- the station that is free first: then one of the pool's is left, and before that none is
   some_left : (p : PoolId) (from issue n : ℕ) → last_issue h ≤ from → 0 < from
-      → IsFreeFirst taken p (stations_of config p) from issue n → has_station config h (Some p) issue ≡ true
+      → IsFreeFirst held.ends p (stations_of config p) from issue n → has_station config h (Some p) issue ≡ true
   some_left p from issue n late pos first =
       let high : stations_of config p ≤ 16 = stations_high config p c.good in
       let begun : from ≤ issue = first.begun in
       let there : n < stations_of config p = first.there in
       let free : is_free p h issue n ≡ true = c.shown.stations p issue n (omega arith) (omega arith)
-      ∙ lt-ltb (end_at taken p n) issue first.free in
+      ∙ lt-ltb (end_at held.ends p n) issue first.free in
       lt-ltb (count_by (is_held p issue) h) (stations_of config p)
       (stations_fit config h p issue n (stations_of config p) c.timed (omega arith) free first.there
       (peak_within config h (Stations p) c.timed))
 
-  none_left : (p : PoolId) (from issue n t : ℕ) → 0 < from → IsFreeFirst taken p (stations_of config p) from issue n
+  none_left : (p : PoolId) (from issue n t : ℕ) → 0 < from → IsFreeFirst held.ends p (stations_of config p) from issue n
       → from ≤ t → t < issue → has_station config h (Some p) t ≡ false
   none_left p from issue n t pos first l m = false_from_ne_true (has_station config h (Some p) t) (λ left.
       let is = number_is config h p t left in
@@ -100,15 +94,15 @@ module _ {config : Configuration} {h : List Done} {latest : Latest} {table : Res
       let low : least (is_free p h t) (stations_of config p) < stations_of config p = is.1 in
       let ended = ltb-true _ _ (sym (c.shown.stations p t (least (is_free p h t) (stations_of config p)) (omega arith)
       (omega arith)) ∙ is.0.0) in
-      let held = first.none (least (is_free p h t) (stations_of config p)) t low l m in
+      let holds = first.none (least (is_free p h t) (stations_of config p)) t low l m in
       omega arith)
 
   has_issue : (pool : Option PoolId) (from issue : ℕ) (station : Option ℕ) → last_issue h ≤ from → 0 < from
-      → TakesStation config taken pool from issue station → HasIssue config h pool from issue station
+      → TakesStation config held.ends pool from issue station → HasIssue config h pool from issue station
   has_issue None from issue station late pos takes =
       record { first = rw takes.0 (first_here (λ t. true) from refl); takes = takes.1 }
   has_issue (Some p) from issue station late pos takes =
-      let first : IsFreeFirst taken p (stations_of config p) from issue takes.0 = takes.2 in
+      let first : IsFreeFirst held.ends p (stations_of config p) from issue takes.0 = takes.2 in
       let begun : from ≤ issue = first.begun in
       let high : stations_of config p ≤ 16 = stations_high config p c.good in
       let there : takes.0 < stations_of config p = first.there in
@@ -125,9 +119,9 @@ module _ {config : Configuration} {h : List Done} {latest : Latest} {table : Res
           takes.1,
           (
             c.shown.stations p issue takes.0 (omega arith) (omega arith)
-                ∙ lt-ltb (end_at taken p takes.0) issue first.free,
+                ∙ lt-ltb (end_at held.ends p takes.0) issue first.free,
             λ k l. c.shown.stations p issue k (omega arith) (omega arith)
-                ∙ le-ltb (end_at taken p k) issue (first.least k l),
+                ∙ le-ltb (end_at held.ends p k) issue (first.least k l),
           ),
         );
       }
@@ -135,13 +129,13 @@ module _ {config : Configuration} {h : List Done} {latest : Latest} {table : Res
   -- how the operation that comes next runs, if it is one
   abbrev pub Runs : Option UnitId → Type 0
   Runs unit = MatchOption unit (IsIdle next)
-      (RunsOn config table accesses (facts_of s) (end_in latest.ends (register_of (j_of s)))
-      (end_in latest.ends (register_of (k_of s))) next)
+      (RunsOn config held.table held.accesses (facts_of s) (end_in held.latest.ends (register_of (j_of s)))
+      (end_in held.latest.ends (register_of (k_of s))) next)
 
   pub has_marks : (u : UnitId) → Runs (Some u) → last_issue h ≤ next.at.issue → HasMarks h s next
   has_marks u run late =
-      let j = source_agree h latest.ends (j_of s) c.shown.kept.ends c.j in
-      let k = source_agree h latest.ends (k_of s) c.shown.kept.ends c.k in
+      let j = source_agree h held.latest.ends (j_of s) c.shown.kept.ends c.registers.j in
+      let k = source_agree h held.latest.ends (k_of s) c.shown.kept.ends c.registers.k in
       let ready : next.marks.ready
       ≡ ready_from next.at.issue next.at.address (source_end h (j_of s)) (source_end h (k_of s)) =
       rw (j, k) at run.ready in
@@ -164,7 +158,7 @@ module _ {config : Configuration} {h : List Done} {latest : Latest} {table : Res
   start_timed : (u : UnitId) → Runs (Some u) → HasMarks h s next
       → IsLeast (can_start config h s u next.at.issue (cycle_of next.at.address)) next.at.start
   start_timed u run marks =
-      least_agree (λ t. nat_le next.marks.clear t && is_left table (place_of_unit u) (option_of config u).units t)
+      least_agree (λ t. nat_le next.marks.clear t && is_left held.table (place_of_unit u) (option_of config u).units t)
       (can_start config h s u next.at.issue (cycle_of next.at.address)) next.at.start
       (λ t. let split : nat_le next.marks.ready t
       ≡ ((nat_lt next.at.issue t && nat_lt (cycle_of next.at.address) t) && has_operands h s t) =
@@ -177,11 +171,12 @@ module _ {config : Configuration} {h : List Done} {latest : Latest} {table : Res
       ])) run.start
 
   end_timed : (dest : Option ℕ) (finish end buses : ℕ) → last_issue h ≤ finish
-      → TakesBus config table dest finish end buses
+      → TakesBus config held.table dest finish end buses
       → MatchBool (is_some dest) (IsLeast (can_end config h finish) end) (end ≡ finish)
   end_timed None finish end buses late takes = takes.0
   end_timed (Some r) finish end buses late takes =
-      least_agree (λ t. nat_le (finish + 1) t && is_left table bus_line config.buses t) (can_end config h finish) end
+      least_agree (λ t. nat_le (finish + 1) t && is_left held.table bus_line config.buses t) (can_end config h finish)
+      end
       (λ t. rw (after_split finish t) (elim (cases_Bool (nat_lt finish t)) [
         | inl e ↦ let l : finish < t = ltb-true finish t e in rw (e, c.shown.results t (omega arith)) refl
         | inr e ↦ rw e refl
@@ -190,7 +185,7 @@ module _ {config : Configuration} {h : List Done} {latest : Latest} {table : Res
   -- it starts no earlier than its marks
   pub start_marked : (u : UnitId) → Runs (Some u) → next.marks.clear ≤ next.at.start
   start_marked u run =
-      first_from_le (is_left table (place_of_unit u) (option_of config u).units) next.marks.clear next.at.start
+      first_from_le (is_left held.table (place_of_unit u) (option_of config u).units) next.marks.clear next.at.start
       run.start
 
   has_run : (unit : Option UnitId) → Runs unit → last_issue h ≤ next.at.issue → HasRun config h s unit next
@@ -223,7 +218,8 @@ module _ {config : Configuration} {h : List Done} {latest : Latest} {table : Res
       record {
         issue = first;
         address = address_part (is_memory s) h s next.at.issue next.at.address
-            (rw (source_agree h latest.ends (j_of s) c.shown.kept.ends c.j, c.shown.kept.address) at c.by.address);
+            (rw (source_agree h held.latest.ends (j_of s) c.shown.kept.ends c.registers.j, c.shown.kept.address)
+            at c.by.address);
         start = run.start;
         finish = run.finish;
         end = run.end;

@@ -11,137 +11,91 @@ use Rattle.tomex_timing.proofs.Programs.{with_latency}
 
 -- issue, start, finish, end and station
 abbrev on : ℕ → ℕ → ℕ → ℕ → ℕ → Times
-on issue start finish end n = record {
-  issue = issue;
-  address = None;
-  start = start;
-  finish = finish;
-  end = end;
-  station = Some n;
-}
+on i s f e n = record { issue = i; address = None; start = s; finish = f; end = e; station = Some n }
 
 -- the times of a load or store, with its address cycle
 abbrev accessing : ℕ → ℕ → ℕ → ℕ → ℕ → ℕ → Times
-accessing issue address start finish end n =
-    record { issue = issue; address = Some address; start = start; finish = finish; end = end; station = Some n }
+accessing i a s f e n = record { issue = i; address = Some a; start = s; finish = f; end = e; station = Some n }
 
 -- the times of an instruction that uses no station
 abbrev at_once : ℕ → Times
 at_once t = record { issue = t; address = None; start = t; finish = t; end = t; station = None }
 
-product_times : times_in (with_latency units.Mul two_alu_stations 3) product ≡ on 1 2 2 3 0 ∷ on 2 3 3 4 1
-    ∷ on 3 5 7 8 0 ∷ at_once 4 ∷ []
-unfolding times_of
-product_times = refl
+-- two ALU stations, and a latency of 3 for products
+abbrev three_for_mul : Configuration
+three_for_mul = with_latency units.Mul two_alu_stations 3
 
-product_times_one_station : times_in (with_latency units.Mul plain 3) product ≡ on 1 2 2 3 0 ∷ on 4 5 5 6 0
-    ∷ on 5 7 9 10 0 ∷ at_once 6 ∷ []
+-- two stations for the two sums, and one for both
+product_times : (times_in three_for_mul product ≡ on 1 2 2 3 0 ∷ on 2 3 3 4 1 ∷ on 3 5 7 8 0 ∷ at_once 4 ∷ [])
+    × (times_in (with_latency units.Mul plain 3) product ≡ on 1 2 2 3 0 ∷ on 4 5 5 6 0 ∷ on 5 7 9 10 0 ∷ at_once 6 ∷ [])
+    × (total_of (times_in three_for_mul product) ≡ 8)
 unfolding times_of
-product_times_one_station = refl
+product_times = (refl, refl, refl)
 
-product_total : total_of (times_in (with_latency units.Mul two_alu_stations 3) product) ≡ 8
+-- both results are ready for cycle 4: the older one has the bus, or each has one
+results_times : (times_in (with_latency units.Mul plain 2) two_results ≡ on 1 2 3 4 0 ∷ on 2 3 3 5 0 ∷ at_once 3 ∷ [])
+    × (times_in (with_buses (with_latency units.Mul plain 2) 2) two_results ≡ on 1 2 3 4 0 ∷ on 2 3 3 4 0
+    ∷ at_once 3 ∷ [])
 unfolding times_of
-product_total = refl
+results_times = (refl, refl)
 
--- both results are ready for cycle 4: the older one has the bus
-results_times_one_bus : times_in (with_latency units.Mul plain 2) two_results ≡ on 1 2 3 4 0 ∷ on 2 3 3 5 0 ∷ at_once 3
-    ∷ []
+-- both readers wait for the product: the older one has the unit, or each has one
+readers_times : (times_in (with_buses three_for_mul 2) two_readers ≡ on 1 2 4 5 0 ∷ on 2 6 6 7 0 ∷ on 3 7 7 8 1
+    ∷ at_once 4 ∷ [])
+    × (times_in (with_option units.Alu (with_buses three_for_mul 2) (record { units = 2; latency = 1; price = 0 }))
+    two_readers ≡ on 1 2 4 5 0 ∷ on 2 6 6 7 0 ∷ on 3 6 6 7 1 ∷ at_once 4 ∷ [])
 unfolding times_of
-results_times_one_bus = refl
-
-results_times_two_buses : times_in (with_buses (with_latency units.Mul plain 2) 2) two_results ≡ on 1 2 3 4 0
-    ∷ on 2 3 3 4 0 ∷ at_once 3 ∷ []
-unfolding times_of
-results_times_two_buses = refl
-
--- both readers wait for the product: the older one has the unit
-readers_times_one_unit : times_in (with_buses (with_latency units.Mul two_alu_stations 3) 2) two_readers ≡ on 1 2 4 5 0
-    ∷ on 2 6 6 7 0 ∷ on 3 7 7 8 1 ∷ at_once 4 ∷ []
-unfolding times_of
-readers_times_one_unit = refl
-
-readers_times_two_units : times_in (with_option units.Alu (with_buses (with_latency units.Mul two_alu_stations 3) 2)
-    (record { units = 2; latency = 1; price = 0 })) two_readers ≡ on 1 2 4 5 0 ∷ on 2 6 6 7 0 ∷ on 3 6 6 7 1 ∷ at_once 4
-    ∷ []
-unfolding times_of
-readers_times_two_units = refl
+readers_times = (refl, refl)
 
 overwritten_times : times_in (with_latency units.Mul plain 10) overwritten ≡ on 1 2 11 12 0 ∷ on 2 3 3 4 0 ∷ at_once 3
     ∷ []
 unfolding times_of
 overwritten_times = refl
 
--- the load's byte is one of the store's four, though not their first
-shared_byte_times : times_in (with_latency units.Mem two_alu_stations 2) (stored_and_loaded 1) ≡ on 1 2 2 3 0
-    ∷ on 2 3 3 4 1 ∷ accessing 3 4 5 6 6 0 ∷ accessing 4 5 7 8 9 0 ∷ at_once 5 ∷ []
+-- the load's byte is one of the store's four, though not their first; or it is the byte after them
+byte_times : (times_in (with_latency units.Mem two_alu_stations 2) (stored_and_loaded 1) ≡ on 1 2 2 3 0
+    ∷ on 2 3 3 4 1 ∷ accessing 3 4 5 6 6 0 ∷ accessing 4 5 7 8 9 0 ∷ at_once 5 ∷ [])
+    × (times_in (with_latency units.Mem two_alu_stations 2) (stored_and_loaded 4) ≡ on 1 2 2 3 0 ∷ on 2 3 3 4 1
+    ∷ accessing 3 4 5 6 6 0 ∷ accessing 4 5 6 7 8 0 ∷ at_once 5 ∷ [])
 unfolding times_of
-shared_byte_times = refl
+byte_times = (refl, refl)
 
--- the byte after them
-next_byte_times : times_in (with_latency units.Mem two_alu_stations 2) (stored_and_loaded 4) ≡ on 1 2 2 3 0
-    ∷ on 2 3 3 4 1 ∷ accessing 3 4 5 6 6 0 ∷ accessing 4 5 6 7 8 0 ∷ at_once 5 ∷ []
+-- nothing issues past the jump by a register before it has finished; JAL is no branch
+jump_times : (times_in three_for_mul jump_to_product ≡ on 1 2 2 3 0 ∷ on 2 4 6 7 0 ∷ on 3 8 8 8 0 ∷ at_once 9 ∷ [])
+    × (times_in three_for_mul jump_past ≡ on 1 2 2 3 0 ∷ on 2 4 6 7 0 ∷ on 3 4 4 4 1 ∷ at_once 4 ∷ [])
 unfolding times_of
-next_byte_times = refl
-
--- nothing issues past the jump by a register before it has finished
-jump_to_product_times : times_in (with_latency units.Mul two_alu_stations 3) jump_to_product ≡ on 1 2 2 3 0
-    ∷ on 2 4 6 7 0 ∷ on 3 8 8 8 0 ∷ at_once 9 ∷ []
-unfolding times_of
-jump_to_product_times = refl
-
--- JAL is no branch
-jump_past_times : times_in (with_latency units.Mul two_alu_stations 3) jump_past ≡ on 1 2 2 3 0 ∷ on 2 4 6 7 0
-    ∷ on 3 4 4 4 1 ∷ at_once 4 ∷ []
-unfolding times_of
-jump_past_times = refl
+jump_times = (refl, refl)
 
 -- addi x0,x0,0 has no destination, and takes no bus
-nothing_written_times : times_in plain (addi 0 0 0 0 0 ∷ ebreak 4 ∷ []) ≡ on 1 2 2 2 0 ∷ at_once 2 ∷ []
+short_times : (times_in plain (addi 0 0 0 0 0 ∷ ebreak 4 ∷ []) ≡ on 1 2 2 2 0 ∷ at_once 2 ∷ [])
+    × (times_in plain (ebreak 0 ∷ []) ≡ at_once 1 ∷ [])
 unfolding times_of
-nothing_written_times = refl
+short_times = (refl, refl)
 
-alone_times : times_in plain (ebreak 0 ∷ []) ≡ at_once 1 ∷ []
+-- two loads of one byte don't wait for each other, unless for a station
+loads_times : (times_in (with_latency units.Mem (with_stations pools.Load plain 2) 2) two_loads ≡ on 1 2 2 3 0
+    ∷ accessing 2 4 5 6 7 0 ∷ accessing 3 5 6 7 8 1 ∷ at_once 4 ∷ [])
+    × (times_in (with_latency units.Mem plain 2) two_loads ≡ on 1 2 2 3 0 ∷ accessing 2 4 5 6 7 0
+    ∷ accessing 8 9 10 11 12 0 ∷ at_once 9 ∷ [])
 unfolding times_of
-alone_times = refl
-
--- two loads of one byte don't wait for each other
-loads_times_two_stations : times_in (with_latency units.Mem (with_stations pools.Load plain 2) 2) two_loads
-    ≡ on 1 2 2 3 0 ∷ accessing 2 4 5 6 7 0 ∷ accessing 3 5 6 7 8 1 ∷ at_once 4 ∷ []
-unfolding times_of
-loads_times_two_stations = refl
-
-loads_times_one_station : times_in (with_latency units.Mem plain 2) two_loads ≡ on 1 2 2 3 0 ∷ accessing 2 4 5 6 7 0
-    ∷ accessing 8 9 10 11 12 0 ∷ at_once 9 ∷ []
-unfolding times_of
-loads_times_one_station = refl
+loads_times = (refl, refl)
 
 -- two alu stations and units, mul with latency 3, two buses
 abbrev two_of_alu : Configuration
-two_of_alu = with_buses (with_option units.Alu (with_latency units.Mul two_alu_stations 3)
+two_of_alu = with_buses (with_option units.Alu three_for_mul
     (record { units = 2; latency = 1; price = 0 })) 2
 
-product_times_width_one : times_in two_of_alu product ≡ on 1 2 2 3 0 ∷ on 2 3 3 4 1 ∷ on 3 5 7 8 0 ∷ at_once 4 ∷ []
+-- from a width of two on both sums issue in one cycle, to two stations; with four the product and EBREAK do too
+product_times_by_width : (times_in two_of_alu product ≡ on 1 2 2 3 0 ∷ on 2 3 3 4 1 ∷ on 3 5 7 8 0 ∷ at_once 4 ∷ [])
+    × (times_in (with_width two_of_alu 2) product ≡ on 1 2 2 3 0 ∷ on 1 2 2 3 1 ∷ on 2 4 6 7 0 ∷ at_once 2 ∷ [])
+    × (times_in (with_width two_of_alu 4) product ≡ on 1 2 2 3 0 ∷ on 1 2 2 3 1 ∷ on 1 4 6 7 0 ∷ at_once 1 ∷ [])
 unfolding times_of
-product_times_width_one = refl
+product_times_by_width = (refl, refl, refl)
 
--- both sums issue in one cycle, to two stations; the product and EBREAK in the next
-product_times_width_two : times_in (with_width two_of_alu 2) product ≡ on 1 2 2 3 0 ∷ on 1 2 2 3 1 ∷ on 2 4 6 7 0
-    ∷ at_once 2 ∷ []
+product_totals_by_width : (total_of (times_in (with_width two_of_alu 2) product) ≡ 7)
+    × (total_of (times_in (with_width two_of_alu 4) product) ≡ 7)
 unfolding times_of
-product_times_width_two = refl
-
-product_times_width_four : times_in (with_width two_of_alu 4) product ≡ on 1 2 2 3 0 ∷ on 1 2 2 3 1 ∷ on 1 4 6 7 0
-    ∷ at_once 1 ∷ []
-unfolding times_of
-product_times_width_four = refl
-
-product_total_width_two : total_of (times_in (with_width two_of_alu 2) product) ≡ 7
-unfolding times_of
-product_total_width_two = refl
-
-product_total_width_four : total_of (times_in (with_width two_of_alu 4) product) ≡ 7
-unfolding times_of
-product_total_width_four = refl
+product_totals_by_width = (refl, refl)
 
 -- one station holds the second sum back; the product issues with it
 product_times_one_station_width_two : times_in (with_width (with_latency units.Mul plain 3) 2) product ≡ on 1 2 2 3 0
@@ -149,14 +103,9 @@ product_times_one_station_width_two : times_in (with_width (with_latency units.M
 unfolding times_of
 product_times_one_station_width_two = refl
 
--- what comes after the jump by a register waits, however wide the machine is
-jump_to_product_times_width_four : times_in (with_width (with_latency units.Mul two_alu_stations 3) 4) jump_to_product
-    ≡ on 1 2 2 3 0 ∷ on 1 4 6 7 0 ∷ on 1 8 8 8 0 ∷ at_once 9 ∷ []
+-- however wide the machine is, what comes after the jump by a register waits; what comes after JAL issues with it
+jump_times_by_width : (times_in (with_width three_for_mul 4) jump_to_product ≡ on 1 2 2 3 0 ∷ on 1 4 6 7 0
+    ∷ on 1 8 8 8 0 ∷ at_once 9 ∷ [])
+    × (times_in (with_width three_for_mul 4) jump_past ≡ on 1 2 2 3 0 ∷ on 1 4 6 7 0 ∷ on 1 3 3 3 1 ∷ at_once 1 ∷ [])
 unfolding times_of
-jump_to_product_times_width_four = refl
-
--- what comes after JAL issues with it
-jump_past_times_width_four : times_in (with_width (with_latency units.Mul two_alu_stations 3) 4) jump_past
-    ≡ on 1 2 2 3 0 ∷ on 1 4 6 7 0 ∷ on 1 3 3 3 1 ∷ at_once 1 ∷ []
-unfolding times_of
-jump_past_times_width_four = refl
+jump_times_by_width = (refl, refl)

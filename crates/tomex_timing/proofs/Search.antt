@@ -1,7 +1,6 @@
 -- The search finds the recurrence's times, and there are no others.
-use Rattle.std.proofs.Common.{ℕ, ◌+◌, ◌-◌, ◌<◌, ◌≤◌, ◌≡◌, ◌∙◌, true, arith, refl, List, [], ◌∷◌, Option, Some, None, ap}
-use Rattle.std.proofs.Common.{inl, inr, sym}
-use Rattle.std.specs.Prelude.{is_some, MatchOption, map}
+use Rattle.std.proofs.Common.{ℕ, ◌+◌, ◌<◌, ◌≤◌, ◌≡◌, ◌∙◌, true, arith, refl, List, [], ◌∷◌, Option, Some, None, ap, inl}
+use Rattle.std.proofs.Common.{inr, sym, is_some, MatchOption, map}
 use Rattle.std.specs.Bool.{MatchBool}
 use Rattle.std.proofs.lemmas.Bool.{cases_Bool, and_parts, MatchBool-at_true, MatchBool-at_false}
 use Rattle.tomex_rvdec.specs.declared.pool.PoolId.{PoolId}
@@ -21,7 +20,7 @@ use Rattle.tomex_timing.proofs.Least.{least_is, least_le, least_same}
 use Rattle.tomex_timing.proofs.Limits.{latency_high}
 use Rattle.tomex_timing.proofs.Settled.{AllBy, can_issue_after, can_address_after, can_start_after, can_end_after}
 use Rattle.tomex_timing.proofs.Stations.{number_is}
-use Rattle.tomex_timing.proofs.Tests.{can_address_is}
+use Rattle.tomex_timing.proofs.Tests.{IsAtOnce, IsOperation, at_once, can_address_is, cases_unit, operation}
 
 issue_is : (config : Configuration) (older : List Done) (s : Step) (g : ℕ) → IsWithinLimits config → AllBy g older
     → IsLeast (can_issue config older s) (issue_of config older s g)
@@ -82,20 +81,17 @@ times_are_from config older s g None e good h =
       station = station_is config older (step_pool s) _ (issue_station config older s _ i.0);
     }
 times_are_from config older s g (Some u) e good h =
-    let i : IsLeast (can_issue config older s) (issue_of config older s g) = issue_is config older s g good h in
-    let by : issue_of config older s g ≤ g + 1 =
+    let issue = issue_of config older s g in
+    let address = address_at older s issue g in
+    let start = start_of config older s u issue (cycle_of address) g in
+    let i : IsLeast (can_issue config older s) issue = issue_is config older s g good h in
+    let by : issue ≤ g + 1 =
     least_le (can_issue config older s) _ (g + 1) i (can_issue_after config older s g good h) in
-    let a : cycle_of (address_at older s (issue_of config older s g) g) ≤ g + 2 = address_low older s _ g h by in
-    let can : can_start config older s u (issue_of config older s g)
-    (cycle_of (address_at older s (issue_of config older s g) g)) (g + 3) ≡ true =
-    can_start_after config older s u _ _ g good h by a in
-    let st : IsLeast (can_start config older s u (issue_of config older s g)
-    (cycle_of (address_at older s (issue_of config older s g) g)))
-    (start_of config older s u (issue_of config older s g)
-    (cycle_of (address_at older s (issue_of config older s g) g)) g) =
+    let a : cycle_of address ≤ g + 2 = address_low older s _ g h by in
+    let can = can_start_after config older s u issue (cycle_of address) g good h by a in
+    let st : IsLeast (can_start config older s u issue (cycle_of address)) start =
     least_is (can_start config older s u _ _) (g + 3) can in
-    let late : start_of config older s u (issue_of config older s g)
-    (cycle_of (address_at older s (issue_of config older s g) g)) g ≤ g + 3 = least_le _ _ (g + 3) st can in
+    let late : start ≤ g + 3 = least_le _ _ (g + 3) st can in
     let l : (option_of config u).latency ≤ 64 = latency_high config u good in
     record {
       issue = i;
@@ -120,14 +116,7 @@ timed_is config (s ∷ older) good = let earlier = timed_is config older good in
     (times_are config (timed_of config older) s good earlier, earlier)
 
 abbrev times_made : (issue : ℕ) (address : Option ℕ) (start finish end : ℕ) (station : Option ℕ) → Times
-times_made issue address start finish end station = record {
-  issue = issue;
-  address = address;
-  start = start;
-  finish = finish;
-  end = end;
-  station = station;
-}
+times_made i a s f e n = record { issue = i; address = a; start = s; finish = f; end = e; station = n }
 
 same_record : (a b : Times) → a.issue ≡ b.issue → a.address ≡ b.address → a.start ≡ b.start → a.finish ≡ b.finish
     → a.end ≡ b.end → a.station ≡ b.station → a ≡ b
@@ -174,27 +163,22 @@ same_station : (older : List Done) (pool : Option PoolId) (t : ℕ) (a b : Optio
 same_station older None t a b x y = x ∙ sym y
 same_station older (Some p) t a b x y = x.1 ∙ (ap Some (least_same (is_free p older t) x.0 y.0 x.2 y.2) ∙ sym y.1)
 
-same_run : (config : Configuration) (older : List Done) (s : Step) (unit : Option UnitId) (a b : Times)
-    → step_unit s ≡ unit → IsTimed config older s a → IsTimed config older s b → a.issue ≡ b.issue
-    → a.address ≡ b.address → (a.start ≡ b.start) × (a.finish ≡ b.finish) × (a.end ≡ b.end)
-same_run config older s None a b e x y i d =
-    let p : a.start ≡ a.issue = rw e at x.start in let q : b.start ≡ b.issue = rw e at y.start in
-    let p2 : a.finish ≡ a.issue = rw e at x.finish in let q2 : b.finish ≡ b.issue = rw e at y.finish in
-    let p3 : a.end ≡ a.issue = rw e at x.end in let q3 : b.end ≡ b.issue = rw e at y.end in
-    (omega arith, omega arith, omega arith)
-same_run config older s (Some u) a b e x y i d =
-    let p : IsLeast (can_start config older s u a.issue (cycle_of a.address)) a.start = rw e at x.start in
-    let q : IsLeast (can_start config older s u b.issue (cycle_of b.address)) b.start = rw e at y.start in
-    let st : a.start ≡ b.start = least_same (can_start config older s u a.issue (cycle_of a.address)) a.start b.start p
-    (rw (← i, ← d) at q) in
-    let p2 : a.finish ≡ a.start + (option_of config u).latency - 1 = rw e at x.finish in
-    let q2 : b.finish ≡ b.start + (option_of config u).latency - 1 = rw e at y.finish in
-    let fi : a.finish ≡ b.finish = omega arith in
-    let p3 : MatchBool (is_some (step_dest s)) (IsLeast (can_end config older a.finish) a.end) (a.end ≡ a.finish) =
-    rw e at x.end in
-    let q3 : MatchBool (is_some (step_dest s)) (IsLeast (can_end config older b.finish) b.end) (b.end ≡ b.finish) =
-    rw e at y.end in
-    (st, fi, same_end config older s a.finish a.end b.end p3 (rw (← fi) at q3))
+same_run : (config : Configuration) (older : List Done) (s : Step) (a b : Times) → IsTimed config older s a
+    → IsTimed config older s b → a.issue ≡ b.issue → a.address ≡ b.address
+    → (a.start ≡ b.start) × (a.finish ≡ b.finish) × (a.end ≡ b.end)
+same_run config older s a b x y i d = elim (cases_unit s) [
+  | inl none ↦
+      let p : IsAtOnce a = at_once none x in
+      let q : IsAtOnce b = at_once none y in
+      (omega arith, omega arith, omega arith)
+  | inr u ↦
+      let p : IsOperation config older s u.0 a = operation u.1 x in
+      let q : IsOperation config older s u.0 b = operation u.1 y in
+      let start : a.start ≡ b.start = least_same (can_start config older s u.0 a.issue (cycle_of a.address)) a.start
+      b.start p.start (rw (← i, ← d) at q.start) in
+      let finish : a.finish ≡ b.finish = omega arith in
+      (start, finish, same_end config older s a.finish a.end b.end p.end (rw (← finish) at q.end))
+]
 
 pub times_same : (config : Configuration) (older : List Done) (s : Step) (a b : Times) → IsTimed config older s a
     → IsTimed config older s b → a ≡ b
@@ -202,27 +186,16 @@ times_same config older s a b x y =
     let i : a.issue ≡ b.issue = least_same (can_issue config older s) a.issue b.issue x.issue y.issue in
     let d : a.address ≡ b.address =
     same_address older s a.issue a.address b.address x.address (rw (← i) at y.address) in
-    let run = same_run config older s (step_unit s) a b refl x y i d in
+    let run = same_run config older s a b x y i d in
     same_record a b i d run.0 run.1 run.2
     (same_station older (step_pool s) a.issue a.station b.station x.station (rw (← i) at y.station))
-
-same_done : (d : Done) (older : List Done) (at : Times) (others : List Done) → d.at ≡ at → older ≡ others
-    → (d ∷ older) ≡ (record { step = d.step; at = at } ∷ others)
-same_done d older at others e f =
-    let g : Times → List Done = λ (a : Times). record { step = d.step; at = a } ∷ older in
-    let h : List Done → List Done = λ (o : List Done). record { step = d.step; at = at } ∷ o in
-    ap g e ∙ ap h f
 
 -- a history with the relation's times is the function's
 pub timed_of-same : (config : Configuration) (h : List Done) → IsWithinLimits config → AreTimed config h
     → h ≡ timed_of config (map (λ d. d.step) h)
 timed_of-same config [] good timed = refl
 timed_of-same config (d ∷ older) good timed =
-    let e : older ≡ timed_of config (map (λ d. d.step) older) = timed_of-same config older good timed.1 in
     let at : d.at ≡ times_of config older d.step =
     times_same config older d.step d.at (times_of config older d.step) timed.0
     (times_are config older d.step good timed.1) in
-    let at2 : times_of config older d.step ≡ times_of config (timed_of config (map (λ d. d.step) older)) d.step =
-    ap (λ h. times_of config h d.step) e in
-    same_done d older (times_of config (timed_of config (map (λ d. d.step) older)) d.step)
-    (timed_of config (map (λ d. d.step) older)) (at ∙ at2) e
+    rw (← timed_of-same config older good timed.1, ← at) refl

@@ -147,44 +147,30 @@ module _ (config other : Configuration) (older : List Done) (d : Done)
             (station_back (step_pool d.step) t refl low high q.2 slot q.3))),
       )
 
-  unit_back : (u : UnitId) (t : ℕ) → step_unit d.step ≡ Some u → d.at.issue < t → t < d.at.start
-      → has_operands older d.step t ≡ true → nat_lt (cycle_of d.at.address) t ≡ true
-      → are_conflicts_finished older d.step t ≡ true
-      → has_unit other older u t ≡ true → has_unit config older u t ≡ true
-  unit_back u t e low high operands address conflicts there = elim (stands (Units u)) [
-    | inl same ↦ rw same at there
-    | inr none ↦
-        let z = rw (e, own_unit u) at none.0 in
-        let no : (waits_of config older d).unit ≡ 0 = omega arith in
-        let f : lacks_unit older d t ≡ false =
-        none_that (lacks_unit older d) (d.at.issue + 1) d.at.start t no (omega arith) high in
-        let g : true ≡ false = rw (operands, address, conflicts) at f in absurd (cc)
-  ]
-
-  unit_there : (u : UnitId) → step_unit d.step ≡ Some u → has_unit config older u d.at.start ≡ true
-      → has_unit other older u d.at.start ≡ true
-  unit_there u e there = elim (stands (Units u)) [
-    | inl same ↦ rw same there
-    | inr none ↦
-        let m = rw (e, own_unit u) at none.1 in
-        lt-ltb (count_by (λ x. is_of u (step_unit x.step) && x.at.start == d.at.start) older) (option_of other u).units
-        (omega arith)
-  ]
-
   starts_with : (u : UnitId) → step_unit d.step ≡ Some u
       → IsLeast (can_start config older d.step u d.at.issue (cycle_of d.at.address)) d.at.start
       → IsLeast (can_start other older d.step u d.at.issue (cycle_of d.at.address)) d.at.start
-  starts_with u e is =
-      let two = and_parts _ (has_unit config older u d.at.start) is.0 in (
-        and_from _ _ two.0 (unit_there u e two.1),
-        λ t high. false_from_ne_true (can_start other older d.step u d.at.issue (cycle_of d.at.address) t) (λ can.
-            let left = and_parts _ (has_unit other older u t) can in
-            let finished = and_parts _ (are_conflicts_finished older d.step t) left.0 in
-            let operands = and_parts _ (has_operands older d.step t) finished.0 in
-            let after = and_parts (nat_lt d.at.issue t) (nat_lt (cycle_of d.at.address) t) operands.0 in
-            both_ways _ (is.1 t high) (and_from _ _ left.0 (unit_back u t e (ltb-true d.at.issue t after.0) high
-            operands.1 after.1 finished.1 left.1))),
-      )
+  starts_with u e is = elim (stands (Units u)) [
+    | inl same ↦ least_agree (can_start config older d.step u d.at.issue (cycle_of d.at.address))
+        (can_start other older d.step u d.at.issue (cycle_of d.at.address)) d.at.start (λ t. rw same refl) is
+    | inr none ↦
+        let z = rw (e, own_unit u) at none.0 in
+        let m = rw (e, own_unit u) at none.1 in
+        let no : (waits_of config older d).unit ≡ 0 = omega arith in (
+          and_from _ _ (and_parts _ _ is.0).0
+              (lt-ltb (count_by (λ x. is_of u (step_unit x.step) && x.at.start == d.at.start) older)
+              (option_of other u).units (omega arith)),
+          λ t high. false_from_ne_true (can_start other older d.step u d.at.issue (cycle_of d.at.address) t) (λ can.
+              let left = and_parts _ (has_unit other older u t) can in
+              let finished = and_parts _ (are_conflicts_finished older d.step t) left.0 in
+              let operands = and_parts _ (has_operands older d.step t) finished.0 in
+              let after = and_parts (nat_lt d.at.issue t) (nat_lt (cycle_of d.at.address) t) operands.0 in
+              let f : lacks_unit older d t ≡ false =
+              none_that (lacks_unit older d) (d.at.issue + 1) d.at.start t no
+              (omega (arith, ltb-true d.at.issue t after.0)) high in
+              let g : true ≡ false = rw (operands.1, after.1, finished.1) at f in absurd (cc)),
+        )
+  ]
 
   ends_with : is_some (step_dest d.step) ≡ true → IsLeast (can_end config older d.at.finish) d.at.end
       → IsLeast (can_end other older d.at.finish) d.at.end

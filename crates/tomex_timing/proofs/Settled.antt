@@ -1,9 +1,9 @@
 -- After the greatest end of a history nothing in it blocks a next step.
 use Rattle.std.proofs.Common.{ℕ, ◌+◌, ◌<◌, ◌≤◌, ◌≡◌, Bool, true, false, arith, refl, List, [], ◌∷◌, Option, Some, None}
-use Rattle.std.proofs.Common.{inl, inr, zero, suc}
-use Rattle.std.specs.Prelude.{nat_lt, nat_le, ◌==◌, not, ◌&&◌, ◌||◌, is_some, count_by}
+use Rattle.std.proofs.Common.{inl, inr, zero, suc, nat_le, ◌==◌, ◌&&◌, is_some, count_by, All, IfSome, IsTrue}
 use Rattle.std.specs.List.{list_all, AllByRecursion}
-use Rattle.std.proofs.lemmas.Bool.{cases_Bool, lt-ltb, le-leb, lt-leb, ne_eqb, and_from, and_right, or_right}
+use Rattle.std.proofs.lemmas.Bool.{cases_Bool, lt-leb, ne_eqb, and_right}
+use Rattle.std.proofs.lemmas.List.Elements.{All-from_recursion, All-weaker}
 use Rattle.std.proofs.lemmas.List.Sums.{sum_by-cons}
 use Rattle.tomex_rvdec.specs.Meaning.{form_of}
 use Rattle.tomex_rvdec.specs.Operands.{dest_at, unless_zero}
@@ -14,13 +14,13 @@ use Rattle.tomex_rvdec.specs.declared.pool.UnitId.{UnitId}
 use Rattle.tomex_steps.specs.Steps.{step_pool, step_unit, step_dest, j_of, k_of, is_branch, is_in, is_number}
 use Rattle.tomex_steps.specs.declared.step.Operand.{Operand}
 use Rattle.tomex_steps.specs.declared.step.Step.{Step}
-use Rattle.tomex_config.specs.Configuration.{Configuration, IsWithinLimits, stations_of, option_of}
+use Rattle.tomex_config.specs.Configuration.{Configuration, IsWithinLimits, stations_of}
 use Rattle.tomex_timing.specs.declared.times.Done.{Done}
 use Rattle.tomex_timing.specs.History.{is_of, is_memory, cycle_of, writer_end, source_end, last_issue, last_address}
-use Rattle.tomex_timing.specs.Station.{is_held, has_station}
-use Rattle.tomex_timing.specs.Recurrence.{can_issue, can_address, can_start, can_end, can_issue_another, has_unit}
-use Rattle.tomex_timing.specs.Recurrence.{are_branches_finished, conflicts, are_conflicts_finished}
+use Rattle.tomex_timing.specs.Station.{is_held}
+use Rattle.tomex_timing.specs.Recurrence.{can_issue, can_address, can_start, can_end, conflicts}
 use Rattle.tomex_timing.proofs.Limits.{stations_low, units_low, buses_low, width_low}
+use Rattle.tomex_timing.proofs.Tests.{can_address_from, can_end_from, can_issue_from, can_start_from}
 
 -- no time of the step lies past the cycle
 pub record IsDoneBy (g : ℕ) (d : Done) : Type 0 where
@@ -102,65 +102,53 @@ results_none h g t by l =
     (λ d k. and_right (is_some (step_dest d.step)) (d.at.end == t)
     (ne_eqb d.at.end t (λ (e : d.at.end ≡ t). absurd (omega (arith, k.end))))) h by
 
-has_slot_after : (config : Configuration) (older : List Done) (g t : ℕ) → IsWithinLimits config → AllBy g older → g < t
-    → can_issue_another config older t ≡ true
-has_slot_after config older g t good h l =
-    let by : last_issue older ≤ g = last_issue_by g older h in
-    and_from _ _ (le-leb (last_issue older) t (omega arith))
-    (rw (count_none (λ (d : Done). d.at.issue == t) (IsDoneBy g)
-    (λ d by. ne_eqb d.at.issue t (λ (e : d.at.issue ≡ t). absurd (omega (arith, by.issue)))) older h)
-    (lt-ltb 0 config.width (width_low config good)))
+-- and each step has finished
+finished_by : (p : Done → Bool) (older : List Done) (g t : ℕ) → AllBy g older → g < t
+    → All (λ d. IsTrue (p d) → d.at.finish < t) older
+finished_by p older g t h l = All-weaker (IsDoneBy g) (λ d. IsTrue (p d) → d.at.finish < t)
+    (λ d by is. omega (arith, by.finish)) older (All-from_recursion (IsDoneBy g) older h)
 
-branches_after : (older : List Done) (g t : ℕ) → AllBy g older → g < t → are_branches_finished older t ≡ true
-branches_after older g t h l =
-    all_pass (λ (d : Done). not (is_branch d.step) || nat_lt d.at.finish t) (IsDoneBy g)
-    (λ d by. or_right (not (is_branch d.step)) (nat_lt d.at.finish t)
-    (lt-ltb d.at.finish t (omega (arith, by.finish)))) older h
-
-has_station_after : (config : Configuration) (older : List Done) (pool : Option PoolId) (g t : ℕ)
-    → IsWithinLimits config → AllBy g older → g < t → has_station config older pool t ≡ true
-has_station_after config older None g t good h l = refl
-has_station_after config older (Some pool) g t good h l =
+station_left_after : (config : Configuration) (older : List Done) (x : Option PoolId) (g t : ℕ) → IsWithinLimits config
+    → AllBy g older → g < t → IfSome x (λ pool. count_by (is_held pool t) older < stations_of config pool)
+station_left_after config older None g t good h l = tt
+station_left_after config older (Some pool) g t good h l =
     rw (count_none (is_held pool t) (IsDoneBy g) (λ d by. and_right (is_in pool (step_pool d.step)) (nat_le t d.at.end)
-    (lt-leb t d.at.end (omega (arith, by.end)))) older h)
-    (lt-ltb 0 (stations_of config pool) (stations_low config pool good))
+    (lt-leb t d.at.end (omega (arith, by.end)))) older h) (stations_low config pool good)
 
 pub can_issue_after : (config : Configuration) (older : List Done) (s : Step) (g : ℕ) → IsWithinLimits config
     → AllBy g older → can_issue config older s (g + 1) ≡ true
-can_issue_after config older s g good h =
-    and_from _ _ (and_from _ _ (and_from _ _ (lt-ltb 0 (g + 1) (omega arith))
-    (has_slot_after config older g (g + 1) good h (omega arith))) (branches_after older g (g + 1) h (omega arith)))
-    (has_station_after config older (step_pool s) g (g + 1) good h (omega arith))
+can_issue_after config older s g good h = can_issue_from config older s (g + 1) (record {
+  first = omega arith;
+  in_order = omega (arith, last_issue_by g older h);
+  slot_left = rw (count_none (λ (d : Done). d.at.issue == g + 1) (IsDoneBy g)
+      (λ d by. ne_eqb d.at.issue (g + 1) (λ (e : d.at.issue ≡ g + 1). absurd (omega (arith, by.issue)))) older h)
+      (width_low config good);
+  branches_finished = finished_by (λ d. is_branch d.step) older g (g + 1) h (omega arith);
+  station_left = station_left_after config older (step_pool s) g (g + 1) good h (omega arith);
+})
 
 pub can_address_after : (older : List Done) (s : Step) (issue g : ℕ) → AllBy g older → issue ≤ g + 1
     → can_address older s issue (g + 2) ≡ true
-can_address_after older s issue g h i =
-    let a : source_end older (j_of s) ≤ g = source_end_by g older (j_of s) h in
-    let b : last_address older ≤ g = last_address_by g older h in
-    and_from _ _ (and_from _ _ (lt-ltb issue (g + 2) (omega arith))
-    (lt-ltb (source_end older (j_of s)) (g + 2) (omega arith))) (lt-ltb (last_address older) (g + 2) (omega arith))
+can_address_after older s issue g h i = can_address_from older s issue (g + 2) (record {
+  after_issue = omega arith;
+  after_base = omega (arith, source_end_by g older (j_of s) h);
+  in_order = omega (arith, last_address_by g older h);
+})
 
 pub can_start_after : (config : Configuration) (older : List Done) (s : Step) (unit : UnitId) (issue address g : ℕ)
     → IsWithinLimits config → AllBy g older → issue ≤ g + 1 → address ≤ g + 2
     → can_start config older s unit issue address (g + 3) ≡ true
 can_start_after config older s unit issue address g good h i a =
-    let t = g + 3 in
-    let j : source_end older (j_of s) ≤ g = source_end_by g older (j_of s) h in
-    let k : source_end older (k_of s) ≤ g = source_end_by g older (k_of s) h in
-    let operands = and_from _ _ (lt-ltb (source_end older (j_of s)) (g + 3) (omega arith))
-    (lt-ltb (source_end older (k_of s)) (g + 3) (omega arith)) in
-    let finished : are_conflicts_finished older s (g + 3) ≡ true =
-    all_pass (λ (d : Done). not (conflicts d.step s) || nat_lt d.at.finish (g + 3)) (IsDoneBy g)
-    (λ d by. or_right (not (conflicts d.step s)) (nat_lt d.at.finish (g + 3))
-    (lt-ltb d.at.finish (g + 3) (omega (arith, by.finish)))) older h in
-    let left : has_unit config older unit (g + 3) ≡ true =
-    rw (starts_none older unit g (g + 3) h (omega arith))
-    (lt-ltb 0 (option_of config unit).units (units_low config unit good)) in
-    and_from _ _ (and_from _ _ (and_from _ _
-    (and_from _ _ (lt-ltb issue (g + 3) (omega arith)) (lt-ltb address (g + 3) (omega arith))) operands) finished)
-    left
+    can_start_from config older s unit issue address (g + 3) (record {
+      after_issue = omega arith;
+      after_address = omega arith;
+      after_j = omega (arith, source_end_by g older (j_of s) h);
+      after_k = omega (arith, source_end_by g older (k_of s) h);
+      conflicts_finished = finished_by (λ d. conflicts d.step s) older g (g + 3) h (omega arith);
+      unit_left = rw (starts_none older unit g (g + 3) h (omega arith)) (units_low config unit good);
+    })
 
 pub can_end_after : (config : Configuration) (older : List Done) (finish g t : ℕ) → IsWithinLimits config
     → AllBy g older → g < t → finish < t → can_end config older finish t ≡ true
-can_end_after config older finish g t good h l f =
-    and_from _ _ (lt-ltb finish t f) (rw (results_none older g t h l) (lt-ltb 0 config.buses (buses_low config good)))
+can_end_after config older finish g t good h l f = can_end_from config older finish t
+    (record { after_finish = f; bus_left = rw (results_none older g t h l) (buses_low config good) })

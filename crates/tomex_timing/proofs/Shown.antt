@@ -1,9 +1,8 @@
 -- What the evaluator holds shows a history: the latest cycles are those of the history, and each question about a cycle
 -- after its last issue is answered as over all its steps.
 use Rattle.std.proofs.Common.{ℕ, suc, ◌+◌, ◌<◌, ◌≤◌, ◌≡◌, ◌∙◌, Bool, true, false, cond, arith, refl, List, [], ◌∷◌}
-use Rattle.std.proofs.Common.{Option, Some, None, ap, inl, inr, sym, length}
-use Rattle.std.specs.Prelude.{◌==◌, count_by, slice_index, length, nat_lt, nat_le, not, ◌&&◌, is_some, replicate}
-use Rattle.std.specs.Option.{ForSome}
+use Rattle.std.proofs.Common.{Option, Some, None, ap, inl, inr, sym, length, IfSome}
+use Rattle.std.specs.Prelude.{◌==◌, count_by, slice_index, length, nat_lt, nat_le, not, ◌&&◌, is_some}
 use Rattle.std.proofs.lemmas.List.{get_or-replicate, get_or-set_same, get_or-set_other, length-set}
 use Rattle.std.proofs.lemmas.List.Sums.{sum_by-cons}
 use Rattle.std.proofs.lemmas.Bool.{cases_Bool, cases_eq, cases_order, eq-eqb, ne_eqb, MatchBool-at_true}
@@ -15,24 +14,22 @@ use Rattle.tomex_config.specs.Configuration.{Configuration, IsWithinLimits}
 use Rattle.tomex_timing.specs.declared.times.Done.{Done}
 use Rattle.tomex_timing.specs.declared.times.Times.{Times}
 use Rattle.tomex_timing.specs.declared.window.Latest.{Latest}
-use Rattle.tomex_timing.specs.Ahead.{end_in, IsSettledBy, is_past}
+use Rattle.tomex_timing.specs.Ahead.{Held, IsSettledBy, end_in, is_past, nothing_held}
 use Rattle.tomex_timing.specs.History.{is_memory, cycle_of, writer_end, source_end, last_issue, last_address}
 use Rattle.tomex_timing.specs.History.{greatest_end, is_of}
 use Rattle.tomex_timing.specs.Recurrence.{IsLeast, IsTimed, AreTimed, can_address, are_conflicts_finished}
-use Rattle.tomex_timing.specs.Window.{facts_of, register_of, nothing_yet, written_by, addressed_by, latest_after}
+use Rattle.tomex_timing.specs.Window.{facts_of, register_of, written_by, addressed_by, latest_after}
 use Rattle.tomex_timing.proofs.Search.{address_pos}
 use Rattle.tomex_timing.proofs.Settled.{AllBy, IsDoneBy, all_pass, starts_none, results_none, last_address_by}
 use Rattle.tomex_timing.proofs.Settled.{last_issue_by, writer_end_by, writer_of_zero}
 use Rattle.tomex_timing.proofs.Splits.{branch_finish}
 use Rattle.tomex_timing.proofs.Width.{issue_from, none_later}
-use Rattle.std.specs.List.{list_all, AllByRecursion}
-use Rattle.std.proofs.lemmas.List.Elements.{All-from_recursion}
+use Rattle.std.specs.List.{list_all, All}
+use Rattle.std.proofs.lemmas.List.Elements.{All-nil}
 use Rattle.tomex_rvdec.specs.Parts.{place_of_unit}
 use Rattle.tomex_rvdec.specs.declared.pool.PoolId.{PoolId}
 use Rattle.tomex_rvdec.specs.declared.pool.UnitId.{UnitId}
-use Rattle.tomex_timing.specs.declared.accesses.Access.{Access}
-use Rattle.tomex_reservations.specs.Reservations.{Reserved, bus_line, end_at, station_place, taken_at}
-use Rattle.tomex_timing.specs.Search.{history}
+use Rattle.tomex_reservations.specs.Reservations.{bus_line, end_at, station_place, taken_at}
 use Rattle.tomex_timing.specs.Station.{is_held, is_free}
 use Rattle.tomex_timing.proofs.Bound.{timed_by}
 use Rattle.tomex_timing.proofs.Limits.{pool_in, unit_in}
@@ -47,18 +44,6 @@ pub record IsKept (h : List Done) (latest : Latest) : Type 0 where
   pub address : latest.address ≡ last_address h
   pub end : latest.end ≡ greatest_end h
 
--- before the first step
-pub start_kept : IsKept [] nothing_yet
-start_kept = record {
-  ends = λ r l. get_or-replicate 32 r 0 0 l;
-  count = refl;
-  issue = refl;
-  issued = refl;
-  branch = refl;
-  address = refl;
-  end = refl;
-}
-
 pub branch_finish_by : (g : ℕ) (h : List Done) → AllBy g h → branch_finish h ≤ g
 branch_finish_by g [] h = omega arith
 branch_finish_by g (d ∷ older) h = elim (cases_Bool (is_branch d.step)) [
@@ -69,19 +54,19 @@ branch_finish_by g (d ∷ older) h = elim (cases_Bool (is_branch d.step)) [
 
 -- the ends of the operands' producers
 pub source_agree : (h : List Done) (ends : List ℕ) (o : Option Operand)
-    → ((r : ℕ) → r < 32 → slice_index ends r ≡ writer_end h r) → ForSome o (λ o. o.register < 32)
+    → ((r : ℕ) → r < 32 → slice_index ends r ≡ writer_end h r) → IfSome (register_of o) (λ r. r < 32)
     → end_in ends (register_of o) ≡ source_end h o
 source_agree h ends None same small = refl
-source_agree h ends (Some o) same small = same o.register (small o refl)
+source_agree h ends (Some o) same small = same o.register small
 
 writer_kept : (h : List Done) (d : Done) (dest : Option ℕ) (end : ℕ) (written : List ℕ) → step_dest d.step ≡ dest
     → d.at.end ≡ end → length written ≡ 32 → ((r : ℕ) → r < 32 → slice_index written r ≡ writer_end h r)
-    → ForSome dest (λ r. r < 32) → (r : ℕ) → r < 32 → slice_index (written_by dest end written) r ≡ writer_end (d ∷ h) r
+    → IfSome dest (λ r. r < 32) → (r : ℕ) → r < 32 → slice_index (written_by dest end written) r ≡ writer_end (d ∷ h) r
 writer_kept h d None end written e f len same small r l = rw e (same r l)
 writer_kept h d (Some q) end written e f len same small r l = elim (cases_eq q r) [
   | inl y ↦
       let b : (q == r) ≡ true = eq-eqb q r y in
-      let m : q < length written = rw len (small q refl) in
+      let m : q < length written = rw len small in
       rw (e, b, f, ← y) (get_or-set_same written q end 0 m)
   | inr n ↦
       let b : (q == r) ≡ false = ne_eqb q r n in
@@ -118,7 +103,7 @@ count_first : (d : Done) (h : List Done) → count_by (λ x. x.at.issue == d.at.
 count_first d h = rw (sum_by-cons, eq-eqb d.at.issue d.at.issue refl) (omega arith)
 
 pub kept_on : (config : Configuration) (h : List Done) (s : Step) (at : Times) (latest : Latest)
-    → ForSome (step_dest s) (λ r. r < 32) → AreTimed config h → IsKept h latest → IsTimed config h s at
+    → IfSome (step_dest s) (λ r. r < 32) → AreTimed config h → IsKept h latest → IsTimed config h s at
     → IsKept (record { step = s; at = at } ∷ h) (latest_after (facts_of s) at latest)
 kept_on config h s at latest small before kept timed =
     let l : last_issue h ≤ at.issue = issue_from config h s at.issue timed.issue.0 in
@@ -137,20 +122,19 @@ kept_on config h s at latest small before kept timed =
       end = rw kept.end refl;
     }
 
-pub record IsShown (h : List Done) (latest : Latest) (table : Reserved) (taken : List ℕ) (accesses : List Access) : Type
-    0 where
-  pub kept : IsKept h latest
-  pub base : table.base ≤ last_issue h
+pub record IsShown (h : List Done) (held : Held) : Type 0 where
+  pub kept : IsKept h held.latest
+  pub base : held.table.base ≤ last_issue h
   pub starts : (unit : UnitId) (t : ℕ) → last_issue h < t
-      → taken_at table (place_of_unit unit) t ≡ count_by (λ d. is_of unit (step_unit d.step) && d.at.start == t) h
+      → taken_at held.table (place_of_unit unit) t ≡ count_by (λ d. is_of unit (step_unit d.step) && d.at.start == t) h
   pub results : (t : ℕ) → last_issue h < t
-      → taken_at table bus_line t ≡ count_by (λ d. is_some (step_dest d.step) && d.at.end == t) h
+      → taken_at held.table bus_line t ≡ count_by (λ d. is_some (step_dest d.step) && d.at.end == t) h
   -- a station is free in a cycle if all steps that had it ended before
-  pub stations : (pool : PoolId) (t n : ℕ) → 0 < t → n < 16 → is_free pool h t n ≡ nat_lt (end_at taken pool n) t
-  pub size : length taken ≡ 96
+  pub stations : (pool : PoolId) (t n : ℕ) → 0 < t → n < 16 → is_free pool h t n ≡ nat_lt (end_at held.ends pool n) t
+  pub size : length held.ends ≡ 96
   pub conflicts : (s : Step) (t : ℕ) → last_issue h < t
-      → list_all (is_past (facts_of s) t) accesses ≡ are_conflicts_finished h s t
-  pub finishes : AllByRecursion (λ a. a.finish ≤ greatest_end h) accesses
+      → list_all (is_past (facts_of s) t) held.accesses ≡ are_conflicts_finished h s t
+  pub finishes : All (λ a. a.finish ≤ greatest_end h) held.accesses
 
 nothing_at : (line t : ℕ) → line < 6 → taken_at (record { base = 0; slots = [] }) line t ≡ 0
 nothing_at line t l = get_or-replicate 8 line 0 0 (omega arith)
@@ -158,10 +142,17 @@ nothing_at line t l = get_or-replicate 8 line 0 0 (omega arith)
 place_low : (pool : PoolId) (n : ℕ) → n < 16 → station_place pool n < 96
 place_low pool n l = omega (arith, pool_in pool)
 
-nothing_shown : (config : Configuration) → IsShown (history config []) nothing_yet (record { base = 0; slots = [] })
-    (replicate 96 0) []
-nothing_shown config = record {
-  kept = start_kept;
+pub nothing_shown : IsShown [] nothing_held
+nothing_shown = record {
+  kept = record {
+    ends = λ r l. get_or-replicate 32 r 0 0 l;
+    count = refl;
+    issue = refl;
+    issued = refl;
+    branch = refl;
+    address = refl;
+    end = refl;
+  };
   base = omega arith;
   starts = λ unit t l. nothing_at (place_of_unit unit) t (omega (arith, unit_in unit));
   results = λ t l. nothing_at 5 t (omega arith);
@@ -169,14 +160,8 @@ nothing_shown config = record {
       (lt-ltb 0 t pos));
   size = refl;
   conflicts = λ s t l. refl;
-  finishes = tt;
+  finishes = All-nil (λ a. a.finish ≤ 0);
 }
-
--- before the first step nothing is held
-pub start_shown : (config : Configuration) {latest : Latest} {table : Reserved} {taken : List ℕ}
-    {accesses : List Access} → latest ≡ nothing_yet → table ≡ record { base = 0; slots = [] } → taken ≡ replicate 96 0
-    → accesses ≡ [] → IsShown (history config []) latest table taken accesses
-start_shown config a b c d = rw (a, b, c, d) (nothing_shown config)
 
 free_after : (pool : PoolId) (g t n : ℕ) (h : List Done) → AllBy g h → g < t → is_free pool h t n ≡ true
 free_after pool g t n h by l =
@@ -186,26 +171,25 @@ free_after pool g t n h by l =
     rw f refl) h by
 
 -- so nothing that is held does
-pub settled_by : (config : Configuration) (h : List Done) (latest : Latest) (table : Reserved) (taken : List ℕ)
-    (accesses : List Access) → IsWithinLimits config → AreTimed config h → IsShown h latest table taken accesses
-    → IsSettledBy latest table taken accesses
-settled_by config h latest table taken accesses good timed shown =
+pub settled_by : (config : Configuration) (h : List Done) (held : Held) → IsWithinLimits config → AreTimed config h
+    → IsShown h held → IsSettledBy held
+settled_by config h held good timed shown =
     let by : AllBy (greatest_end h) h = timed_by config h good timed in
-    let e : latest.end ≡ greatest_end h = shown.kept.end in
+    let e : held.latest.end ≡ greatest_end h = shown.kept.end in
     let i : last_issue h ≤ greatest_end h = last_issue_by (greatest_end h) h by in
-    let kept : IsKept h latest = shown.kept in
+    let kept : IsKept h held.latest = shown.kept in
     record {
       base = rw shown.kept.issue shown.base;
       starts = λ unit t l. shown.starts unit t (omega arith) ∙ starts_none h unit (greatest_end h) t by (omega arith);
       results = λ t l. shown.results t (omega arith) ∙ results_none h (greatest_end h) t by (omega arith);
       stations = λ pool n l.
-          let free : nat_lt (end_at taken pool n) (greatest_end h + 1) ≡ true =
+          let free : nat_lt (end_at held.ends pool n) (greatest_end h + 1) ≡ true =
           sym (shown.stations pool (greatest_end h + 1) n (omega arith) l)
           ∙ free_after pool (greatest_end h) (greatest_end h + 1) n h by (omega arith) in
-          let low : end_at taken pool n < greatest_end h + 1 =
-          ltb-true (end_at taken pool n) (greatest_end h + 1) free in
+          let low : end_at held.ends pool n < greatest_end h + 1 =
+          ltb-true (end_at held.ends pool n) (greatest_end h + 1) free in
           omega arith;
-      finishes = rw e (All-from_recursion (λ a. a.finish ≤ greatest_end h) accesses shown.finishes);
+      finishes = rw e shown.finishes;
       ends = λ r l. rw (kept.ends r l, e) (writer_end_by (greatest_end h) h r by);
       zero = shown.kept.ends 0 (omega arith) ∙ writer_of_zero h;
       issue = rw (kept.issue, e) i;

@@ -1,14 +1,14 @@
 -- One step more: what is held then shows the longer history.
-use Rattle.std.proofs.Common.{ℕ, ◌<◌, ◌≤◌, ◌≡◌, ◌≢◌, ◌∙◌, Bool, true, false, arith, refl, inl, inr, List, [], ◌∷◌, ◌++◌}
+use Rattle.std.proofs.Common.{ℕ, ◌<◌, ◌≤◌, ◌≡◌, ◌≢◌, ◌∙◌, Bool, true, false, arith, refl, inl, inr, List, [], ◌∷◌}
 use Rattle.std.proofs.Common.{Option, Some, None, length, max}
 use Rattle.std.specs.Prelude.{nat_lt, nat_le, ◌==◌, not, ◌&&◌, is_some, slice_set, MatchOption}
-use Rattle.std.specs.Option.{ForSome}
-use Rattle.std.specs.List.{filter, list_all, AllByRecursion}
-use Rattle.std.proofs.lemmas.Bool.{and_right, cases_Bool, and_parts, eq-eqb, eqb-true, lt-ltb, le-ltb, leb-false}
-use Rattle.std.proofs.lemmas.Bool.{leb-true, or_right}
+use Rattle.std.specs.List.{filter, list_all, All}
+use Rattle.std.proofs.lemmas.Bool.{and_right, cases_Bool, and_parts, eq-eqb, eqb-true, lt-ltb, leb-false, or_right}
 use Rattle.std.proofs.lemmas.List.{get_or-set_same, get_or-set_other, length-set}
+use Rattle.std.proofs.lemmas.List.Elements.{All-filter, All-push, All-weaker}
 use Rattle.std.proofs.lemmas.List.Folds.{list_all-append}
 use Rattle.std.proofs.lemmas.List.Sums.{sum_by-cons}
+use Rattle.std.proofs.lemmas.Bool.Decides.{nat_tests}
 use Rattle.tomex_rvdec.specs.Parts.{place_of_pool}
 use Rattle.tomex_rvdec.specs.declared.pool.PoolId.{PoolId}
 use Rattle.tomex_steps.specs.Steps.{step_pool, step_unit, step_dest, bytes_of, is_in, is_number, is_store}
@@ -20,19 +20,17 @@ use Rattle.tomex_timing.specs.declared.next.Next.{Next}
 use Rattle.tomex_timing.specs.declared.times.Done.{Done}
 use Rattle.tomex_timing.specs.declared.times.Times.{Times}
 use Rattle.tomex_timing.specs.declared.window.Facts.{Facts}
-use Rattle.tomex_timing.specs.declared.window.Latest.{Latest}
-use Rattle.tomex_reservations.specs.Reservations.{Reserved, end_at, station_place}
-use Rattle.tomex_timing.specs.Ahead.{IsTableAfter, TakesStation, accesses_after, accesses_with, ends_after, ends_with}
-use Rattle.tomex_timing.specs.Ahead.{is_past, one}
+use Rattle.tomex_reservations.specs.Reservations.{end_at, station_place}
+use Rattle.tomex_timing.specs.Ahead.{Held, IsHeldAfter, TakesStation, accesses_with, ends_with, is_past, one}
 use Rattle.tomex_timing.specs.History.{is_of, last_issue, greatest_end}
 use Rattle.tomex_timing.specs.Laws.{InReach}
-use Rattle.tomex_timing.specs.Recurrence.{IsTimed, are_conflicts_finished}
+use Rattle.tomex_timing.specs.Recurrence.{are_conflicts_finished}
 use Rattle.tomex_timing.specs.Station.{is_free}
-use Rattle.tomex_timing.specs.Window.{facts_of, latest_after}
+use Rattle.tomex_timing.specs.Window.{facts_of}
 use Rattle.tomex_timing.proofs.Bools.{and_assoc, and_swap, and_true}
 use Rattle.tomex_timing.proofs.Shown.{kept_on, IsShown}
 use Rattle.tomex_timing.proofs.Limits.{pool_in, stations_high}
-use Rattle.tomex_timing.proofs.NextTimed.{ComesNext}
+use Rattle.tomex_timing.proofs.NextTimed.{ComesNext, next_timed}
 use Rattle.tomex_timing.proofs.Orders.{dest_unit, reach}
 use Rattle.tomex_timing.proofs.Width.{issue_from}
 
@@ -82,10 +80,7 @@ station_turn pool (Some p) station taken free issue end t n later l size takes e
     ])
   where
     held : (end t before : ℕ) → before ≤ end → (not (true && nat_le t end) && nat_lt before t) ≡ nat_lt end t
-    held end t before l = elim (cases_Bool (nat_le t end)) [
-      | inl y ↦ let k : t ≤ end = leb-true t end y in rw (y, le-ltb end t k) refl
-      | inr y ↦ let k : end < t = leb-false t end y in rw (y, lt-ltb before t (omega arith), lt-ltb end t k) refl
-    ]
+    held end t before l = grind (arith, nat_tests)
 
 -- the accesses: those that are let go of have finished before the cycle
 all_kept : (p q : Access → Bool) (xs : List Access) → ((x : Access) → q x ≡ false → p x ≡ true)
@@ -118,27 +113,16 @@ accesses_turn y s at h (Some bytes) accesses t of l e =
     ) (and_swap (are_conflicts_finished h y t)
     (is_past (facts_of y) t (record { bytes = bytes; is_store = is_store s; finish = at.finish })))
 
-finishes_later : (g k : ℕ) (xs : List Access) → g ≤ k → AllByRecursion (λ a. a.finish ≤ g) xs
-    → AllByRecursion (λ a. a.finish ≤ k) xs
-finishes_later g k [] l h = tt
-finishes_later g k (a ∷ xs) l h = (omega (arith, h.0), finishes_later g k xs l h.1)
-
-finishes_kept : (g : ℕ) (q : Access → Bool) (xs : List Access) (x : Access) → AllByRecursion (λ a. a.finish ≤ g) xs
-    → x.finish ≤ g → AllByRecursion (λ a. a.finish ≤ g) (filter q xs ++ (x ∷ []))
-finishes_kept g q [] x h l = (l, tt)
-finishes_kept g q (a ∷ xs) x h l = elim (cases_Bool (q a)) [
-  | inl y ↦ rw y (h.0, finishes_kept g q xs x h.1 l)
-  | inr y ↦ rw y (finishes_kept g q xs x h.1 l)
-]
-
 finishes_turn : (f : Facts) (at : Times) (x : Option ByteRange) (g : ℕ) (accesses : List Access) → at.finish ≤ at.end
-    → AllByRecursion (λ a. a.finish ≤ g) accesses
-    → AllByRecursion (λ a. a.finish ≤ max at.end g) (accesses_with x f at accesses)
-finishes_turn f at None g accesses l h = finishes_later g (max at.end g) accesses (omega arith) h
+    → All (λ a. a.finish ≤ g) accesses → All (λ a. a.finish ≤ max at.end g) (accesses_with x f at accesses)
+finishes_turn f at None g accesses l h =
+    All-weaker (λ a. a.finish ≤ g) (λ a. a.finish ≤ max at.end g) (λ a k. omega arith) accesses h
 finishes_turn f at (Some bytes) g accesses l h =
-    finishes_kept (max at.end g) (λ a. nat_le at.issue a.finish) accesses
+    let later : All (λ a. a.finish ≤ max at.end g) accesses =
+    All-weaker (λ a. a.finish ≤ g) (λ a. a.finish ≤ max at.end g) (λ a k. omega arith) accesses h in
+    All-push (λ a. a.finish ≤ max at.end g) (filter (λ a. nat_le at.issue a.finish) accesses)
     (record { bytes = bytes; is_store = f.is_store; finish = at.finish })
-    (finishes_later g (max at.end g) accesses (omega arith) h) (omega arith)
+    (All-filter (λ a. nat_le at.issue a.finish) (λ a. a.finish ≤ max at.end g) accesses later) (omega arith)
 
 -- the station that a step takes had been given back before
 had_ended : (config : Configuration) (taken : List ℕ) (x : Option PoolId) (from issue : ℕ) (station : Option ℕ)
@@ -162,19 +146,19 @@ bus_same s b = elim (cases_Bool (is_some (step_dest s))) [
   | inr y ↦ rw (y, and_right (is_some (step_unit s)) false refl) refl
 ]
 
-module _ {config : Configuration} {h : List Done} {latest : Latest} {table : Reserved} {taken : List ℕ}
-    {accesses : List Access} {s : Step} {next : Next} (c : ComesNext config h latest table taken accesses s next) where
-  pub shown_turn : {after : Reserved} → ForSome (step_dest s) (λ r. r < 32) → IsTimed config h s next.at
-      → IsTableAfter (facts_of s) next.at table after
-      → IsShown (record { step = s; at = next.at } ∷ h) (latest_after (facts_of s) next.at latest) after
-      (ends_after (facts_of s) next.at taken) (accesses_after (facts_of s) next.at accesses)
-  shown_turn small is tabled =
+module _ {config : Configuration} {h : List Done} {held : Held} {s : Step} {next : Next}
+    (c : ComesNext config h held s next) where
+  pub shown_turn : {after : Held} → IsHeldAfter (facts_of s) next.at held after
+      → IsShown (record { step = s; at = next.at } ∷ h) after
+  shown_turn is_after =
+      let is = next_timed c in
       let l : last_issue h ≤ next.at.issue = issue_from config h s next.at.issue is.issue.0 in
       let r : InReach (greatest_end h) next.at =
       reach config (record { step = s; at = next.at }) h c.good (is, c.timed) in
-      let shown : IsShown h latest table taken accesses = c.shown in
+      let shown : IsShown h held = c.shown in
+      let tabled = is_after.table in
       record {
-        kept = kept_on config h s next.at latest small c.timed shown.kept is;
+        kept = rw is_after.latest (kept_on config h s next.at held.latest c.registers.dest c.timed shown.kept is);
         base = tabled.base;
         starts = λ unit t m. tabled.starts unit t (omega arith) ∙ rw (
           shown.starts unit t (omega arith),
@@ -186,12 +170,13 @@ module _ {config : Configuration} {h : List Done} {latest : Latest} {table : Res
           shown.results t (omega arith),
           sum_by-cons (λ d. one (is_some (step_dest d.step) && d.at.end == t)) (record { step = s; at = next.at }) h,
         ) (omega arith);
-        stations = λ pool t n pos m.
-            station_turn pool (step_pool s) next.at.station taken (is_free pool h t n) next.at.issue next.at.end t n
-            r.issue m shown.size (had_ended config taken (step_pool s) next.marks.from next.at.issue next.at.station
-            (λ p. stations_high config p c.good) c.by.issue) (shown.stations pool t n pos m);
-        size = size_after (step_pool s) next.at.station next.at.end taken shown.size;
-        conflicts = λ y t m. accesses_turn y s next.at h (bytes_of s) accesses t refl m
-            (shown.conflicts y t (omega arith));
-        finishes = finishes_turn (facts_of s) next.at (bytes_of s) (greatest_end h) accesses r.finish shown.finishes;
+        stations = λ pool t n pos m. rw is_after.ends
+            (station_turn pool (step_pool s) next.at.station held.ends (is_free pool h t n) next.at.issue next.at.end
+            t n r.issue m shown.size (had_ended config held.ends (step_pool s) next.marks.from next.at.issue
+            next.at.station (λ p. stations_high config p c.good) c.by.issue) (shown.stations pool t n pos m));
+        size = rw is_after.ends (size_after (step_pool s) next.at.station next.at.end held.ends shown.size);
+        conflicts = λ y t m. rw is_after.accesses (accesses_turn y s next.at h (bytes_of s) held.accesses t refl m
+            (shown.conflicts y t (omega arith)));
+        finishes = rw is_after.accesses (finishes_turn (facts_of s) next.at (bytes_of s) (greatest_end h) held.accesses
+            r.finish shown.finishes);
       }

@@ -1,16 +1,15 @@
 -- The tests of the recurrence, split by the first cycle in which each of their parts passes.
-use Rattle.std.proofs.Common.{ℕ, ◌+◌, ◌<◌, ◌≤◌, ◌≡◌, Bool, true, false, cond, arith, refl, List, [], ◌∷◌}
-use Rattle.std.proofs.Common.{add-one, inl, inr, max}
-use Rattle.std.specs.Prelude.{nat_lt, nat_le, ◌==◌, ◌&&◌, count_by}
-use Rattle.std.proofs.lemmas.Bool.{cases_Bool, cases_order, leb-true, leb-false, lt-ltb}
-use Rattle.std.proofs.lemmas.Bool.{le-leb, lt-leb}
+use Rattle.std.proofs.Common.{◌∙◌, sym, ℕ, ◌+◌, ◌≤◌, ◌≡◌, Bool, cond, arith, refl, List, [], ◌∷◌, add-one, inl, inr}
+use Rattle.std.proofs.Common.{max, nat_lt, nat_le, ◌==◌, ◌&&◌, count_by}
+use Rattle.std.proofs.lemmas.Bool.{cases_Bool, cases_order, lt-ltb, le-leb, lt-leb}
+use Rattle.std.proofs.lemmas.Bool.Decides.{nat_tests}
 use Rattle.tomex_steps.specs.Steps.{j_of, is_branch}
 use Rattle.tomex_steps.specs.declared.step.Step.{Step}
 use Rattle.tomex_config.specs.Configuration.{Configuration, IsWithinLimits}
 use Rattle.tomex_timing.specs.declared.times.Done.{Done}
 use Rattle.tomex_timing.specs.History.{source_end, last_issue, last_address}
-use Rattle.tomex_timing.specs.Recurrence.{IsLeast, AreTimed, can_address}
-use Rattle.tomex_timing.specs.Recurrence.{can_issue_another, are_branches_finished}
+use Rattle.tomex_timing.specs.Recurrence.{IsLeast, AreTimed, can_address, can_issue_another, are_branches_finished}
+use Rattle.tomex_timing.proofs.Bools.{and_assoc, and_swap}
 use Rattle.tomex_timing.proofs.Limits.{width_low}
 use Rattle.tomex_timing.proofs.Tests.{can_address_from, can_address_is}
 use Rattle.tomex_timing.proofs.Width.{none_later}
@@ -27,12 +26,10 @@ slot_from config h = cond (nat_lt (count_by (λ d. d.at.issue == last_issue h) h
 
 pub slot_range : (config : Configuration) (h : List Done) → (last_issue h ≤ slot_from config h)
     × (slot_from config h ≤ last_issue h + 1)
-slot_range config h = by (nat_lt (count_by (λ d. d.at.issue == last_issue h) h) config.width)
-  where
-    by : (b : Bool) → (last_issue h ≤ cond b (last_issue h) (last_issue h + 1))
-        × (cond b (last_issue h) (last_issue h + 1) ≤ last_issue h + 1)
-    by true = (omega arith, omega arith)
-    by false = (omega arith, omega arith)
+slot_range config h = elim (cases_Bool (nat_lt (count_by (λ d. d.at.issue == last_issue h) h) config.width)) [
+  | inl e ↦ rw e (omega arith, omega arith)
+  | inr e ↦ rw e (omega arith, omega arith)
+]
 
 -- and later than each branch's finish
 abbrev pub from_of : Configuration → List Done → ℕ
@@ -40,13 +37,7 @@ from_of config h = max (slot_from config h) (branch_finish h + 1)
 
 -- the first cycle from a greatest one on
 pub max_split : (a b t : ℕ) → nat_le (max a b) t ≡ (nat_le a t && nat_le b t)
-max_split a b t = elim (cases_Bool (nat_le a t)) [
-  | inl e ↦ let x : a ≤ t = leb-true a t e in elim (cases_Bool (nat_le b t)) [
-    | inl f ↦ let y : b ≤ t = leb-true b t f in rw (e, f) (le-leb (max a b) t (omega arith))
-    | inr f ↦ let y : t < b = leb-false b t f in rw (e, f) (lt-leb (max a b) t (omega arith))
-  ]
-  | inr e ↦ let x : t < a = leb-false a t e in rw e (lt-leb (max a b) t (omega arith))
-]
+max_split a b t = grind (arith, nat_tests)
 
 -- a cycle from the next one on is later
 pub after_split : (a t : ℕ) → nat_le (a + 1) t ≡ nat_lt a t
@@ -66,28 +57,20 @@ slot_split config h t good timed = elim (cases_order (last_issue h) t) [
       le-leb (last_issue h) (last_issue h) (omega arith),
     ) refl
   ]
-  | inr (inl l) ↦ rw (
-    none_later config h t timed l,
-    lt-ltb 0 config.width (width_low config good),
-    le-leb (last_issue h) t (omega arith),
-  ) (either (nat_lt (count_by (λ d. d.at.issue == last_issue h) h) config.width) l)
-  | inr (inr l) ↦ rw (lt-leb (last_issue h) t l)
-      (neither (nat_lt (count_by (λ d. d.at.issue == last_issue h) h) config.width) l)
+  | inr (inl l) ↦
+      let low = (slot_range config h).1 in
+      rw (
+        none_later config h t timed l,
+        lt-ltb 0 config.width (width_low config good),
+        le-leb (last_issue h) t (omega arith),
+      ) (le-leb (slot_from config h) t (omega (arith, low)))
+  | inr (inr l) ↦
+      let high = (slot_range config h).0 in
+      rw (lt-leb (last_issue h) t l) (lt-leb (slot_from config h) t (omega (arith, high)))
 ]
-  where
-    either : (b : Bool) → last_issue h < t → nat_le (cond b (last_issue h) (last_issue h + 1)) t ≡ true
-    either true l = le-leb (last_issue h) t (omega arith)
-    either false l = le-leb (last_issue h + 1) t (omega arith)
-
-    neither : (b : Bool) → t < last_issue h → nat_le (cond b (last_issue h) (last_issue h + 1)) t ≡ false
-    neither true l = lt-leb (last_issue h) t l
-    neither false l = lt-leb (last_issue h + 1) t (omega arith)
 
 swap_and : (a b c : Bool) → (a && (b && c)) ≡ (b && (a && c))
-swap_and true true c = refl
-swap_and true false c = refl
-swap_and false true c = refl
-swap_and false false c = refl
+swap_and a b c = rw (← and_assoc a b c, and_swap a b) (and_assoc b a c)
 
 -- later than the latest finish of a branch is later than each
 pub branch_split : (h : List Done) (t : ℕ) → nat_le (branch_finish h + 1) t ≡ (nat_lt 0 t && are_branches_finished h t)
@@ -104,33 +87,16 @@ branch_split (d ∷ h) t = elim (cases_Bool (is_branch d.step)) [
 pub issue_split : (config : Configuration) (h : List Done) (t : ℕ) → IsWithinLimits config → AreTimed config h
     → nat_le (from_of config h) t ≡ ((nat_lt 0 t && can_issue_another config h t) && are_branches_finished h t)
 issue_split config h t good timed =
-    rw (
-      max_split (slot_from config h) (branch_finish h + 1) t,
-      slot_split config h t good timed,
-      branch_split h t,
-    ) (reorder (can_issue_another config h t) (nat_lt 0 t) (are_branches_finished h t))
-  where
-    reorder : (slot pos branches : Bool) → (slot && (pos && branches)) ≡ ((pos && slot) && branches)
-    reorder true true c = refl
-    reorder true false c = refl
-    reorder false true c = refl
-    reorder false false c = refl
+    rw (max_split (slot_from config h) (branch_finish h + 1) t, slot_split config h t good timed, branch_split h t)
+    (swap_and (can_issue_another config h t) (nat_lt 0 t) (are_branches_finished h t)
+    ∙ sym (and_assoc (nat_lt 0 t) (can_issue_another config h t) (are_branches_finished h t)))
 
 pub ready_split : (issue address j k t : ℕ) → nat_le (max (max issue address) (max j k) + 1) t
     ≡ ((nat_lt issue t && nat_lt address t) && (nat_lt j t && nat_lt k t))
 ready_split issue address j k t =
     let e : max (max issue address) (max j k) + 1 ≡ max (max (issue + 1) (address + 1)) (max (j + 1) (k + 1)) =
     omega arith in
-    rw (
-      e,
-      max_split (max (issue + 1) (address + 1)) (max (j + 1) (k + 1)) t,
-      max_split (issue + 1) (address + 1) t,
-      max_split (j + 1) (k + 1) t,
-      after_split issue t,
-      after_split address t,
-      after_split j t,
-      after_split k t,
-    ) refl
+    rw (e, max_split, max_split, max_split, after_split, after_split, after_split, after_split) refl
 
 pub address_agree : (h : List Done) (s : Step) (issue : ℕ)
     → IsLeast (can_address h s issue) (max (max issue (source_end h (j_of s))) (last_address h) + 1)

@@ -1,9 +1,9 @@
 -- Where fewer of a pool's stations are held than there are, one of them is free.
 use Rattle.std.proofs.Common.{ℕ, zero, suc, ◌+◌, ◌<◌, ◌≤◌, ◌≡◌, Bool, true, false, cond, arith, refl, ◌⊎◌, inl, inr}
-use Rattle.std.proofs.Common.{List, [], ◌∷◌, Option, Some, None}
-use Rattle.std.specs.Prelude.{nat_lt, ◌==◌, not, ◌&&◌, count_by}
+use Rattle.std.proofs.Common.{List, [], ◌∷◌, Option, Some, None, nat_lt, ◌==◌, not, ◌&&◌, count_by}
 use Rattle.std.specs.List.{list_all}
-use Rattle.std.proofs.lemmas.Bool.{cases_Bool, cases_order, lt-ltb, le-ltb, ltb-true, ne_eqb, eq-eqb}
+use Rattle.std.proofs.lemmas.Bool.{cases_Bool, ltb-true}
+use Rattle.std.proofs.lemmas.Bool.Decides.{nat_tests}
 use Rattle.std.proofs.lemmas.List.Sums.{sum_by-cons}
 use Rattle.tomex_rvdec.specs.declared.pool.PoolId.{PoolId}
 use Rattle.tomex_config.specs.Configuration.{Configuration, stations_of}
@@ -39,16 +39,7 @@ abbrev pub one : Bool → ℕ
 one b = cond b 1 0
 
 split_number : (m n : ℕ) → one (nat_lt m (suc n)) ≡ one (nat_lt m n) + one (m == n)
-split_number m n = elim (cases_order m n) [
-  | inl e ↦ rw (e, lt-ltb n (suc n) (omega arith), le-ltb n n (omega arith), eq-eqb n n refl) refl
-  | inr (inl l) ↦ rw (lt-ltb m (suc n) (omega arith), lt-ltb m n l, ne_eqb m n (λ (e : m ≡ n). absurd (omega arith)))
-      refl
-  | inr (inr l) ↦ rw (
-    le-ltb m (suc n) (omega arith),
-    le-ltb m n (omega arith),
-    ne_eqb m n (λ (e : m ≡ n). absurd (omega arith)),
-  ) refl
-]
+split_number m n = grind (arith, nat_tests)
 
 split_one : (b : Bool) (st : Option ℕ) (n : ℕ) → one (b && lower st (suc n)) ≡ one (b && lower st n)
     + one (b && is_number st n)
@@ -87,9 +78,7 @@ pigeons held station xs (suc n) h =
     omega arith
 
 pub one_part : (a b : Bool) → one (a && b) ≤ one a
-one_part false b = omega arith
-one_part true false = omega arith
-one_part true true = omega arith
+one_part a b = grind (arith, nat_tests)
 
 pub part_count : {X : Type 0} (held : X → Bool) (station : X → Option ℕ) (n : ℕ) (xs : List X)
     → count_by (λ d. held d && lower (station d) n) xs ≤ count_by (held) xs

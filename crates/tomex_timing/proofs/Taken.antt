@@ -1,12 +1,9 @@
 -- No history takes more of a part than its configuration has; and what steps wait for is all in use in the cycles in
 -- which they wait for it, so then the history takes all that there is.
-use Rattle.std.proofs.Common.{ℕ, ◌+◌, ◌<◌, ◌≤◌, ◌≡◌, true, cond, arith, refl, inl, inr, List, [], ◌∷◌, Option, Some}
-use Rattle.std.proofs.Common.{None, zero, suc, ◌-◌, Bool, false, max}
-use Rattle.std.specs.Prelude.{◌==◌, ◌&&◌, count_by, is_some, MatchOption, nat_lt, nat_le, not}
-use Rattle.std.specs.Bool.{MatchBool}
-use Rattle.std.proofs.lemmas.Bool.{cases_Bool, MatchBool-at_true, cases_order, and_from, and_parts, eqb-true, le-leb}
-use Rattle.std.proofs.lemmas.Bool.{lt-ltb, ltb-false, MatchBool-at_false, not-true}
-use Rattle.tomex_rvdec.specs.Parts.{place_of_pool, place_of_unit}
+use Rattle.std.proofs.Common.{ℕ, ◌+◌, ◌<◌, ◌≤◌, ◌≡◌, true, arith, refl, inl, inr, List, [], ◌∷◌, Some, zero, suc, ◌-◌}
+use Rattle.std.proofs.Common.{Bool, false, max, ◌==◌, ◌&&◌, count_by, is_some, nat_lt, nat_le, not}
+use Rattle.std.proofs.lemmas.Bool.{cases_Bool, cases_order, and_from, and_parts, eqb-true, le-leb, lt-ltb, ltb-false}
+use Rattle.std.proofs.lemmas.Bool.{MatchBool-at_false, not-true}
 use Rattle.tomex_rvdec.specs.declared.pool.PoolId.{PoolId}
 use Rattle.tomex_rvdec.specs.declared.pool.UnitId.{UnitId}
 use Rattle.tomex_steps.specs.Steps.{step_pool, step_unit, step_dest, is_in}
@@ -16,82 +13,42 @@ use Rattle.tomex_timing.specs.declared.part.Part.TheVariants.{Stations, Units, B
 use Rattle.tomex_timing.specs.declared.times.Done.{Done}
 use Rattle.tomex_timing.specs.History.{is_of, cycle_of, last_issue}
 use Rattle.tomex_timing.specs.Laws.{PeakIsWithin, StalledPartsAreFull}
-use Rattle.tomex_timing.specs.Needs.{count_of, peak, stations_up_to, taken_by, cycles_that, lacks_width, lacks_station}
-use Rattle.tomex_timing.specs.Needs.{lacks_unit, stalls, waits_for, waits_of}
-use Rattle.tomex_timing.specs.Recurrence.{IsLeast, IsTimed, can_end, can_start, AreTimed, EndsAfter, can_issue_another}
-use Rattle.tomex_timing.specs.Recurrence.{are_branches_finished, can_issue, has_operands, are_conflicts_finished}
-use Rattle.tomex_timing.specs.Recurrence.{has_unit, has_bus}
-use Rattle.tomex_timing.specs.Station.{is_free, has_station, is_held}
+use Rattle.tomex_timing.specs.Needs.{count_of, peak, taken_by, cycles_that, lacks_width, lacks_station, lacks_unit}
+use Rattle.tomex_timing.specs.Needs.{stalls, waits_for, waits_of}
+use Rattle.tomex_timing.specs.Recurrence.{IsLeast, IsTimed, can_end, AreTimed, can_issue_another, are_branches_finished}
+use Rattle.tomex_timing.specs.Recurrence.{has_operands, are_conflicts_finished, has_unit, has_bus}
+use Rattle.tomex_timing.specs.Station.{has_station, is_held}
 use Rattle.tomex_timing.proofs.Holders.{number_low, stations_held}
-use Rattle.tomex_timing.proofs.Orders.{dest_unit}
-use Rattle.tomex_timing.proofs.Limits.{same_pool, same_unit}
-use Rattle.tomex_timing.proofs.Tests.{can_end_is, can_issue_is, can_start_is}
+use Rattle.tomex_timing.proofs.Orders.{result_end}
+use Rattle.tomex_timing.proofs.Limits.{pool_is, unit_is}
+use Rattle.tomex_timing.proofs.Tests.{IsAtOnce, at_once, can_end_is, can_issue_is, cases_unit, operation}
 use Rattle.std.specs.List.{range_with_len}
 use Rattle.std.proofs.lemmas.List.Sums.{sum_by-cons}
 use Rattle.tomex_timing.proofs.Bools.{last_fails}
 
 module _ (config : Configuration) (older : List Done) (d : Done) where
-  station_within : (pool : PoolId) (x : Option PoolId)
-      (station : Option ℕ) (R : PoolId → ℕ → Type 0) → step_pool d.step ≡ x → d.at.station ≡ station
-      → IsTimed config older d.step d.at → MatchOption x (station ≡ None) (λ p. (n : ℕ) × (station ≡ Some n) × R p n)
-      → cond (is_in pool x) (stations_up_to station) 0 ≤ stations_of config pool
-  station_within pool None station R e s is at = omega arith
-  station_within pool (Some p) station R e s is at = elim (cases_Bool (place_of_pool p == place_of_pool pool)) [
+  taken_within : (part : Part) → IsTimed config older d.step d.at → taken_by part older d ≤ count_of config part
+  taken_within (Stations pool) is = elim (cases_Bool (is_in pool (step_pool d.step))) [
     | inl y ↦
-        let same : p ≡ pool = same_pool p pool y in
-        let t : d.at.station ≡ Some at.0 = rw s at.1 in
-        let low : at.0 < stations_of config pool = number_low config d older pool at.0 is (rw same at e) t in
+        let of : step_pool d.step ≡ Some pool = pool_is pool (step_pool d.step) y in
+        let at = rw of at is.station in
+        let low : at.0 < stations_of config pool = number_low config d older pool at.0 is of at.1 in
         rw (y, at.1) (omega arith)
     | inr y ↦ rw y (omega arith)
   ]
-
-  unit_within : (unit : UnitId) (x : Option UnitId) → MatchOption x (d.at.start ≡ d.at.issue)
-      (λ u. IsLeast (can_start config older d.step u d.at.issue (cycle_of d.at.address)) d.at.start)
-      → cond (is_of unit x) (count_by (λ y. is_of unit (step_unit y.step) && y.at.start == d.at.start) older + 1) 0 ≤
-      (option_of config unit).units
-  unit_within unit None is = omega arith
-  unit_within unit (Some u) is = elim (cases_Bool (place_of_unit u == place_of_unit unit)) [
+  taken_within (Units unit) is = elim (cases_Bool (is_of unit (step_unit d.step))) [
     | inl y ↦
-        let same : u ≡ unit = same_unit u unit y in
-        let can = can_start_is config older d.step unit d.at.issue (cycle_of d.at.address) d.at.start
-        (rw same at is.0) in
-        let l : count_by (λ y. is_of unit (step_unit y.step) && y.at.start == d.at.start) older <
-        (option_of config unit).units = can.unit_left in
-        rw y (omega arith)
+        let left = (operation (unit_is unit (step_unit d.step) y) is).can.unit_left in
+        rw y (omega (arith, left))
     | inr y ↦ rw y (omega arith)
   ]
-
-  bus_within : (x : Option UnitId) → step_unit d.step ≡ x → MatchOption x (d.at.end ≡ d.at.issue)
-      (λ u. MatchBool (is_some (step_dest d.step)) (IsLeast (can_end config older d.at.finish) d.at.end)
-      (d.at.end ≡ d.at.finish))
-      → cond (is_some (step_dest d.step))
-      (count_by (λ y. is_some (step_dest y.step) && y.at.end == d.at.end) older + 1) 0 ≤ config.buses
-  bus_within x e is = elim (cases_Bool (is_some (step_dest d.step))) [
+  taken_within Buses is = elim (cases_Bool (is_some (step_dest d.step))) [
     | inl y ↦
-        let least : IsLeast (can_end config older d.at.finish) d.at.end =
-        unit_end x (rw e at (dest_unit d.step y)) y is in
-        let l : count_by (λ y. is_some (step_dest y.step) && y.at.end == d.at.end) older < config.buses =
-        (can_end_is config older d.at.finish d.at.end least.0).bus_left in
-        rw y (omega arith)
+        let left = (can_end_is config older d.at.finish d.at.end (result_end is y).0).bus_left in
+        rw y (omega (arith, left))
     | inr y ↦ rw y (omega arith)
   ]
-    where
-      unit_end : (x : Option UnitId) → is_some x ≡ true → is_some (step_dest d.step) ≡ true
-          → MatchOption x (d.at.end ≡ d.at.issue)
-          (λ u. MatchBool (is_some (step_dest d.step)) (IsLeast (can_end config older d.at.finish) d.at.end)
-          (d.at.end ≡ d.at.finish)) → IsLeast (can_end config older d.at.finish) d.at.end
-      unit_end None some dest is = absurd (cc)
-      unit_end (Some u) some dest is = MatchBool-at_true _ _ dest is
-
-  taken_within : (part : Part) → IsTimed config older d.step d.at → taken_by part older d ≤ count_of config part
-  taken_within (Stations pool) is =
-      station_within pool (step_pool d.step) d.at.station (λ p n. IsLeast (is_free p older d.at.issue) n)
-      refl refl is is.station
-  taken_within (Units unit) is = unit_within unit (step_unit d.step) is.start
-  taken_within Buses is = bus_within (step_unit d.step) refl is.end
-  taken_within Width is =
-      let can = can_issue_is config older d.step d.at.issue is.issue.0 in
-      omega (arith, can.slot_left)
+  taken_within Width is = omega (arith, (can_issue_is config older d.step d.at.issue is.issue.0).slot_left)
 
 pub peak_within : PeakIsWithin
 peak_within config [] part timed = omega arith
@@ -124,32 +81,12 @@ some_that p from to l =
 
 -- no cycle has more of a part in use than the greatest number
 
-issues_most : (h : List Done) (t : ℕ) → count_by (λ x. x.at.issue == t) h ≤ peak Width h
-issues_most [] t = omega arith
-issues_most (d ∷ h) t = let k = issues_most h t in elim (cases_Bool (d.at.issue == t)) [
-  | inl e ↦ let s : d.at.issue ≡ t = eqb-true d.at.issue t e in rw (sum_by-cons, e, s) (omega arith)
-  | inr e ↦ rw (sum_by-cons, e) (omega arith)
-]
-
-starts_most : (h : List Done) (u : UnitId) (t : ℕ) → count_by (λ x. is_of u (step_unit x.step) && x.at.start == t) h ≤
-    peak (Units u) h
-starts_most [] u t = omega arith
-starts_most (d ∷ h) u t = let k = starts_most h u t in
-    elim (cases_Bool (is_of u (step_unit d.step) && d.at.start == t)) [
-      | inl e ↦
-          let two = and_parts (is_of u (step_unit d.step)) (d.at.start == t) e in
-          let s : d.at.start ≡ t = eqb-true d.at.start t two.1 in
-          rw (sum_by-cons, e, two.0, s) (omega arith)
-      | inr e ↦ rw (sum_by-cons, e) (omega arith)
-    ]
-
-ends_most : (h : List Done) (t : ℕ) → count_by (λ x. is_some (step_dest x.step) && x.at.end == t) h ≤ peak Buses h
-ends_most [] t = omega arith
-ends_most (d ∷ h) t = let k = ends_most h t in elim (cases_Bool (is_some (step_dest d.step) && d.at.end == t)) [
-  | inl e ↦
-      let two = and_parts (is_some (step_dest d.step)) (d.at.end == t) e in
-      let s : d.at.end ≡ t = eqb-true d.at.end t two.1 in
-      rw (sum_by-cons, e, two.0, s) (omega arith)
+in_use : (part : Part) (q : Done → Bool) (h : List Done)
+    → ((d : Done) (older : List Done) → q d ≡ true → taken_by part older d ≡ count_by q older + 1)
+    → count_by q h ≤ peak part h
+in_use part q [] takes = omega arith
+in_use part q (d ∷ h) takes = let k = in_use part q h takes in elim (cases_Bool (q d)) [
+  | inl e ↦ rw (sum_by-cons, e) (omega (arith, takes d h e))
   | inr e ↦ rw (sum_by-cons, e) (omega arith)
 ]
 
@@ -166,99 +103,85 @@ module _ (config : Configuration) (older : List Done) (d : Done) where
       let order : nat_le (last_issue older) c.0 ≡ true = le-leb (last_issue older) c.0 (omega arith) in
       let none : nat_lt (count_by (λ x. x.at.issue == c.0) older) config.width ≡ false =
       last_fails _ _ order (not-true (can_issue_another config older c.0) fails) in
-      let most : count_by (λ x. x.at.issue == c.0) older ≤ peak Width older = issues_most older c.0 in
+      let most = in_use Width (λ x. x.at.issue == c.0) older
+      (λ x h e. rw (eqb-true x.at.issue c.0 e) refl) in
       let full : config.width ≤ count_by (λ x. x.at.issue == c.0) older =
       ltb-false (count_by (λ x. x.at.issue == c.0) older) config.width none in
       omega arith
 
-  station_full : (pool : PoolId) (x : Option PoolId)
-      → step_pool d.step ≡ x → AreTimed config older → IsTimed config older d.step d.at
-      → 0 < cond (is_in pool x) (waits_of config older d).station 0
+  station_full : (pool : PoolId) → AreTimed config older → IsTimed config older d.step d.at
+      → 0 < waits_for (Stations pool) d (waits_of config older d)
       → stations_of config pool ≤ peak (Stations pool) older
-  station_full pool None e timed is waits = absurd (omega arith)
-  station_full pool (Some p) e timed is waits = elim (cases_Bool (place_of_pool p == place_of_pool pool)) [
+  station_full pool timed is waits = elim (cases_Bool (is_in pool (step_pool d.step))) [
     | inr f ↦ let z : 0 < 0 = rw f at waits in absurd (omega arith)
     | inl f ↦
-        let same : p ≡ pool = same_pool p pool f in
         let w : 0 < (waits_of config older d).station = rw f at waits in
         let c = some_that (lacks_station config older) (max 1 (last_issue older)) d.at.issue w in
         let low : max 1 (last_issue older) ≤ c.0 = c.1 in
         let both = and_parts (are_branches_finished older c.0) (can_issue_another config older c.0) c.3 in
-        let cannot : can_issue config older d.step c.0 ≡ false = is.issue.1 c.0 c.2 in
         let none : has_station config older (step_pool d.step) c.0 ≡ false =
-        last_fails _ _ (and_from _ _ (and_from _ _ (lt-ltb 0 c.0 (omega arith)) both.1) both.0) cannot in
-        let left : nat_lt (count_by (is_held pool c.0) older) (stations_of config pool) ≡ false =
-        rw (e, same) at none in
-        let full : stations_of config pool ≤ count_by (is_held pool c.0) older =
-        ltb-false (count_by (is_held pool c.0) older) (stations_of config pool) left in
-        let most : count_by (is_held pool c.0) older ≤ peak (Stations pool) older =
-        stations_held config older pool c.0 timed (omega arith) in
+        last_fails _ _ (and_from _ _ (and_from _ _ (lt-ltb 0 c.0 (omega arith)) both.1) both.0) (is.issue.1 c.0 c.2) in
+        let full = ltb-false (count_by (is_held pool c.0) older) (stations_of config pool)
+        (rw (pool_is pool (step_pool d.step) f) at none) in
+        let most = stations_held config older pool c.0 timed (omega arith) in
         omega arith
   ]
 
-  unit_full : (unit : UnitId) (x : Option UnitId) → step_unit d.step ≡ x → IsTimed config older d.step d.at
-      → 0 < cond (is_of unit x) (waits_of config older d).unit 0
+  unit_full : (unit : UnitId) → IsTimed config older d.step d.at
+      → 0 < waits_for (Units unit) d (waits_of config older d)
       → (option_of config unit).units ≤ peak (Units unit) older
-  unit_full unit None e is waits = absurd (omega arith)
-  unit_full unit (Some u) e is waits = elim (cases_Bool (place_of_unit u == place_of_unit unit)) [
+  unit_full unit is waits = elim (cases_Bool (is_of unit (step_unit d.step))) [
     | inr f ↦ let z : 0 < 0 = rw f at waits in absurd (omega arith)
     | inl f ↦
-        let same : u ≡ unit = same_unit u unit f in
         let w : 0 < (waits_of config older d).unit = rw f at waits in
         let c = some_that (lacks_unit older d) (d.at.issue + 1) d.at.start w in
         let low : d.at.issue + 1 ≤ c.0 = c.1 in
-        let least : IsLeast (can_start config older d.step u d.at.issue (cycle_of d.at.address)) d.at.start =
-        rw e at is.start in
-        let cannot : can_start config older d.step u d.at.issue (cycle_of d.at.address) c.0 ≡ false = least.1 c.0 c.2 in
+        let start = (operation (unit_is unit (step_unit d.step) f) is).start in
         let conflicts = and_parts (has_operands older d.step c.0 && nat_lt (cycle_of d.at.address) c.0)
         (are_conflicts_finished older d.step c.0) c.3 in
         let operands = and_parts (has_operands older d.step c.0) (nat_lt (cycle_of d.at.address) c.0) conflicts.0 in
-        let none : has_unit config older u c.0 ≡ false =
+        let none : has_unit config older unit c.0 ≡ false =
         last_fails _ _ (and_from _ _ (and_from _ _ (and_from _ _ (lt-ltb d.at.issue c.0 (omega arith)) operands.1)
-        operands.0) conflicts.1) cannot in
-        let left : has_unit config older unit c.0 ≡ false = rw same at none in
-        let full : (option_of config unit).units ≤ count_by (λ x. is_of unit (step_unit x.step) && x.at.start == c.0)
-        older = ltb-false (count_by (λ x. is_of unit (step_unit x.step) && x.at.start == c.0) older)
-        (option_of config unit).units left in
-        let most : count_by (λ x. is_of unit (step_unit x.step) && x.at.start == c.0) older ≤ peak (Units unit) older =
-        starts_most older unit c.0 in
+        operands.0) conflicts.1) (start.1 c.0 c.2) in
+        let full = ltb-false (count_by (λ x. is_of unit (step_unit x.step) && x.at.start == c.0) older)
+        (option_of config unit).units none in
+        let most = in_use (Units unit) (λ x. is_of unit (step_unit x.step) && x.at.start == c.0) older (λ x h e.
+        let two = and_parts (is_of unit (step_unit x.step)) (x.at.start == c.0) e in
+        rw (two.0, eqb-true x.at.start c.0 two.1) refl) in
         omega arith
   ]
 
-  bus_full : (x : Option UnitId)
-      → MatchOption x (d.at.finish ≡ d.at.issue) (λ u. d.at.finish ≡ d.at.start + (option_of config u).latency - 1)
-      → MatchOption x (d.at.end ≡ d.at.issue) (λ u. EndsAfter config older d.step d.at.finish d.at.end)
-      → 0 < d.at.end - (d.at.finish + 1) → config.buses ≤ peak Buses older
-  bus_full None finish end waits =
-      let f : d.at.finish ≡ d.at.issue = finish in
-      let e : d.at.end ≡ d.at.issue = end in
-      absurd (omega arith)
-  bus_full (Some u) finish end waits = elim (cases_Bool (is_some (step_dest d.step))) [
-    | inr y ↦ let same : d.at.end ≡ d.at.finish =
-        MatchBool-at_false (IsLeast (can_end config older d.at.finish) d.at.end) (d.at.end ≡ d.at.finish) y end in
-        absurd (omega arith)
+  -- without a result nothing waits for a bus
+  no_bus_wait : IsTimed config older d.step d.at → is_some (step_dest d.step) ≡ false → d.at.end ≤ d.at.finish
+  no_bus_wait is none = elim (cases_unit d.step) [
+    | inl e ↦ let at : IsAtOnce d.at = at_once e is in omega arith
+    | inr u ↦ omega (
+      arith,
+      MatchBool-at_false (IsLeast (can_end config older d.at.finish) d.at.end) _ none (operation u.1 is).end,
+    )
+  ]
+
+  bus_full : IsTimed config older d.step d.at → 0 < d.at.end - (d.at.finish + 1) → config.buses ≤ peak Buses older
+  bus_full is waits = elim (cases_Bool (is_some (step_dest d.step))) [
+    | inr y ↦ absurd (omega (arith, no_bus_wait is y))
     | inl y ↦
-        let least : IsLeast (can_end config older d.at.finish) d.at.end =
-        MatchBool-at_true (IsLeast (can_end config older d.at.finish) d.at.end) (d.at.end ≡ d.at.finish) y end in
-        let cannot : can_end config older d.at.finish (d.at.finish + 1) ≡ false =
-        least.1 (d.at.finish + 1) (omega arith) in
         let none : has_bus config older (d.at.finish + 1) ≡ false =
-        rw (lt-ltb d.at.finish (d.at.finish + 1) (omega arith)) at cannot in
-        let full : config.buses ≤ count_by (λ x. is_some (step_dest x.step) && x.at.end == d.at.finish + 1) older =
-        ltb-false (count_by (λ x. is_some (step_dest x.step) && x.at.end == d.at.finish + 1) older) config.buses none
-        in
-        let most : count_by (λ x. is_some (step_dest x.step) && x.at.end == d.at.finish + 1) older ≤ peak Buses older =
-        ends_most older (d.at.finish + 1) in
+        last_fails _ _ (lt-ltb d.at.finish (d.at.finish + 1) (omega arith))
+        ((result_end is y).1 (d.at.finish + 1) (omega arith)) in
+        let full = ltb-false (count_by (λ x. is_some (step_dest x.step) && x.at.end == d.at.finish + 1) older)
+        config.buses none in
+        let most = in_use Buses (λ x. is_some (step_dest x.step) && x.at.end == d.at.finish + 1) older (λ x h e.
+        let two = and_parts (is_some (step_dest x.step)) (x.at.end == d.at.finish + 1) e in
+        rw (two.0, eqb-true x.at.end (d.at.finish + 1) two.1) refl) in
         omega arith
   ]
 
   step_full : (part : Part) → AreTimed config older
       → IsTimed config older d.step d.at → 0 < waits_for part d (waits_of config older d)
       → count_of config part ≤ peak part older
-  step_full (Stations pool) timed is waits =
-      station_full pool (step_pool d.step) refl timed is waits
-  step_full (Units unit) timed is waits = unit_full unit (step_unit d.step) refl is waits
-  step_full Buses timed is waits = bus_full (step_unit d.step) is.finish is.end waits
+  step_full (Stations pool) timed is waits = station_full pool timed is waits
+  step_full (Units unit) timed is waits = unit_full unit is waits
+  step_full Buses timed is waits = bus_full is waits
   step_full Width timed is waits = width_full waits
 
 all_in_use : (config : Configuration) (h : List Done) (part : Part) → AreTimed config h → 0 < stalls config part h

@@ -1,21 +1,21 @@
 -- A step passes a test of the recurrence in a cycle exactly if what the test says holds.
-use Rattle.std.proofs.Common.{ℕ, ◌<◌, ◌≡◌, Bool, true, IsTrue, refl, inl, inr, List, [], ◌∷◌, Option, Some}
-use Rattle.std.proofs.Common.{None}
-use Rattle.std.specs.Prelude.{nat_lt, nat_le, not, ◌||◌, IfSome, count_by}
+use Rattle.std.proofs.Common.{ℕ, ◌+◌, ◌-◌, ◌<◌, ◌≡◌, ◌⊎◌, Bool, true, false, IsTrue, refl, inl, inr, List, [], ◌∷◌}
+use Rattle.std.proofs.Common.{Option, Some, None, nat_lt, nat_le, not, ◌||◌, IfSome, count_by, is_some}
 use Rattle.std.specs.List.{list_all, AllByRecursion}
 use Rattle.std.proofs.lemmas.Bool.{and_from, and_parts, cases_Bool, le-leb, leb-true, lt-ltb, ltb-true, or_left}
 use Rattle.std.proofs.lemmas.Bool.{or_right}
 use Rattle.std.proofs.lemmas.List.Elements.{All-from_recursion, recursion_from_All}
 use Rattle.tomex_rvdec.specs.declared.pool.PoolId.{PoolId}
 use Rattle.tomex_rvdec.specs.declared.pool.UnitId.{UnitId}
-use Rattle.tomex_steps.specs.Steps.{step_pool, j_of, k_of, is_branch}
+use Rattle.tomex_steps.specs.Steps.{step_pool, step_unit, j_of, k_of, is_branch}
 use Rattle.tomex_steps.specs.declared.step.Step.{Step}
-use Rattle.tomex_config.specs.Configuration.{Configuration, stations_of}
+use Rattle.tomex_config.specs.Configuration.{Configuration, option_of, stations_of}
 use Rattle.tomex_timing.specs.declared.times.Done.{Done}
-use Rattle.tomex_timing.specs.History.{source_end, last_issue, last_address}
-use Rattle.tomex_timing.specs.Recurrence.{are_branches_finished, are_conflicts_finished, can_address, can_end}
-use Rattle.tomex_timing.specs.Recurrence.{can_issue, can_issue_another, can_start, conflicts, has_bus, has_operands}
-use Rattle.tomex_timing.specs.Recurrence.{has_unit}
+use Rattle.tomex_timing.specs.declared.times.Times.{Times}
+use Rattle.tomex_timing.specs.History.{cycle_of, source_end, last_issue, last_address}
+use Rattle.tomex_timing.specs.Recurrence.{EndsAfter, IsLeast, IsTimed, are_branches_finished, are_conflicts_finished}
+use Rattle.tomex_timing.specs.Recurrence.{can_address, can_end, can_issue, can_issue_another, can_start, conflicts}
+use Rattle.tomex_timing.specs.Recurrence.{has_bus, has_operands, has_unit}
 use Rattle.tomex_timing.specs.Station.{has_station, is_held}
 use Rattle.tomex_timing.specs.Tests.{CanAddress, CanEnd, CanIssue, CanStart}
 
@@ -123,3 +123,45 @@ can_end_is config older finish t h =
 pub can_end_from : (config : Configuration) (older : List Done) (finish t : ℕ) → CanEnd config older finish t
     → can_end config older finish t ≡ true
 can_end_from config older finish t can = and_from _ _ (lt-ltb finish t can.after_finish) (lt-ltb _ _ can.bus_left)
+
+-- the times of a step that uses a unit
+pub record IsOperation (config : Configuration) (older : List Done) (s : Step) (unit : UnitId) (at : Times) : Type 0
+  where
+    pub start : IsLeast (can_start config older s unit at.issue (cycle_of at.address)) at.start
+    pub can : CanStart config older s unit at.issue (cycle_of at.address) at.start
+    pub finish : at.finish ≡ at.start + (option_of config unit).latency - 1
+    pub end : EndsAfter config older s at.finish at.end
+
+pub operation : {config : Configuration} {older : List Done} {s : Step} {unit : UnitId} {at : Times}
+    → step_unit s ≡ Some unit → IsTimed config older s at → IsOperation config older s unit at
+operation {config} {older} {s} {unit} {at} e is =
+    let start : IsLeast (can_start config older s unit at.issue (cycle_of at.address)) at.start = rw e at is.start in
+    record {
+      start = start;
+      can = can_start_is config older s unit at.issue (cycle_of at.address) at.start start.0;
+      finish = rw e at is.finish;
+      end = rw e at is.end;
+    }
+
+-- and of one that uses none
+pub record IsAtOnce (at : Times) : Type 0 where
+  pub start : at.start ≡ at.issue
+  pub finish : at.finish ≡ at.issue
+  pub end : at.end ≡ at.issue
+
+pub at_once : {config : Configuration} {older : List Done} {s : Step} {at : Times} → step_unit s ≡ None
+    → IsTimed config older s at → IsAtOnce at
+at_once e is = record { start = rw e at is.start; finish = rw e at is.finish; end = rw e at is.end }
+
+pub cases_unit : (s : Step) → (step_unit s ≡ None) ⊎ ((unit : UnitId) × (step_unit s ≡ Some unit))
+cases_unit s = cases (step_unit s)
+  where
+    cases : (x : Option UnitId) → (x ≡ None) ⊎ ((unit : UnitId) × (x ≡ Some unit))
+    cases None = inl refl
+    cases (Some unit) = inr (unit, refl)
+
+pub unit_of : (s : Step) → is_some (step_unit s) ≡ true → (unit : UnitId) × (step_unit s ≡ Some unit)
+unit_of s some = elim (cases_unit s) [
+  | inl none ↦ let f : false ≡ true = rw none at some in absurd (cc)
+  | inr unit ↦ unit
+]

@@ -1,35 +1,32 @@
 -- The turns of the evaluator's loops: what is held before a step of a run, and after it.
 use Rattle.std.proofs.Common.{ℕ, ◌+◌, ◌*◌, ◌^◌, ◌<◌, ◌≤◌, ◌≡◌, ◌∙◌, arith, List, [], ◌∷◌, ◌++◌, Option, Some, None, ap}
-use Rattle.std.proofs.Common.{refl, sym, length, take}
-use Rattle.std.specs.Prelude.{nat_le, slice_index_or, IfSome, MatchOption, ◌==◌, count_by}
-use Rattle.std.specs.Option.{ForSome}
+use Rattle.std.proofs.Common.{refl, length, map, take, zero, suc}
+use Rattle.std.specs.Prelude.{nat_le, slice_index_or, IfSome, MatchOption, ◌==◌}
 use Rattle.std.proofs.lemmas.Bool.{and_parts, ltb-true}
-use Rattle.std.proofs.lemmas.List.{length-take-le, take_more}
+use Rattle.std.proofs.lemmas.List.{length-map, length-take-le, map-append, take_more}
+use Rattle.std.proofs.lemmas.List.Elements.{All-push}
 use Rattle.std.proofs.lemmas.List.Sums.{count_by-le-length}
 use Rattle.tomex_rvdec.specs.Parts.{place_of_unit}
 use Rattle.tomex_rvdec.specs.declared.pool.PoolId.{PoolId}
 use Rattle.tomex_rvdec.specs.declared.pool.UnitId.{UnitId}
-use Rattle.tomex_steps.specs.Steps.{step_dest, step_unit, j_of, k_of}
-use Rattle.tomex_steps.specs.declared.step.Operand.{Operand}
 use Rattle.tomex_steps.specs.declared.step.Step.{Step}
+use Rattle.tomex_steps.proofs.Fields.{bytes_of_memory}
 use Rattle.tomex_config.specs.Configuration.{Configuration, IsWithinLimits, option_of, stations_of}
 use Rattle.tomex_reservations.specs.Reservations.{IsFirst, Reserved, bus_line, is_left, taken_at}
-use Rattle.tomex_timing.specs.declared.accesses.Access.{Access}
 use Rattle.tomex_timing.specs.declared.needs.Needs.{Needs}
 use Rattle.tomex_timing.specs.declared.next.Next.{Next}
 use Rattle.tomex_timing.specs.declared.part.Waits.{Waits}
 use Rattle.tomex_timing.specs.declared.waiting.Taken.{Taken}
 use Rattle.tomex_timing.specs.declared.window.Facts.{Facts}
-use Rattle.tomex_timing.specs.declared.window.Latest.{Latest}
-use Rattle.tomex_timing.specs.Ahead.{CanKeep, IsIdle, IsNextBy, IsTableAfter, RunsOn, TakesBus, TakesStation}
-use Rattle.tomex_timing.specs.Ahead.{IsSettledBy, accesses_after, end_in, ends_after}
+use Rattle.tomex_timing.specs.Ahead.{CanKeep, Held, IsHeldAfter, IsIdle, IsNextBy, IsReady, RunsOn, TakesBus}
+use Rattle.tomex_timing.specs.Ahead.{TakesStation, end_in}
 use Rattle.tomex_timing.specs.History.{last_issue, greatest_end}
 use Rattle.tomex_timing.specs.Laws.{InReach}
-use Rattle.tomex_timing.specs.Needs.{AreNeeds, waits_in, waits_of}
+use Rattle.tomex_timing.specs.Needs.{AreNeeds, waits_in}
 use Rattle.tomex_timing.specs.Recurrence.{IsTimed}
 use Rattle.tomex_timing.specs.Search.{times_of, history, times_in}
 use Rattle.tomex_timing.specs.Waiting.{AreWithin, IsWithin, needs_after, taken_from, waits_by}
-use Rattle.tomex_timing.specs.Window.{HasRegisters, facts_of, register_of, latest_after}
+use Rattle.tomex_timing.specs.Window.{AreFacts, HasRegisters, facts_of}
 use Rattle.tomex_timing.proofs.Charges.{waits_are}
 use Rattle.tomex_timing.proofs.Histories.{are_timed, history_more, times_more, history_bound, length-history}
 use Rattle.tomex_timing.proofs.Limits.{buses_high, stations_high, units_high}
@@ -42,71 +39,73 @@ use Rattle.tomex_timing.proofs.ShownTurns.{shown_turn}
 use Rattle.tomex_timing.proofs.WaitLists.{needs_within, waits_within, waits_more}
 use Rattle.tomex_timing.proofs.Width.{issue_from}
 
--- what is held before a step is settled, and small
-pub record IsBounded (i : ℕ) (latest : Latest) (table : Reserved) (taken : List ℕ) (accesses : List Access) : Type 0
-  where
-    pub settled : IsSettledBy latest table taken accesses
-    pub end : latest.end ≤ 67 * i
-    pub branch : latest.branch ≤ 67 * i
-    pub issued : latest.issued ≤ i
-
-pub bounded : (config : Configuration) (steps : List Step) (i : ℕ) {latest : Latest} {table : Reserved} {taken : List ℕ}
-    {accesses : List Access} → IsWithinLimits config → i ≤ length steps
-    → IsShown (history config (take i steps)) latest table taken accesses → IsBounded i latest table taken accesses
-bounded config steps i {latest} {table} {taken} {accesses} good l shown =
-    let settled = settled_by config (history config (take i steps)) latest table taken accesses good
-    (are_timed config (take i steps) good) shown in
-    let b : greatest_end (history config (take i steps)) ≤ 67 * length (take i steps) =
-    history_bound config (take i steps) good in
-    let n : length (history config (take i steps)) ≡ length (take i steps) = length-history config (take i steps) in
+-- what is held before a step is small
+small : (config : Configuration) (steps : List Step) (i : ℕ) (held : Held) → IsWithinLimits config → i ≤ length steps
+    → IsShown (history config (take i steps)) held → (held.latest.end ≤ 67 * i) × (held.latest.issued ≤ i)
+small config steps i held good l shown =
+    let h = history config (take i steps) in
+    let b : greatest_end h ≤ 67 * length (take i steps) = history_bound config (take i steps) good in
+    let n : length h ≡ length (take i steps) = length-history config (take i steps) in
     let e : length (take i steps) ≡ i = length-take-le i steps l in
-    let k : latest.end ≡ greatest_end (history config (take i steps)) = shown.kept.end in
-    let m : latest.branch ≤ latest.end = settled.branch in
-    let few = count_by-le-length (λ d. d.at.issue == last_issue (history config (take i steps)))
-    (history config (take i steps)) in
-    let q : latest.issued ≡ count_by (λ d. d.at.issue == last_issue (history config (take i steps)))
-    (history config (take i steps)) = shown.kept.issued in
-    record { settled = settled; end = omega arith; branch = omega arith; issued = omega arith }
-
-register_low : (o : Option Operand) → IfSome (register_of o) (λ r. r < 32) → ForSome o (λ o. o.register < 32)
-register_low None h x e = absurd (cc)
-register_low (Some o) h x e = let k : o ≡ x = cc in rw (← k) h
-
-for_some : (o : Option ℕ) → IfSome o (λ r. r < 32) → ForSome o (λ r. r < 32)
-for_some None h x e = absurd (cc)
-for_some (Some r) h x e = let k : r ≡ x = cc in rw (← k) h
+    let few = count_by-le-length (λ d. d.at.issue == last_issue h) h in
+    (omega (arith, shown.kept.end), omega (arith, shown.kept.issued))
 
 -- the step of a run at a place
 pub record IsStep (config : Configuration) (steps : List Step) (i : ℕ) (x : Step) (f : Facts) : Type 0 where
   pub good : IsWithinLimits config
+  pub few : length steps < 2 ^ 56
   pub place : i < length steps
   pub at : slice_index_or steps i x ≡ x
   pub facts : f ≡ facts_of x
   pub registers : HasRegisters f
 
--- and what comes next with it, by what is held before
-pub record IsTurn (config : Configuration) (steps : List Step) (i : ℕ) (x : Step) (f : Facts) (latest : Latest)
-    (table : Reserved) (taken : List ℕ) (accesses : List Access) (next : Next) : Type 0 where
-  pub step : IsStep config steps i x f
-  pub shown : IsShown (history config (take i steps)) latest table taken accesses
-  pub by : IsNextBy config latest table taken accesses f next
+pub step_from : (config : Configuration) (steps : List Step) (i : ℕ) (x : Step) {f : Facts} → IsWithinLimits config
+    → length steps < 2 ^ 56 → i < length steps → slice_index_or steps i x ≡ x → f ≡ facts_of x → HasRegisters f
+    → IsStep config steps i x f
+step_from config steps i x good few place at facts registers =
+    record { good = good; few = few; place = place; at = at; facts = facts; registers = registers }
 
-pub turn_of : (config : Configuration) (steps : List Step) (i : ℕ) (x : Step) (f : Facts) {latest : Latest}
-    {table : Reserved} {taken : List ℕ} {accesses : List Access} {next : Next} → IsWithinLimits config
-    → i < length steps → slice_index_or steps i x ≡ x → f ≡ facts_of x → HasRegisters f
-    → IsShown (history config (take i steps)) latest table taken accesses
-    → IsNextBy config latest table taken accesses f next → IsTurn config steps i x f latest table taken accesses next
-turn_of config steps i x f good place at facts registers shown by = record {
-  step = record { good = good; place = place; at = at; facts = facts; registers = registers };
-  shown = shown;
-  by = by;
+-- the step whose facts are at a place
+step_at : (steps : List Step) (i : ℕ) (d : Facts) → i < length steps → (x : Step) × (slice_index_or steps i x ≡ x)
+    × (slice_index_or (map facts_of steps) i d ≡ facts_of x)
+step_at [] i d l = absurd (omega arith)
+step_at (x ∷ steps) zero d l = (x, refl, refl)
+step_at (x ∷ steps) (suc i) d l = step_at steps i d (omega arith)
+
+length_facts : (steps : List Step) (facts : List Facts) → AreFacts steps facts → length facts ≡ length steps
+length_facts steps facts are = rw are.are (length-map steps facts_of)
+
+pub step_of : (config : Configuration) (steps : List Step) (facts : List Facts) (i : ℕ) (d : Facts)
+    → IsWithinLimits config → AreFacts steps facts → i < length facts → length facts < 2 ^ 56 → (x : Step)
+    × IsStep config steps i x (slice_index_or facts i d)
+step_of config steps facts i d good are l few =
+    let n : length facts ≡ length steps = length_facts steps facts are in
+    let there = step_at steps i d (omega arith) in (
+      there.0,
+      step_from config steps i there.0 good (omega arith) (omega arith) there.1
+          (ap (λ fs. slice_index_or fs i d) are.are ∙ there.2) (are.registers i d l),
+    )
+
+-- one step's facts more
+pub facts_more : (steps : List Step) (facts : List Facts) (i : ℕ) (x : Step) (f : Facts) → i < length steps
+    → slice_index_or steps i x ≡ x → f ≡ facts_of x → HasRegisters f → AreFacts (take i steps) facts
+    → AreFacts (take (i + 1) steps) (facts ++ (f ∷ []))
+facts_more steps facts i x f l at of registers are = record {
+  are = rw (take_more steps i x l, at, map-append, of, are.are) refl;
+  registers = All-push HasRegisters facts f are.registers registers;
 }
 
-pub next_turn : {config : Configuration} {steps : List Step} {i : ℕ} {x : Step} {f : Facts} {latest : Latest}
-    {table : Reserved} {taken : List ℕ} {accesses : List Access} {next : Next} → IsStep config steps i x f
-    → IsShown (history config (take i steps)) latest table taken accesses
-    → IsNextBy config latest table taken accesses f next → IsTurn config steps i x f latest table taken accesses next
-next_turn step shown by = record { step = step; shown = shown; by = by }
+-- and what comes next with it, by what is held before
+pub record IsTurn (config : Configuration) (steps : List Step) (i : ℕ) (x : Step) (f : Facts) (held : Held)
+    (next : Next) : Type 0 where
+  pub step : IsStep config steps i x f
+  pub shown : IsShown (history config (take i steps)) held
+  pub by : IsNextBy config held f next
+
+pub turn_of : {config : Configuration} {steps : List Step} {i : ℕ} {x : Step} {f : Facts} {held : Held} {next : Next}
+    → IsStep config steps i x f → IsShown (history config (take i steps)) held → IsNextBy config held f next
+    → IsTurn config steps i x f held next
+turn_of step shown by = record { step = step; shown = shown; by = by }
 
 -- a step that is next can be kept
 not_full : (table : Reserved) (line most from t : ℕ) → most ≤ 8 → IsFirst from (is_left table line most) t
@@ -116,24 +115,23 @@ not_full table line most from t few first =
     ltb-true (taken_at table line t) most (and_parts (nat_le from t) (is_left table line most t) first.0).1 in
     omega arith
 
-units_fit : (config : Configuration) (table : Reserved) (accesses : List Access) (f : Facts) (j k : ℕ)
-    (x : Option UnitId) (next : Next) → IsWithinLimits config
-    → MatchOption x (IsIdle next) (RunsOn config table accesses f j k next)
-    → IfSome x (λ unit. taken_at table (place_of_unit unit) next.at.start < 255)
-units_fit config table accesses f j k None next good run = tt
-units_fit config table accesses f j k (Some u) next good run =
-    not_full table (place_of_unit u) (option_of config u).units next.marks.clear next.at.start
+units_fit : (config : Configuration) (held : Held) (f : Facts) (j k : ℕ) (x : Option UnitId) (next : Next)
+    → IsWithinLimits config → MatchOption x (IsIdle next) (RunsOn config held.table held.accesses f j k next)
+    → IfSome x (λ unit. taken_at held.table (place_of_unit unit) next.at.start < 255)
+units_fit config held f j k None next good run = tt
+units_fit config held f j k (Some u) next good run =
+    not_full held.table (place_of_unit u) (option_of config u).units next.marks.clear next.at.start
     (units_high config u good) run.start
 
-buses_fit : (config : Configuration) (table : Reserved) (accesses : List Access) (f : Facts) (j k : ℕ)
-    (x : Option UnitId) (dest : Option ℕ) (next : Next) → IsWithinLimits config → f.dest ≡ dest
-    → MatchOption x (IsIdle next) (RunsOn config table accesses f j k next)
-    → IfSome x (λ unit. IfSome dest (λ r. taken_at table bus_line next.at.end < 255))
-buses_fit config table accesses f j k None dest next good of run = tt
-buses_fit config table accesses f j k (Some u) None next good of run = tt
-buses_fit config table accesses f j k (Some u) (Some r) next good of run =
-    let end : TakesBus config table (Some r) next.at.finish next.at.end next.buses = rw of at run.end in
-    not_full table bus_line config.buses (next.at.finish + 1) next.at.end (buses_high config good) end.0
+buses_fit : (config : Configuration) (held : Held) (f : Facts) (j k : ℕ) (x : Option UnitId) (dest : Option ℕ)
+    (next : Next) → IsWithinLimits config → f.dest ≡ dest
+    → MatchOption x (IsIdle next) (RunsOn config held.table held.accesses f j k next)
+    → IfSome x (λ unit. IfSome dest (λ r. taken_at held.table bus_line next.at.end < 255))
+buses_fit config held f j k None dest next good of run = tt
+buses_fit config held f j k (Some u) None next good of run = tt
+buses_fit config held f j k (Some u) (Some r) next good of run =
+    let end : TakesBus config held.table (Some r) next.at.finish next.at.end next.buses = rw of at run.end in
+    not_full held.table bus_line config.buses (next.at.finish + 1) next.at.end (buses_high config good) end.0
 
 number_fits : (config : Configuration) (taken : List ℕ) (x : Option PoolId) (from issue : ℕ) (station : Option ℕ)
     → IsWithinLimits config → TakesStation config taken x from issue station → IfSome station (λ n. n < 16)
@@ -142,16 +140,14 @@ number_fits config taken (Some p) from issue station good takes =
     let there : takes.0 < stations_of config p = takes.2.there in
     rw takes.1 (omega (arith, stations_high config p good))
 
-module _ {config : Configuration} {steps : List Step} {i : ℕ} {x : Step} {f : Facts} {latest : Latest}
-    {table : Reserved} {taken : List ℕ} {accesses : List Access} {next : Next}
-    (turn : IsTurn config steps i x f latest table taken accesses next) where
-  comes : ComesNext config (history config (take i steps)) latest table taken accesses x next
+module _ {config : Configuration} {steps : List Step} {i : ℕ} {x : Step} {f : Facts} {held : Held} {next : Next}
+    (turn : IsTurn config steps i x f held next) where
+  comes : ComesNext config (history config (take i steps)) held x next
   comes = record {
     good = turn.step.good;
     timed = are_timed config (take i steps) turn.step.good;
     shown = turn.shown;
-    j = register_low (j_of x) (rw turn.step.facts at turn.step.registers.j);
-    k = register_low (k_of x) (rw turn.step.facts at turn.step.registers.k);
+    registers = rw turn.step.facts at turn.step.registers;
     by = rw turn.step.facts at turn.by;
   }
 
@@ -172,75 +168,84 @@ module _ {config : Configuration} {steps : List Step} {i : ℕ} {x : Step} {f : 
   one_more = take_more steps i x turn.step.place ∙ ap (λ y. take i steps ++ (y ∷ [])) turn.step.at
 
   longer : history config (take (i + 1) steps) ≡ record { step = x; at = next.at } ∷ history config (take i steps)
-  longer = rw one_more (history_more config (take i steps) x
-      ∙ ap (λ t. record { step = x; at = t } ∷ history config (take i steps)) (sym same_times))
+  longer = rw (one_more, same_times) (history_more config (take i steps) x)
 
-  pub held_turn : {after : Reserved} → IsTableAfter f next.at table after
-      → IsShown (history config (take (i + 1) steps)) (latest_after f next.at latest) after
-      (ends_after f next.at taken) (accesses_after f next.at accesses)
-  held_turn tabled =
-      let small : IfSome (step_dest x) (λ r. r < 32) = rw turn.step.facts at turn.step.registers.dest in
-      rw (longer, turn.step.facts)
-      (shown_turn comes (for_some (step_dest x) small) is_timed (rw turn.step.facts at tabled))
+  pub held_turn : {after : Held} → IsHeldAfter f next.at held after
+      → IsShown (history config (take (i + 1) steps)) after
+  held_turn is_after = rw longer (shown_turn comes (rw turn.step.facts at is_after))
 
   pub times_turn : times_in config (take (i + 1) steps) ≡ times_in config (take i steps) ++ (next.at ∷ [])
-  times_turn = rw one_more (times_more config (take i steps) x
-      ∙ ap (λ t. times_in config (take i steps) ++ (t ∷ [])) (sym same_times))
+  times_turn = rw (one_more, same_times) (times_more config (take i steps) x)
 
-  pub can_keep : length steps < 2 ^ 56 → CanKeep f next.at latest table
+  can_keep : held.latest.issued < 2 ^ 63 → CanKeep f next.at held
   can_keep few =
-      let place : i < length steps = turn.step.place in
-      let base : table.base ≤ last_issue (history config (take i steps)) = turn.shown.base in
+      let base : held.table.base ≤ last_issue (history config (take i steps)) = turn.shown.base in
       let issue : last_issue (history config (take i steps)) ≤ next.at.issue =
       issue_from config (history config (take i steps)) x next.at.issue is_timed.issue.0 in
-      let issued : latest.issued ≤ i = (bounded config steps i turn.step.good (omega arith) turn.shown).issued in
+      let j = end_in held.latest.ends f.j in
+      let k = end_in held.latest.ends f.k in
       record {
         register = turn.step.registers.dest;
-        few = omega arith;
-        station = number_fits config taken f.pool next.marks.from next.at.issue next.at.station turn.step.good
+        few = few;
+        station = number_fits config held.ends f.pool next.marks.from next.at.issue next.at.station turn.step.good
             turn.by.issue;
         reserve = record {
           base = omega arith;
-          start = start_after config (history config (take i steps)) x next.at (step_unit x) is_timed.start;
+          start = start_after config (history config (take i steps)) x next.at is_timed;
           end = reaches.issue;
-          units = units_fit config table accesses f (end_in latest.ends f.j) (end_in latest.ends f.k) f.unit next
-              turn.step.good turn.by.run;
-          buses = buses_fit config table accesses f (end_in latest.ends f.j) (end_in latest.ends f.k) f.unit f.dest
-              next turn.step.good refl turn.by.run;
+          units = units_fit config held f j k f.unit next turn.step.good turn.by.run;
+          buses = buses_fit config held f j k f.unit f.dest next turn.step.good refl turn.by.run;
         };
       }
 
-  pub waits_turn : {waits : Waits} → waits ≡ waits_by latest next.marks next.at
+  pub waits_turn : {waits : Waits} → waits ≡ waits_by held.latest next.marks next.at
       → waits_in config (take (i + 1) steps) ≡ waits_in config (take i steps) ++ (waits ∷ [])
-  waits_turn told =
-      rw (one_more, told ∙ waits_are comes is_timed) (waits_more config (take i steps) x
-      ∙ ap (λ t. waits_in config (take i steps)
-      ++ (waits_of config (history config (take i steps)) (record { step = x; at = t }) ∷ [])) (sym same_times))
+  waits_turn told = rw (one_more, told ∙ waits_are comes, same_times) (waits_more config (take i steps) x)
 
-  pub waits_small : {waits : Waits} → length steps < 2 ^ 28 → waits ≡ waits_by latest next.marks next.at
-      → AreWithin (2 ^ 62) waits
-  waits_small few told =
+  pub waits_small : {facts : List Facts} {waits : Waits} → AreFacts steps facts → length facts < 2 ^ 28
+      → waits ≡ waits_by held.latest next.marks next.at → AreWithin (2 ^ 62) waits
+  waits_small {facts} are few told =
+      let n : length facts ≡ length steps = length_facts steps facts are in
       let place : i < length steps = turn.step.place in
       let b : greatest_end (history config (take i steps)) ≤ 67 * length (take i steps) =
       history_bound config (take i steps) turn.step.good in
       let e : length (take i steps) ≡ i = length-take-le i steps (omega arith) in
       let end : next.at.end ≤ greatest_end (history config (take i steps)) + 67 = reaches.end in
-      rw (told ∙ waits_are comes is_timed) (waits_within config (history config (take i steps))
+      rw (told ∙ waits_are comes) (waits_within config (history config (take i steps))
       (record { step = x; at = next.at }) (2 ^ 62) reaches (omega arith))
 
-  pub needs_turn : {needs : Needs} {waits : Waits} {takes : Taken} → waits ≡ waits_by latest next.marks next.at
-      → takes ≡ taken_from latest next → AreNeeds config (history config (take i steps)) needs
+  pub needs_turn : {needs : Needs} {waits : Waits} {takes : Taken} → waits ≡ waits_by held.latest next.marks next.at
+      → takes ≡ taken_from held.latest next → AreNeeds config (history config (take i steps)) needs
       → AreNeeds config (history config (take (i + 1) steps)) (needs_after f waits takes next.at needs)
   needs_turn {needs} {waits} {takes} told took are =
       rw (longer, turn.step.facts) (needs_more config (history config (take i steps))
-      (record { step = x; at = next.at }) needs waits takes are (told ∙ waits_are comes is_timed)
-      (λ part. rw took (taken_is comes is_timed part)))
+      (record { step = x; at = next.at }) needs waits takes are (told ∙ waits_are comes)
+      (λ part. rw took (taken_is comes part)))
 
-pub needs_small : (config : Configuration) (steps : List Step) (i : ℕ) (needs : Needs) → IsWithinLimits config
-    → i ≤ length steps → length steps < 2 ^ 28 → AreNeeds config (history config (take i steps)) needs
-    → IsWithin (2 ^ 63) needs
-needs_small config steps i needs good l few are =
+-- a step can be timed by what shows the steps before it, and kept
+pub ready : {config : Configuration} {steps : List Step} {i : ℕ} {x : Step} {f : Facts} {held : Held}
+    → IsStep config steps i x f → IsShown (history config (take i steps)) held → IsReady config held f
+ready {config} {steps} {i} {x} {f} {held} step shown =
+    let place : i < length steps = step.place in
+    let most : length steps < 2 ^ 56 = step.few in
+    let low = small config steps i held step.good (omega arith) shown in
+    let few : held.latest.issued < 2 ^ 63 = omega (arith, low.1) in
+    record {
+      registers = step.registers;
+      memory = rw step.facts (bytes_of_memory x);
+      settled = settled_by config (history config (take i steps)) held step.good
+          (are_timed config (take i steps) step.good) shown;
+      small = omega (arith, low.0);
+      few = few;
+      keeps = λ next by. can_keep (turn_of step shown by) few;
+    }
+
+pub needs_small : (config : Configuration) (steps : List Step) (facts : List Facts) (i : ℕ) (needs : Needs)
+    → IsWithinLimits config → AreFacts steps facts → i ≤ length facts → length facts < 2 ^ 28
+    → AreNeeds config (history config (take i steps)) needs → IsWithin (2 ^ 63) needs
+needs_small config steps facts i needs good are l few those =
+    let n : length facts ≡ length steps = length_facts steps facts are in
     let b : length (history config (take i steps)) ≡ length (take i steps) = length-history config (take i steps) in
-    let e : length (take i steps) ≡ i = length-take-le i steps l in
+    let e : length (take i steps) ≡ i = length-take-le i steps (omega arith) in
     needs_within config (history config (take i steps)) needs good (are_timed config (take i steps) good) (omega arith)
-    are
+    those

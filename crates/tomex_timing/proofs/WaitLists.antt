@@ -1,8 +1,7 @@
 -- The waits of a run's steps, in program order, grow by one step at a time, and add up to its stalls. No step waits
 -- longer than until its end, so the stalls of a run are no more than its steps times its cycles.
 use Rattle.std.proofs.Common.{ℕ, ◌+◌, ◌-◌, ◌*◌, ◌^◌, ◌<◌, ◌≤◌, ◌≡◌, Bool, arith, inl, inr, List, [], ◌∷◌, max, suc, ◌∙◌}
-use Rattle.std.proofs.Common.{refl, ◌++◌, ap, length, reverse}
-use Rattle.std.specs.Prelude.{count_by, length, All, sum_by}
+use Rattle.std.proofs.Common.{refl, ◌++◌, ap, length, reverse, count_by, All, sum_by}
 use Rattle.std.specs.List.{range_with_len}
 use Rattle.std.proofs.lemmas.Bool.{cases_Bool}
 use Rattle.std.proofs.lemmas.List.FromFn.{length-range_with_len}
@@ -39,24 +38,15 @@ cycles_few p from to =
 pub waits_within : (config : Configuration) (h : List Done) (d : Done) (n : ℕ) → InReach (greatest_end h) d.at
     → d.at.end ≤ n → AreWithin n (waits_of config h d)
 waits_within config h d n r l =
-    let i : d.at.issue ≤ d.at.end = r.issue in
-    let s : d.at.start ≤ d.at.end = r.start in
-    let low : ℕ = max 1 (last_issue h) in
-    let a = cycles_few (lacks_branch h) (max 1 (last_issue h)) d.at.issue in
-    let b = cycles_few (lacks_width config h) (max 1 (last_issue h)) d.at.issue in
-    let c = cycles_few (lacks_station config h) (max 1 (last_issue h)) d.at.issue in
-    let e = cycles_few (lacks_operand h d) (d.at.issue + 1) d.at.start in
-    let f = cycles_few (lacks_address h d) (d.at.issue + 1) d.at.start in
-    let g = cycles_few (lacks_memory h d) (d.at.issue + 1) d.at.start in
-    let u = cycles_few (lacks_unit h d) (d.at.issue + 1) d.at.start in
+    let low = max 1 (last_issue h) in
     record {
-      branch = omega arith;
-      width = omega arith;
-      station = omega arith;
-      operand = omega arith;
-      address = omega arith;
-      memory = omega arith;
-      unit = omega arith;
+      branch = omega (arith, cycles_few (lacks_branch h) low d.at.issue, r.issue);
+      width = omega (arith, cycles_few (lacks_width config h) low d.at.issue, r.issue);
+      station = omega (arith, cycles_few (lacks_station config h) low d.at.issue, r.issue);
+      operand = omega (arith, cycles_few (lacks_operand h d) (d.at.issue + 1) d.at.start, r.start);
+      address = omega (arith, cycles_few (lacks_address h d) (d.at.issue + 1) d.at.start, r.start);
+      memory = omega (arith, cycles_few (lacks_memory h d) (d.at.issue + 1) d.at.start, r.start);
+      unit = omega (arith, cycles_few (lacks_unit h d) (d.at.issue + 1) d.at.start, r.start);
       bus = omega arith;
     }
 
@@ -85,29 +75,22 @@ sum_within config f (d ∷ h) small good timed l =
 pub needs_within : (config : Configuration) (h : List Done) (needs : Needs) → IsWithinLimits config → AreTimed config h
     → length h < 2 ^ 28 → AreNeeds config h needs → IsWithin (2 ^ 63) needs
 needs_within config h needs good timed few are =
-    let g : greatest_end h ≤ 67 * length h = total_bound config h good timed in
-    let by : greatest_end h ≤ 2 ^ 35 = omega arith in
+    let by : greatest_end h ≤ 2 ^ 35 = omega (arith, total_bound config h good timed) in
     record {
-      parts = λ part. rw (are.parts part) (let s =
-          sum_within config (waits_for part) h (part_within part) good timed by in omega arith);
-      branch = rw are.branch (let s = sum_within config (λ d w. w.branch) h (λ d w n k. k.branch) good timed by in
-          omega arith);
-      operand = rw are.operand (let s = sum_within config (λ d w. w.operand) h (λ d w n k. k.operand) good timed by in
-          omega arith);
-      address = rw are.address (let s = sum_within config (λ d w. w.address) h (λ d w n k. k.address) good timed by in
-          omega arith);
-      memory = rw are.memory (let s = sum_within config (λ d w. w.memory) h (λ d w n k. k.memory) good timed by in
-          omega arith);
+      parts = λ part. rw (are.parts part)
+          (omega (arith, sum_within config (waits_for part) h (part_within part) good timed by));
+      branch = rw are.branch (omega (arith, sum_within config (λ d w. w.branch) h (λ d w n k. k.branch) good timed by));
+      operand = rw are.operand
+          (omega (arith, sum_within config (λ d w. w.operand) h (λ d w n k. k.operand) good timed by));
+      address = rw are.address
+          (omega (arith, sum_within config (λ d w. w.address) h (λ d w n k. k.address) good timed by));
+      memory = rw are.memory (omega (arith, sum_within config (λ d w. w.memory) h (λ d w n k. k.memory) good timed by));
     }
 
 pub waits_more : (config : Configuration) (xs : List Step) (x : Step)
     → waits_in config (xs ++ (x ∷ [])) ≡ waits_in config xs
     ++ (waits_of config (history config xs) (record { step = x; at = times_of config (history config xs) x }) ∷ [])
-waits_more config xs x =
-    let d : Done = record { step = x; at = times_of config (history config xs) x } in
-    let a : waits_in config (xs ++ (x ∷ [])) ≡ reverse (waits_over config (d ∷ history config xs)) =
-    ap (λ h. reverse (waits_over config h)) (history_more config xs x) in
-    a ∙ reverse-append (waits_of config (history config xs) d ∷ []) (waits_over config (history config xs))
+waits_more config xs x = rw (history_more config xs x) (reverse-append (_ ∷ []) (waits_over config (history config xs)))
 
 length-waits_over : (config : Configuration) (h : List Done) → length (waits_over config h) ≡ length h
 length-waits_over config [] = refl
@@ -121,11 +104,11 @@ length-waits_in config xs = length-reverse (waits_over config (history config xs
 sum_over_waits : (config : Configuration) (h : List Done) (cause : Waits → ℕ)
     → sum_by cause (reverse (waits_over config h)) ≡ stalls_by cause config h
 sum_over_waits config [] cause = refl
-sum_over_waits config (d ∷ h) cause =
-    let k : sum_by cause (reverse (waits_over config h)) ≡ stalls_by cause config h = sum_over_waits config h cause in
-    let a = ap (sum_by cause) (reverse-append (waits_of config h d ∷ []) (waits_over config h)) in
-    let b = sum_by_push cause (reverse (waits_over config h)) (waits_of config h d) in
-    a ∙ (b ∙ (omega arith))
+sum_over_waits config (d ∷ h) cause = rw (
+  reverse-append (waits_of config h d ∷ []) (waits_over config h),
+  sum_by_push cause (reverse (waits_over config h)) (waits_of config h d),
+  sum_over_waits config h cause,
+) (omega arith)
 
 pub waits_add_up : WaitsAddUp
 waits_add_up config steps cause = sum_over_waits config (history config steps) cause

@@ -2,7 +2,7 @@
 -- ends of the stations' steps, and the accesses under way; and the times that these give a next step.
 use Rattle.std.specs.Prelude.{ℕ, ◌+◌, ◌-◌, ◌^◌, ◌<◌, ◌≤◌, ◌≡◌, ◌==◌, nat_lt, nat_le, Bool, not, ◌&&◌}
 use Rattle.std.specs.Prelude.{◌||◌, if◌then◌else◌, List, [], ◌∷◌, ◌++◌, Option, Some, None, is_some, IfSome}
-use Rattle.std.specs.Prelude.{slice_index, slice_set, MatchOption, All}
+use Rattle.std.specs.Prelude.{replicate, slice_index, slice_set, MatchOption, All}
 use Rattle.std.specs.Bool.{MatchBool}
 use Rattle.std.specs.List.{list_all, filter}
 use Rattle.tomex_rvdec.specs.Parts.{place_of_unit}
@@ -15,12 +15,33 @@ use Rattle.tomex_timing.specs.declared.next.Next.{Next}
 use Rattle.tomex_timing.specs.declared.times.Times.{Times}
 use Rattle.tomex_timing.specs.declared.window.Facts.{Facts}
 use Rattle.tomex_timing.specs.declared.window.Latest.{Latest}
+use Rattle.tomex_timing.specs.declared.window.Window.{Window}
 use Rattle.tomex_timing.specs.History.{is_of}
 use Rattle.tomex_timing.specs.Recurrence.{shares_byte}
 use Rattle.tomex_timing.specs.Waiting.{operands_from}
-use Rattle.tomex_timing.specs.Window.{address_among, issue_from, ready_from}
+use Rattle.tomex_timing.specs.Window.{HasRegisters, address_among, is_memory_pool, issue_from, latest_after}
+use Rattle.tomex_timing.specs.Window.{nothing_yet, ready_from}
 use Rattle.tomex_reservations.specs.Reservations.{Reserved, IsFirst, IsFreeFirst, bus_line, end_at, is_left}
 use Rattle.tomex_reservations.specs.Reservations.{station_place, taken_at}
+
+-- all that is held of the earlier steps
+pub record Held : Type 0 where
+  pub latest : Latest
+  pub table : Reserved
+  pub ends : List ℕ
+  pub accesses : List Access
+
+abbrev pub held_by : {A : Type 0} → Window A → Held
+held_by w = record { latest = w.latest; table = w.table; ends = w.stations.ends; accesses = w.accesses.items }
+
+-- before the first step
+abbrev pub nothing_held : Held
+nothing_held = record {
+  latest = nothing_yet;
+  table = record { base = 0; slots = [] };
+  ends = replicate 96 0;
+  accesses = [];
+}
 
 -- The accesses under way.
 
@@ -65,6 +86,13 @@ pub record IsTableAfter (f : Facts) (at : Times) (before after : Reserved) : Typ
       ≡ taken_at before (place_of_unit unit) t + one (is_of unit f.unit && at.start == t)
   pub results : (t : ℕ) → at.issue ≤ t
       → taken_at after bus_line t ≡ taken_at before bus_line t + one (is_some f.unit && is_some f.dest && at.end == t)
+
+-- all that is held after one more step
+pub record IsHeldAfter (f : Facts) (at : Times) (before after : Held) : Type 0 where
+  pub latest : after.latest ≡ latest_after f at before.latest
+  pub table : IsTableAfter f at before.table after.table
+  pub ends : after.ends ≡ ends_after f at before.ends
+  pub accesses : after.accesses ≡ accesses_after f at before.accesses
 
 -- The next step.
 
@@ -115,15 +143,13 @@ pub record RunsOn
   pub units : next.units ≡ with_own table (place_of_unit unit) next.at.start
 
 -- the times of a next step, its marks and what it takes, given what is held
-pub record IsNextBy
-    (config : Configuration) (latest : Latest) (table : Reserved) (ends : List ℕ) (accesses : List Access)
-    (f : Facts) (next : Next) : Type 0 where
-  pub from : next.marks.from ≡ issue_from config latest
-  pub issue : TakesStation config ends f.pool next.marks.from next.at.issue next.at.station
-  pub address : next.at.address ≡ address_among latest f.pool (end_in latest.ends f.j) next.at.issue
+pub record IsNextBy (config : Configuration) (held : Held) (f : Facts) (next : Next) : Type 0 where
+  pub from : next.marks.from ≡ issue_from config held.latest
+  pub issue : TakesStation config held.ends f.pool next.marks.from next.at.issue next.at.station
+  pub address : next.at.address ≡ address_among held.latest f.pool (end_in held.latest.ends f.j) next.at.issue
   pub run : MatchOption f.unit
       (IsIdle next)
-      (RunsOn config table accesses f (end_in latest.ends f.j) (end_in latest.ends f.k) next)
+      (RunsOn config held.table held.accesses f (end_in held.latest.ends f.j) (end_in held.latest.ends f.k) next)
 
 -- a step can be noted in the table: it has each of its cycles, and no line is full in them
 pub record CanReserve (f : Facts) (at : Times) (table : Reserved) : Type 0 where
@@ -134,22 +160,31 @@ pub record CanReserve (f : Facts) (at : Times) (table : Reserved) : Type 0 where
   pub buses : IfSome f.unit (λ unit. IfSome f.dest (λ r. taken_at table bus_line at.end < 255))
 
 -- a step can be kept
-pub record CanKeep (f : Facts) (at : Times) (latest : Latest) (table : Reserved) : Type 0 where
+pub record CanKeep (f : Facts) (at : Times) (held : Held) : Type 0 where
   pub register : IfSome f.dest (λ r. r < 32)
-  pub few : latest.issued < 2 ^ 63
+  pub few : held.latest.issued < 2 ^ 63
   pub station : IfSome at.station (λ n. n < 16)
-  pub reserve : CanReserve f at table
+  pub reserve : CanReserve f at held.table
 
 -- nothing that is held is past the greatest end, and the table has each cycle after the last issue
-pub record IsSettledBy (latest : Latest) (table : Reserved) (taken : List ℕ) (accesses : List Access) : Type 0 where
-  pub base : table.base ≤ latest.issue
-  pub starts : (unit : UnitId) (t : ℕ) → latest.end < t → taken_at table (place_of_unit unit) t ≡ 0
-  pub results : (t : ℕ) → latest.end < t → taken_at table bus_line t ≡ 0
-  pub stations : (pool : PoolId) (n : ℕ) → n < 16 → end_at taken pool n ≤ latest.end
-  pub finishes : All (λ a. a.finish ≤ latest.end) accesses
-  pub ends : (r : ℕ) → r < 32 → slice_index latest.ends r ≤ latest.end
+pub record IsSettledBy (held : Held) : Type 0 where
+  pub base : held.table.base ≤ held.latest.issue
+  pub starts : (unit : UnitId) (t : ℕ) → held.latest.end < t → taken_at held.table (place_of_unit unit) t ≡ 0
+  pub results : (t : ℕ) → held.latest.end < t → taken_at held.table bus_line t ≡ 0
+  pub stations : (pool : PoolId) (n : ℕ) → n < 16 → end_at held.ends pool n ≤ held.latest.end
+  pub finishes : All (λ a. a.finish ≤ held.latest.end) held.accesses
+  pub ends : (r : ℕ) → r < 32 → slice_index held.latest.ends r ≤ held.latest.end
   -- x0 is never written
-  pub zero : slice_index latest.ends 0 ≡ 0
-  pub issue : latest.issue ≤ latest.end
-  pub branch : latest.branch ≤ latest.end
-  pub address : latest.address ≤ latest.end
+  pub zero : slice_index held.latest.ends 0 ≡ 0
+  pub issue : held.latest.issue ≤ held.latest.end
+  pub branch : held.latest.branch ≤ held.latest.end
+  pub address : held.latest.address ≤ held.latest.end
+
+-- a step of these facts can be timed by what is held, and kept
+pub record IsReady (config : Configuration) (held : Held) (f : Facts) : Type 0 where
+  pub registers : HasRegisters f
+  pub memory : is_some f.bytes ≡ is_memory_pool f.pool
+  pub settled : IsSettledBy held
+  pub small : held.latest.end < 2 ^ 63
+  pub few : held.latest.issued < 2 ^ 63
+  pub keeps : (next : Next) → IsNextBy config held f next → CanKeep f next.at held

@@ -5,18 +5,18 @@ ghost use Rattle.std.specs.Prelude.{if◌then◌else◌};
 ghost use Rattle.tomex_config.specs.Configuration.{option_of};
 ghost use Rattle.tomex_reservations.specs.Reservations.{IsFirst, bus_line, is_left, taken_at};
 ghost use Rattle.tomex_rvdec.specs.Parts.{place_of_unit};
-ghost use Rattle.tomex_timing.specs.Ahead.{CanKeep, IsNextBy, IsSettledBy, IsTableAfter, TakesBus, accesses_after};
-ghost use Rattle.tomex_timing.specs.Ahead.{RunsOn, end_in, ends_after, one, with_own};
+ghost use Rattle.tomex_timing.specs.Ahead.{IsHeldAfter, IsNextBy, IsReady, IsSettledBy, IsTableAfter, TakesBus};
+ghost use Rattle.tomex_timing.specs.Ahead.{RunsOn, end_in, ends_after, held_by, one, with_own};
 ghost use Rattle.tomex_timing.specs.Demands.{demand_after, demands_after, stations_asked, units_asked};
 ghost use Rattle.tomex_timing.specs.History.{cycle_of, is_of};
 ghost use Rattle.tomex_timing.specs.Waiting.{past_branches, taken_from, waits_by};
-ghost use Rattle.tomex_timing.specs.Window.{HasRegisters, is_memory_pool, latest_after};
+ghost use Rattle.tomex_timing.specs.Window.{HasRegisters, latest_after};
 
 use crate::accesses::past_conflicts;
 use crate::demands::{Demand, Demands};
-use crate::next::{Marks, Next, end_of, issue_from, next_step, ready_of};
+use crate::next::{Marks, Next, end_of, issue_from, ready_of};
 use crate::times::Times;
-use crate::waiting::{taken_by, waits_of};
+use crate::turn::next_turn;
 use crate::window::{Facts, Latest, Window, keep_access};
 use std::alloc::{AllocError, Allocator};
 use tomex_config::Config;
@@ -163,8 +163,8 @@ fn run_issued<A: Allocator>(
     requires pool { facts.now.pool ≡ Some pool }
     requires unit { facts.now.unit ≡ Some unit }
     requires registers { HasRegisters facts.now }
-    requires settled { let w = window.old in IsSettledBy w.latest w.table w.stations.ends w.accesses.items }
-    requires small { window.old.latest.end < 2 ^ 62 }
+    requires settled { IsSettledBy (held_by window.old) }
+    requires small { window.old.latest.end < 2 ^ 63 }
     requires count { let latest = window.old.latest in
         issued.count ≡ (if issued.cycle == latest.issue then latest.issued + 1 else 1) }
     requires issue { (window.old.latest.issue ≤ issued.cycle) × (issued.cycle ≤ window.old.latest.end + 1) }
@@ -239,21 +239,11 @@ pub(crate) fn ask_operation<A: Allocator>(
 ) -> Result<Next, AllocError>
     requires pool { facts.now.pool ≡ Some pool }
     requires unit { facts.now.unit ≡ Some unit }
-    requires memory { is_some facts.now.bytes ≡ is_memory_pool facts.now.pool }
-    requires registers { HasRegisters facts.now }
-    requires settled { let w = window.old in IsSettledBy w.latest w.table w.stations.ends w.accesses.items }
-    requires small { window.old.latest.end < 2 ^ 62 }
-    requires few { window.old.latest.issued < 2 ^ 63 }
-    ensures next { let w = window.old in IfOk result
-        (λ n. IsNextBy config.now w.latest w.table w.stations.ends w.accesses.items facts.now n) }
+    requires ready { IsReady config.now (held_by window.old) facts.now }
+    ensures next { IfOk result (λ n. IsNextBy config.now (held_by window.old) facts.now n) }
     ensures noted { let latest = window.old.latest in IfOk result (λ n. demands.new ≡ demands_after facts.now
         (waits_by latest n.marks n.at) (taken_from latest n) demands.old.total demands.old) }
-    ensures latest { IfOk result (λ n. window.new.latest ≡ latest_after facts.now n.at window.old.latest) }
-    ensures table { IfOk result (λ n. IsTableAfter facts.now n.at window.old.table window.new.table) }
-    ensures stations { IfOk result
-        (λ n. window.new.stations.ends ≡ ends_after facts.now n.at window.old.stations.ends) }
-    ensures accesses { IfOk result
-        (λ n. window.new.accesses.items ≡ accesses_after facts.now n.at window.old.accesses.items) }
+    ensures held { IfOk result (λ n. IsHeldAfter facts.now n.at (held_by window.old) (held_by window.new)) }
 {
     let latest = &window.latest;
     let from = issue_from(config, latest);
@@ -297,28 +287,14 @@ pub(crate) fn ask_rest<A: Allocator>(
     config: &Config,
     facts: &Facts,
 ) -> Result<Next, AllocError>
-    requires keeps { let w = window.old in (n : Next)
-        → IsNextBy config.now w.latest w.table w.stations.ends w.accesses.items facts.now n
-        → CanKeep facts.now n.at w.latest w.table }
-    requires registers { HasRegisters facts.now }
-    requires settled { let w = window.old in IsSettledBy w.latest w.table w.stations.ends w.accesses.items }
-    requires small { window.old.latest.end < 2 ^ 62 }
-    requires few { window.old.latest.issued < 2 ^ 63 }
-    ensures next { let w = window.old in IfOk result
-        (λ n. IsNextBy config.now w.latest w.table w.stations.ends w.accesses.items facts.now n) }
+    requires ready { IsReady config.now (held_by window.old) facts.now }
+    ensures next { IfOk result (λ n. IsNextBy config.now (held_by window.old) facts.now n) }
     ensures noted { let latest = window.old.latest in IfOk result (λ n. demands.new ≡ demands_after facts.now
         (waits_by latest n.marks n.at) (taken_from latest n) demands.old.total demands.old) }
-    ensures latest { IfOk result (λ n. window.new.latest ≡ latest_after facts.now n.at window.old.latest) }
-    ensures table { IfOk result (λ n. IsTableAfter facts.now n.at window.old.table window.new.table) }
-    ensures stations { IfOk result
-        (λ n. window.new.stations.ends ≡ ends_after facts.now n.at window.old.stations.ends) }
-    ensures accesses { IfOk result
-        (λ n. window.new.accesses.items ≡ accesses_after facts.now n.at window.old.accesses.items) }
+    ensures held { IfOk result (λ n. IsHeldAfter facts.now n.at (held_by window.old) (held_by window.new)) }
 {
-    let next = next_step(config, window, facts);
-    let waits = waits_of(&window.latest, &next);
-    let taken = taken_by(&window.latest, &next);
-    demands.note(facts, &waits, &taken);
-    window.keep(facts, &next.at)?;
-    Ok(next)
+    let turn = next_turn(config, window, facts);
+    demands.note(facts, &turn.waits, &turn.taken);
+    window.keep(facts, &turn.next.at)?;
+    Ok(turn.next)
 }

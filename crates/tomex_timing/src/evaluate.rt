@@ -15,7 +15,7 @@ use crate::needs::Needs;
 use crate::next::next_step;
 use crate::part::Waits;
 use crate::times::Times;
-use crate::waiting::{taken_by, waits_of};
+use crate::turn::next_turn;
 use crate::window::{Facts, Window, facts_of};
 use std::alloc::{AllocError, Allocator};
 use tomex_config::Config;
@@ -66,10 +66,9 @@ pub fn waits<A: Allocator + Clone>(
     config.keeps_limits();
     for step in steps {
         let facts = Facts::of(step);
-        let next = next_step(config, &window, &facts);
-        let waits = waits_of(&window.latest, &next);
-        window.keep(&facts, &next.at)?;
-        result.push(waits)?;
+        let turn = next_turn(config, &window, &facts);
+        window.keep(&facts, &turn.next.at)?;
+        result.push(turn.waits)?;
     }
     Ok(result)
 }
@@ -101,11 +100,9 @@ pub(crate) fn needs_of<A: Allocator>(
     let mut needs = Needs::none();
     config.keeps_limits();
     for step in facts {
-        let next = next_step(config, &window, step);
-        let waits = waits_of(&window.latest, &next);
-        let taken = taken_by(&window.latest, &next);
-        needs.note(step, &waits, &taken, &next.at);
-        window.keep(step, &next.at)?;
+        let turn = next_turn(config, &window, step);
+        needs.note(step, &turn.waits, &turn.taken, &turn.next.at);
+        window.keep(step, &turn.next.at)?;
     }
     Ok(needs)
 }

@@ -17,6 +17,7 @@ mod part;
 mod run;
 mod tables;
 mod times;
+mod turn;
 mod waiting;
 mod window;
 

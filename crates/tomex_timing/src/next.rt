@@ -3,10 +3,10 @@
 ghost use Rattle.std.specs.Prelude.{◌≡◌, ℕ, ◌+◌, ◌-◌, ◌^◌, ◌<◌, ◌≤◌, None, max, IfSome, slice_index};
 ghost use Rattle.tomex_config.specs.Configuration.{IsWithinLimits, option_of};
 ghost use Rattle.tomex_rvdec.specs.Parts.{place_of_unit};
-ghost use Rattle.tomex_timing.specs.Ahead.{IsIdle, IsNextBy, IsSettledBy, TakesBus, TakesStation, end_in};
+ghost use Rattle.tomex_timing.specs.Ahead.{IsIdle, IsNextBy, IsReady, TakesBus, TakesStation, end_in, held_by};
 ghost use Rattle.tomex_reservations.specs.Reservations.{bus_line, end_at, taken_at};
 ghost use Rattle.tomex_timing.specs.History.{cycle_of};
-ghost use Rattle.tomex_timing.specs.Window.{HasRegisters, address_among, is_memory_pool, issue_from, ready_from};
+ghost use Rattle.tomex_timing.specs.Window.{address_among, is_memory_pool, issue_from, ready_from};
 
 use crate::accesses::past_conflicts;
 use crate::times::Times;
@@ -175,11 +175,8 @@ fn without_unit(from: u64, issue: u64, address: Option<u64>, station: Option<u8>
 // Inlined, as are the other calls of the loops over a run's steps: what a loop doesn't use isn't made.
 #[inline(always)]
 pub(crate) fn next_step<A: Allocator>(config: &Config, window: &Window<A>, facts: &Facts) -> Next
-    requires registers { HasRegisters facts.now }
-    requires settled { let w = window.now in IsSettledBy w.latest w.table w.stations.ends w.accesses.items }
-    requires small { window.now.latest.end < 2 ^ 63 }
-    ensures { let w = window.now in
-        IsNextBy config.now w.latest w.table w.stations.ends w.accesses.items facts.now result }
+    requires { IsReady config.now (held_by window.now) facts.now }
+    ensures { IsNextBy config.now (held_by window.now) facts.now result }
 {
     let latest = &window.latest;
     let j = end_of(latest, facts.j);

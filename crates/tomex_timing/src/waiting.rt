@@ -18,6 +18,7 @@ pub(crate) struct Taken {
 }
 
 /// The cycles that a next step waits for each thing.
+#[inline(always)]
 pub(crate) fn waits_of(latest: &Latest, next: &Next) -> Waits
     requires branch { latest.now.branch < 2 ^ 63 }
     ensures { result ≡ waits_by latest.now next.now.marks next.now.at }
@@ -39,6 +40,7 @@ pub(crate) fn waits_of(latest: &Latest, next: &Next) -> Waits
 }
 
 /// The amount of each part that a next step takes.
+#[inline(always)]
 pub(crate) fn taken_by(latest: &Latest, next: &Next) -> Taken
     requires few { latest.now.issued < 2 ^ 63 }
     ensures { result ≡ taken_from latest.now next.now }

@@ -1,9 +1,10 @@
 //! The evaluator's record of the earlier steps: the latest of each kind of cycle, and everything that may still block a
 //! next step.
 
-ghost use Rattle.std.specs.Prelude.{◌≡◌, ◌<◌, ◌≤◌, ◌^◌, ◌+◌, ◌==◌, if◌then◌else◌, [], replicate, IfOk, IfSome};
+ghost use Rattle.std.specs.Prelude.{◌≡◌, ◌<◌, ◌≤◌, ◌^◌, ◌+◌, ◌==◌, if◌then◌else◌, IfOk, IfSome};
 ghost use Rattle.std.specs.Option.{ForSome};
-ghost use Rattle.tomex_timing.specs.Ahead.{CanKeep, CanReserve, IsTableAfter, accesses_after, ends_after};
+ghost use Rattle.tomex_timing.specs.Ahead.{CanKeep, CanReserve, IsHeldAfter, IsTableAfter, accesses_after};
+ghost use Rattle.tomex_timing.specs.Ahead.{held_by, nothing_held};
 ghost use Rattle.tomex_timing.specs.Window.{AreFacts, facts_of, register_of, HasRegisters, nothing_yet, latest_after};
 
 use crate::accesses::Access;
@@ -200,10 +201,7 @@ pub(crate) fn keep_access<A: Allocator>(
 impl<A: Allocator> Window<A> {
     /// The state before the first step, with memory from the two allocators.
     pub fn new(table: A, accesses: A) -> Window<A>
-        ensures latest { result.latest ≡ nothing_yet }
-        ensures table { result.table ≡ record { base = 0; slots = [] } }
-        ensures stations { result.stations.ends ≡ replicate 96 0 }
-        ensures accesses { result.accesses.items ≡ [] }
+        ensures { held_by result ≡ nothing_held }
     {
         Window {
             latest: Latest::none(),
@@ -216,15 +214,8 @@ impl<A: Allocator> Window<A> {
     /// Keeps a step with its times.
     #[inline(always)]
     pub fn keep(&mut self, facts: &Facts, at: &Times) -> Result<(), AllocError>
-        requires { CanKeep facts.now at.now self.old.latest self.old.table }
-        ensures latest { IfOk result
-            (λ _. self.new.latest ≡ latest_after facts.now at.now self.old.latest) }
-        ensures table { IfOk result
-            (λ _. IsTableAfter facts.now at.now self.old.table self.new.table) }
-        ensures stations { IfOk result
-            (λ _. self.new.stations.ends ≡ ends_after facts.now at.now self.old.stations.ends) }
-        ensures accesses { IfOk result
-            (λ _. self.new.accesses.items ≡ accesses_after facts.now at.now self.old.accesses.items) }
+        requires { CanKeep facts.now at.now (held_by self.old) }
+        ensures { IfOk result (λ _. IsHeldAfter facts.now at.now (held_by self.old) (held_by self.new)) }
     {
         reserve(&mut self.table, facts, at)?;
         keep_access(&mut self.accesses, facts, at)?;

@@ -1,6 +1,5 @@
 -- The cycle is past the conflicts with the accesses so far.
-use Rattle.std.proofs.Common.{◌+◌, ◌≤◌, take}
-use Rattle.std.specs.Prelude.{max}
+use Rattle.std.proofs.Common.{◌+◌, ◌≤◌, take, max}
 use Rattle.tomex_timing.specs.Ahead.{ArePast}
 use Rattle.tomex_timing.proofs.accesses.past_conflicts.Given as goal
 

@@ -1,6 +1,7 @@
 -- What is held shows the steps so far, and so do the demands.
 use Rattle.std.proofs.Common.{List, take}
 use Rattle.tomex_steps.specs.declared.step.Step.{Step}
+use Rattle.tomex_timing.specs.Ahead.{held_by}
 use Rattle.tomex_timing.specs.Demands.{AreDemands}
 use Rattle.tomex_timing.specs.Search.{history}
 use Rattle.tomex_timing.specs.Window.{AreFacts}
@@ -10,7 +11,6 @@ use Rattle.tomex_timing.proofs.evaluate.demands_of.Given as goal
 
 abbrev pub invariant-loop-step : goal.invariant-loop-step
 invariant-loop-step g l = (steps : List Step) → AreFacts steps l.facts → record {
-  shown : IsShown (history l.config (take l.step-index steps)) l.window.latest l.window.table l.window.stations.ends
-      l.window.accesses.items;
+  shown : IsShown (history l.config (take l.step-index steps)) (held_by l.window);
   demands : AreDemands l.config (history l.config (take l.step-index steps)) (with_total l.window.latest.end l.demands);
 }

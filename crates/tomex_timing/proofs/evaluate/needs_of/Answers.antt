@@ -1,92 +1,43 @@
 -- Each turn of the loop keeps what is held, and adds the step's needs.
-use Rattle.std.proofs.Common.{◌≡◌, length, arith}
-use Rattle.tomex_timing.proofs.Facts.{bounded_facts, length_facts, step_of}
+use Rattle.std.proofs.Common.{arith}
 use Rattle.tomex_timing.proofs.Needed.{needs_none}
-use Rattle.tomex_timing.proofs.Shown.{start_shown}
-use Rattle.tomex_timing.proofs.Turns.{can_keep, held_turn, needs_small, needs_turn}
-use Rattle.tomex_timing.proofs.Turns.{next_turn, waits_small}
+use Rattle.tomex_timing.proofs.Shown.{nothing_shown}
+use Rattle.tomex_timing.proofs.Turns.{held_turn, needs_small, needs_turn, ready, step_of, turn_of, waits_small}
 use Rattle.tomex_timing.proofs.evaluate.needs_of.Goals as goal
 
 pub loop-step-init : goal.loop-step-init
 loop-step-init g c = λ steps are. record {
-  shown = start_shown c.args.config.now c.new-window.ensures.latest c.new-window.ensures.table
-      c.new-window.ensures.stations c.new-window.ensures.accesses;
+  shown = rw c.new-window.ensures nothing_shown;
   needs = rw c.none-needs.ensures (needs_none c.args.config.now);
 }
 
-pub next_step-next-requires-clause-registers : goal.next_step-next-requires-clause-registers
-next_step-next-requires-clause-registers g c = c.requires.run.1.registers c.loop-step.step-index _ c.loop-step-test.true
-
-pub next_step-next-requires-clause-settled : goal.next_step-next-requires-clause-settled
-next_step-next-requires-clause-settled g c =
-    (bounded_facts c.args.config.now c.requires.run.0 c.args.facts.now c.loop-step.step-index
-    c.keeps_limits.ensures c.requires.run.1 c.loop-step-test.true
-    (c.loop-step.invariant c.requires.run.0 c.requires.run.1).shown).settled
-
-pub next_step-next-requires-clause-small : goal.next_step-next-requires-clause-small
-next_step-next-requires-clause-small g c =
-    omega (
-      arith,
-      (bounded_facts c.args.config.now c.requires.run.0 c.args.facts.now c.loop-step.step-index
-          c.keeps_limits.ensures c.requires.run.1 c.loop-step-test.true
-          (c.loop-step.invariant c.requires.run.0 c.requires.run.1).shown).end,
-    )
-
-pub waits_of-waits-requires : goal.waits_of-waits-requires
-waits_of-waits-requires g c =
-    record {
-      branch = omega (
-        arith,
-        (bounded_facts c.args.config.now c.requires.run.0 c.args.facts.now c.loop-step.step-index
-            c.keeps_limits.ensures c.requires.run.1 c.loop-step-test.true
-            (c.loop-step.invariant c.requires.run.0 c.requires.run.1).shown).branch,
-      );
-    }
-
-pub taken_by-taken-requires : goal.taken_by-taken-requires
-taken_by-taken-requires g c =
-    record {
-      few = omega (
-        arith,
-        (bounded_facts c.args.config.now c.requires.run.0 c.args.facts.now c.loop-step.step-index
-            c.keeps_limits.ensures c.requires.run.1 c.loop-step-test.true
-            (c.loop-step.invariant c.requires.run.0 c.requires.run.1).shown).issued,
-      );
-    }
+pub next_turn-turn-requires : goal.next_turn-turn-requires
+next_turn-turn-requires g c =
+    ready (step_of c.args.config.now c.requires.run.0 c.args.facts.now c.loop-step.step-index _ c.keeps_limits.ensures
+    c.requires.run.1 c.loop-step-test.true (omega arith)).1
+    (c.loop-step.invariant c.requires.run.0 c.requires.run.1).shown
 
 pub note-requires-clause-needs : goal.note-requires-clause-needs
 note-requires-clause-needs g c =
-    let n : length c.args.facts.now ≡ length c.requires.run.0 =
-    length_facts c.requires.run.0 c.args.facts.now c.requires.run.1 in
-    needs_small c.args.config.now c.requires.run.0 c.loop-step.step-index c.loop-step.needs c.keeps_limits.ensures
-    (omega arith) (omega arith) (c.loop-step.invariant c.requires.run.0 c.requires.run.1).needs
+    needs_small c.args.config.now c.requires.run.0 c.args.facts.now c.loop-step.step-index c.loop-step.needs
+    c.keeps_limits.ensures c.requires.run.1 (omega arith) c.requires.few
+    (c.loop-step.invariant c.requires.run.0 c.requires.run.1).needs
 
 pub note-requires-clause-waits : goal.note-requires-clause-waits
 note-requires-clause-waits g c =
-    let n : length c.args.facts.now ≡ length c.requires.run.0 =
-    length_facts c.requires.run.0 c.args.facts.now c.requires.run.1 in
     let at = step_of c.args.config.now c.requires.run.0 c.args.facts.now c.loop-step.step-index _ c.keeps_limits.ensures
-    c.requires.run.1 c.loop-step-test.true in
-    let shown = (c.loop-step.invariant c.requires.run.0 c.requires.run.1).shown in
-    waits_small (next_turn at.1 shown c.next_step-next.ensures) (omega arith) c.waits_of-waits.ensures
-
-pub keep-requires : goal.keep-requires
-keep-requires g c =
-    let n : length c.args.facts.now ≡ length c.requires.run.0 =
-    length_facts c.requires.run.0 c.args.facts.now c.requires.run.1 in
-    let at = step_of c.args.config.now c.requires.run.0 c.args.facts.now c.loop-step.step-index _ c.keeps_limits.ensures
-    c.requires.run.1 c.loop-step-test.true in
-    can_keep (next_turn at.1 (c.loop-step.invariant c.requires.run.0 c.requires.run.1).shown c.next_step-next.ensures)
-    (omega arith)
+    c.requires.run.1 c.loop-step-test.true (omega arith) in
+    waits_small (turn_of at.1 (c.loop-step.invariant c.requires.run.0 c.requires.run.1).shown
+    c.next_turn-turn.ensures.next) c.requires.run.1 c.requires.few c.next_turn-turn.ensures.waits
 
 pub loop-step-preserved : goal.loop-step-preserved
 loop-step-preserved g c = λ steps are.
     let at = step_of c.args.config.now steps c.args.facts.now c.loop-step.step-index _ c.keeps_limits.ensures are
-    c.loop-step-test.true in
+    c.loop-step-test.true (omega arith) in
     let before = c.loop-step.invariant steps are in
-    let turn = next_turn at.1 before.shown c.next_step-next.ensures in
+    let e = c.next_turn-turn.ensures in
+    let turn = turn_of at.1 before.shown e.next in
     record {
-      shown = rw (c.in_ok-keep.ensures.latest, c.in_ok-keep.ensures.stations, c.in_ok-keep.ensures.accesses)
-          (held_turn turn c.in_ok-keep.ensures.table);
-      needs = rw c.note.ensures (needs_turn turn c.waits_of-waits.ensures c.taken_by-taken.ensures before.needs);
+      shown = held_turn turn c.in_ok-keep.ensures;
+      needs = rw c.note.ensures (needs_turn turn e.waits e.taken before.needs);
     }

@@ -2,8 +2,5 @@
 use Rattle.tomex_timing.proofs.Width.{issues_alone, issues_rise}
 use Rattle.tomex_timing.proofs.laws.issues_alone_at_width_one.Goals as goal
 
-pub returns-clause-test : goal.returns-clause-test
-returns-clause-test c = issues_alone
-
-pub returns-clause-rise : goal.returns-clause-rise
-returns-clause-rise c = issues_rise
+pub returns : goal.returns
+returns c = record { test = issues_alone; rise = issues_rise }

@@ -2,8 +2,5 @@
 use Rattle.tomex_timing.proofs.Width.{issues_in_order, issues_fit}
 use Rattle.tomex_timing.proofs.laws.issues_fit_the_width.Goals as goal
 
-pub returns-clause-order : goal.returns-clause-order
-returns-clause-order c = issues_in_order
-
-pub returns-clause-few : goal.returns-clause-few
-returns-clause-few c = issues_fit
+pub returns : goal.returns
+returns c = record { order = issues_in_order; few = issues_fit }

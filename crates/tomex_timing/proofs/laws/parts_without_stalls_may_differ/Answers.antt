@@ -4,17 +4,11 @@ use Rattle.tomex_timing.proofs.Serving.{serves_timed, serves_runs}
 use Rattle.tomex_timing.proofs.Implied.{needs_tell}
 use Rattle.tomex_timing.proofs.laws.parts_without_stalls_may_differ.Goals as goal
 
-pub returns-clause-times : goal.returns-clause-times
-returns-clause-times c = serves_timed
-
-pub returns-clause-runs : goal.returns-clause-runs
-returns-clause-runs c = serves_runs
-
-pub returns-clause-peak : goal.returns-clause-peak
-returns-clause-peak c = peak_within
-
-pub returns-clause-needs : goal.returns-clause-needs
-returns-clause-needs c = needs_tell
-
-pub returns-clause-full : goal.returns-clause-full
-returns-clause-full c = stalled_full
+pub returns : goal.returns
+returns c = record {
+  times = serves_timed;
+  runs = serves_runs;
+  peak = peak_within;
+  needs = needs_tell;
+  full = stalled_full;
+}

@@ -2,8 +2,5 @@
 use Rattle.tomex_timing.proofs.Search.{timed_is, timed_of-same}
 use Rattle.tomex_timing.proofs.laws.search_is_the_recurrence.Goals as goal
 
-pub returns-clause-function : goal.returns-clause-function
-returns-clause-function c = timed_is
-
-pub returns-clause-relation : goal.returns-clause-relation
-returns-clause-relation c = timed_of-same
+pub returns : goal.returns
+returns c = record { function = timed_is; relation = timed_of-same }

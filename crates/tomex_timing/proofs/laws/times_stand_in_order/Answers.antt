@@ -2,14 +2,5 @@
 use Rattle.tomex_timing.proofs.Orders.{address_rises, reach, result_later, start_later}
 use Rattle.tomex_timing.proofs.laws.times_stand_in_order.Goals as goal
 
-pub returns-clause-reach : goal.returns-clause-reach
-returns-clause-reach c = reach
-
-pub returns-clause-start : goal.returns-clause-start
-returns-clause-start c = start_later
-
-pub returns-clause-result : goal.returns-clause-result
-returns-clause-result c = result_later
-
-pub returns-clause-address : goal.returns-clause-address
-returns-clause-address c = address_rises
+pub returns : goal.returns
+returns c = record { reach = reach; start = start_later; result = result_later; address = address_rises }

@@ -1,6 +1,5 @@
 -- What `retain` keeps is what passes.
-use Rattle.std.proofs.Common.{rules, ◌≡◌}
-use Rattle.std.specs.Prelude.{nat_le}
+use Rattle.std.proofs.Common.{rules, ◌≡◌, nat_le}
 use Rattle.std.specs.List.{filter}
 use Rattle.std.proofs.lemmas.Fn.{filter_same}
 use Rattle.tomex_timing.proofs.window.keep_access.Goals as goal

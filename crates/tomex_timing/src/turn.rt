@@ -1,0 +1,38 @@
+//! The turn of a run's next step.
+
+ghost use Rattle.std.specs.Prelude.{◌≡◌};
+ghost use Rattle.tomex_timing.specs.Ahead.{CanKeep, IsNextBy, IsReady, held_by};
+ghost use Rattle.tomex_timing.specs.Waiting.{taken_from, waits_by};
+
+use crate::next::{Next, next_step};
+use crate::part::Waits;
+use crate::waiting::{Taken, taken_by, waits_of};
+use crate::window::{Facts, Window};
+use std::alloc::Allocator;
+use tomex_config::Config;
+
+/// A next step with its times, its waits and what it takes.
+#[derive(Clone, Copy)]
+pub(crate) struct Turn {
+    pub next: Next,
+    pub waits: Waits,
+    pub taken: Taken,
+}
+
+/// The next step by what is held of the earlier ones. It can be kept then.
+// Inlined: a loop that doesn't use the waits makes none.
+#[inline(always)]
+pub(crate) fn next_turn<A: Allocator>(config: &Config, window: &Window<A>, facts: &Facts) -> Turn
+    requires { IsReady config.now (held_by window.now) facts.now }
+    ensures next { IsNextBy config.now (held_by window.now) facts.now result.next }
+    ensures waits { result.waits ≡ waits_by window.now.latest result.next.marks result.next.at }
+    ensures taken { result.taken ≡ taken_from window.now.latest result.next }
+    ensures keeps { CanKeep facts.now result.next.at (held_by window.now) }
+{
+    let next = next_step(config, window, facts);
+    Turn {
+        next,
+        waits: waits_of(&window.latest, &next),
+        taken: taken_by(&window.latest, &next),
+    }
+}
