@@ -2,7 +2,7 @@
 use Rattle.std.specs.Prelude.{ℕ, ◌≡◌, ◌+◌, ◌<◌, ◌≤◌, None, nat_lt, if◌then◌else◌, replicate}
 use Rattle.tomex_image.specs.Image.{Loaded}
 use Rattle.tomex_rvexec.specs.declared.end.End.{End}
-use Rattle.tomex_rvexec.specs.Run.{IsEnd}
+use Rattle.tomex_rvexec.specs.Run.{IsEnd, most_steps}
 use Rattle.tomex_config.specs.Configuration.{Configuration}
 use Rattle.tomex_timing.specs.History.{greatest_end}
 use Rattle.tomex_cycle.specs.declared.inner.Inner.{Inner}
@@ -13,7 +13,7 @@ use Rattle.tomex_cycle.specs.CycleOutcome.{progress_of}
 use Rattle.tomex_cycle.specs.Events.{events_in}
 use Rattle.tomex_cycle.specs.Phases.{IsSnapshot}
 use Rattle.tomex_cycle.specs.Settled.{AllSettled}
-use Rattle.tomex_cycle.specs.Run.{IsNextCycle, RunEndsAfter, first_timed, most_steps}
+use Rattle.tomex_cycle.specs.Run.{IsNextCycle, RunEndsAfter, first_timed}
 use Rattle.tomex_cycle.specs.Views.{Core, core, front}
 
 -- an inner state without what is counted and noted

@@ -24,8 +24,8 @@ IsYetToIssue i config count t =
 
 -- The state that issues change. Of the run, which ends after n others, count steps have issued, all by the cycle
 -- last; the next one couldn't issue by the cycle yet.
-pub record IsIssuedTo (i : Loaded) (config : Configuration) (n last yet : ℕ) (c : Clocks) (count : ℕ) (s : Front) : Type
-    0 where
+pub record IsIssuedTo (i : Loaded) (config : Configuration) (n last yet : ℕ) (c : Clocks) (count : ℕ)
+    (s : Front) : Type 0 where
   pub few : count ≤ n + 1
   pub shown : ShowsFront i c (first_timed config i count) s
   pub issued : AreIssuedBy last (first_timed config i count)

@@ -7,7 +7,7 @@ use Rattle.tomex_rvexec.specs.Flow.{IsAllowed, end_of}
 use Rattle.tomex_steps.specs.Results.{byte_in, overwrites, stored_byte}
 use Rattle.tomex_rvexec.specs.History.{Follows, history as first_steps}
 use Rattle.tomex_rvexec.specs.Machine.{State}
-use Rattle.tomex_rvexec.specs.Run.{EndsWithin, RunEnds, start_of}
+use Rattle.tomex_rvexec.specs.Run.{EndsWithin, RunEnds, most_steps, start_of}
 use Rattle.tomex_rvexec.specs.Trace.{steps_from}
 use Rattle.tomex_config.specs.Configuration.{Configuration, IsWithinLimits}
 use Rattle.tomex_timing.specs.declared.times.Done.{Done}
@@ -15,18 +15,15 @@ use Rattle.tomex_timing.specs.History.{greatest_end}
 use Rattle.tomex_timing.specs.Recurrence.{AreTimed}
 use Rattle.tomex_timing.specs.Search.{timed_of, history}
 
--- the whole run of a program that ends within 262144 steps
+-- the whole run of a program that ends within the most steps
 unfoldable pub run_of : Configuration → Loaded → List Done
-run_of config i = history config (steps_from 262144 (start_of i))
+run_of config i = history config (steps_from most_steps (start_of i))
 
 -- the cycles that it takes
 abbrev pub total : Configuration → Loaded → ℕ
 total config i = greatest_end (run_of config i)
 
--- what contracts say about a machine holds for programs that end within this number of steps
-abbrev pub most_steps : ℕ
-most_steps = 262144
-
+-- what contracts say about a machine holds for these programs
 abbrev pub EndsWithinLimit : Loaded → Type 0
 EndsWithinLimit i = EndsWithin i most_steps
 
