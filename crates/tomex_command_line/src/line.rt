@@ -139,27 +139,27 @@ fn grammar<'a>(alloc: Global) -> Result<Command<'a>, AllocError>
 fn line_with<'a>(
     alloc: Global,
     command: CommandName,
-    found: &ArgMatches<'a>,
+    args: &ArgMatches<'a>,
 ) -> Result<Line<'a>, LineFault>
-    ensures command { IfOk result (λ line. IsCommand (Some (name_of command, rows_of (found_of found.now))) line) }
-    ensures refused { IfErr result (IsRefusedIf (IsNoLineAsked (Some (name_of command, rows_of (found_of found.now))))) }
+    ensures command { IfOk result (λ line. IsCommand (Some (name_of command, rows_of (found_of args.now))) line) }
+    ensures refused { IfErr result (IsRefusedIf (IsNoLineAsked (Some (name_of command, rows_of (found_of args.now))))) }
 {
     match command {
-        CommandName::Run => Ok(Line::Run(run::line_of(alloc, found)?)),
-        CommandName::Times => Ok(Line::Times(one_run_of(alloc, found)?)),
-        CommandName::Stalls => Ok(Line::Stalls(stalls::line_of(alloc, found)?)),
-        CommandName::Pipeline => Ok(Line::Pipeline(pipeline::line_of(alloc, found)?)),
-        CommandName::Tables => Ok(Line::Tables(tables::line_of(alloc, found)?)),
-        CommandName::Animate => Ok(Line::Animate(animate::line_of(alloc, found)?)),
-        CommandName::All => Ok(Line::All(all::line_of(alloc, found)?)),
-        CommandName::Explore => Ok(Line::Explore(explore::line_of(alloc, found)?)),
-        CommandName::Front => Ok(Line::Front(explore::line_of(alloc, found)?)),
-        CommandName::Plot => Ok(Line::Plot(plot::line_of(alloc, found)?)),
-        CommandName::Rows => Ok(Line::Rows(explore::line_of(alloc, found)?)),
-        CommandName::Worth => Ok(Line::Worth(worth::line_of(alloc, found)?)),
-        CommandName::Prices => Ok(Line::Prices(explore::line_of(alloc, found)?)),
-        CommandName::Page => Ok(Line::Page(explore::line_of(alloc, found)?)),
-        CommandName::Explain => Ok(Line::Explain(explain::line_of(alloc, found)?)),
+        CommandName::Run => Ok(Line::Run(run::line_of(alloc, args)?)),
+        CommandName::Times => Ok(Line::Times(one_run_of(alloc, args)?)),
+        CommandName::Stalls => Ok(Line::Stalls(stalls::line_of(alloc, args)?)),
+        CommandName::Pipeline => Ok(Line::Pipeline(pipeline::line_of(alloc, args)?)),
+        CommandName::Tables => Ok(Line::Tables(tables::line_of(alloc, args)?)),
+        CommandName::Animate => Ok(Line::Animate(animate::line_of(alloc, args)?)),
+        CommandName::All => Ok(Line::All(all::line_of(alloc, args)?)),
+        CommandName::Explore => Ok(Line::Explore(explore::line_of(alloc, args)?)),
+        CommandName::Front => Ok(Line::Front(explore::line_of(alloc, args)?)),
+        CommandName::Plot => Ok(Line::Plot(plot::line_of(alloc, args)?)),
+        CommandName::Rows => Ok(Line::Rows(explore::line_of(alloc, args)?)),
+        CommandName::Worth => Ok(Line::Worth(worth::line_of(alloc, args)?)),
+        CommandName::Prices => Ok(Line::Prices(explore::line_of(alloc, args)?)),
+        CommandName::Page => Ok(Line::Page(explore::line_of(alloc, args)?)),
+        CommandName::Explain => Ok(Line::Explain(explain::line_of(alloc, args)?)),
     }
 }
 
