@@ -1,14 +1,13 @@
 -- The demands of a run give a plateau: a configuration that lies on it gives the run the same cycles as its own.
-use Rattle.std.proofs.Common.{ℕ, zero, suc, ◌<◌, ◌≤◌, ◌≡◌, ◌∙◌, ◌⊎◌, Bool, true, false, ap, arith, refl, sym, inl}
-use Rattle.std.proofs.Common.{inr, List, [], ◌∷◌, Some, length}
-use Rattle.std.specs.Prelude.{min, nat_le, ◌==◌, not, slice_get}
+use Rattle.std.proofs.Common.{ℕ, ◌≤◌, ◌≡◌, ◌∙◌, ◌⊎◌, Bool, true, false, ap, arith, refl, sym, inl}
+use Rattle.std.proofs.Common.{inr, List, [], ◌∷◌}
+use Rattle.std.specs.Prelude.{min, nat_le, ◌==◌, not}
 use Rattle.std.specs.List.{list_all}
 use Rattle.std.proofs.lemmas.Bool.{and_from, and_parts, cases_Bool, eqb-true, leb-true, le-leb}
-use Rattle.tomex_rvdec.specs.Parts.{place_of_unit}
 use Rattle.tomex_rvdec.specs.declared.pool.PoolId.TheVariants as pools
 use Rattle.tomex_rvdec.specs.declared.pool.UnitId.{UnitId}
 use Rattle.tomex_rvdec.specs.declared.pool.UnitId.TheVariants as units
-use Rattle.tomex_config.specs.Configuration.{Configuration, IsWithinLimits, is_between, option_of, plain_option}
+use Rattle.tomex_config.specs.Configuration.{Configuration, IsWithinLimits, option_of}
 use Rattle.tomex_timing.specs.declared.demands.Demand.{Demand}
 use Rattle.tomex_timing.specs.declared.demands.Demands.{Demands}
 use Rattle.tomex_timing.specs.declared.part.Part.{Part}
@@ -20,7 +19,8 @@ use Rattle.tomex_timing.specs.Search.{history, times_in, total_of}
 use Rattle.tomex_steps.specs.declared.step.Step.{Step}
 use Rattle.tomex_timing.proofs.Demanded.{demand_is, demands_total}
 use Rattle.tomex_timing.proofs.Histories.{are_timed, total_of-history}
-use Rattle.tomex_timing.proofs.Limits.{stations_high, latency_high, unit_in}
+use Rattle.tomex_timing.proofs.Implied.{part_listed, unit_listed}
+use Rattle.tomex_timing.proofs.Limits.{between, buses_high, latency_high, stations_high, units_high}
 use Rattle.tomex_timing.proofs.Serving.{serves_runs}
 use Rattle.tomex_timing.proofs.Taken.{peak_within}
 use Rattle.tomex_plateaus.specs.Laws.{OwnConfigurationLiesOn, TotalIsThatOfThePlateau}
@@ -29,20 +29,11 @@ use Rattle.tomex_plateaus.specs.Plateaus.{lies_on, plateau_of}
 
 -- a configuration's counts are small
 
-between : (low high n : ℕ) → is_between low high n ≡ true → n ≤ high
-between low high n h = leb-true n high (and_parts (nat_le low n) (nat_le n high) h).1
-
-units_high : (config : Configuration) (unit : UnitId) → IsWithinLimits config → (option_of config unit).units ≤ 8
-units_high config unit good =
-    let l : place_of_unit unit < length config.units = rw good.kinds (unit_in unit) in
-    between 1 8 (option_of config unit).units
-    (and_parts _ _ (and_parts _ _ (good.units (place_of_unit unit) plain_option l)).0).0
-
 count_high : (config : Configuration) (part : Part) → IsWithinLimits config → count_of config part ≤ 16
 count_high config (Stations pool) good = stations_high config pool good
-count_high config (Units unit) good = let h = units_high config unit good in omega arith
-count_high config Buses good = let h = between 1 8 config.buses good.buses in omega arith
-count_high config Width good = let h = between 1 4 config.width good.width in omega arith
+count_high config (Units unit) good = omega (arith, units_high config unit good)
+count_high config Buses good = omega (arith, buses_high config good)
+count_high config Width good = omega (arith, (between 1 4 config.width good.width).1)
 
 -- consequences for a count and a latency in an interval; a configuration's own is in it
 
@@ -114,36 +105,6 @@ latencies_are demands own units.Div = refl
 latencies_are demands own units.Mem = refl
 latencies_are demands own units.Bru = refl
 
--- a test that all of a list pass is passed by each
-
-at_place : {X : Type 0} (p : X → Bool) (xs : List X) (n : ℕ) (x : X) → list_all p xs ≡ true → slice_get xs n ≡ Some x
-    → p x ≡ true
-at_place p [] n x all here = absurd (cc)
-at_place p (y ∷ xs) zero x all here = let e : y ≡ x = cc in rw (← e) (and_parts (p y) (list_all p xs) all).0
-at_place p (y ∷ xs) (suc n) x all here = at_place p xs n x (and_parts (p y) (list_all p xs) all).1 here
-
-each_part : (p : Part → Bool) (part : Part) → list_all p all_parts ≡ true → p part ≡ true
-each_part p (Stations pools.Alu) all = at_place p all_parts 0 _ all refl
-each_part p (Stations pools.Mul) all = at_place p all_parts 1 _ all refl
-each_part p (Stations pools.Div) all = at_place p all_parts 2 _ all refl
-each_part p (Stations pools.Load) all = at_place p all_parts 3 _ all refl
-each_part p (Stations pools.Store) all = at_place p all_parts 4 _ all refl
-each_part p (Stations pools.Bru) all = at_place p all_parts 5 _ all refl
-each_part p (Units units.Alu) all = at_place p all_parts 6 _ all refl
-each_part p (Units units.Mul) all = at_place p all_parts 7 _ all refl
-each_part p (Units units.Div) all = at_place p all_parts 8 _ all refl
-each_part p (Units units.Mem) all = at_place p all_parts 9 _ all refl
-each_part p (Units units.Bru) all = at_place p all_parts 10 _ all refl
-each_part p Buses all = at_place p all_parts 11 _ all refl
-each_part p Width all = at_place p all_parts 12 _ all refl
-
-each_unit : (p : UnitId → Bool) (unit : UnitId) → list_all p all_units ≡ true → p unit ≡ true
-each_unit p units.Alu all = at_place p all_units 0 _ all refl
-each_unit p units.Mul all = at_place p all_units 1 _ all refl
-each_unit p units.Div all = at_place p all_units 2 _ all refl
-each_unit p units.Mem all = at_place p all_units 3 _ all refl
-each_unit p units.Bru all = at_place p all_units 4 _ all refl
-
 all_from : {X : Type 0} (p : X → Bool) (xs : List X) → ((x : X) → p x ≡ true) → list_all p xs ≡ true
 all_from p [] each = refl
 all_from p (x ∷ xs) each = and_from (p x) (list_all p xs) (each x) (all_from p xs each)
@@ -193,8 +154,8 @@ config_serves own other h demands good are on =
     let kinds = λ (unit : UnitId). is_within (latencies_of p unit) (option_of other unit).latency in
     let two = and_parts (list_all parts all_parts) (list_all kinds all_units) on in
     record {
-      parts = λ part. part_serves own other h demands part good are (each_part parts part two.0);
-      latencies = λ unit. latency_serves own other h demands unit are (each_unit kinds unit two.1);
+      parts = λ part. part_serves own other h demands part good are (part_listed parts part two.0);
+      latencies = λ unit. latency_serves own other h demands unit are (unit_listed kinds unit two.1);
     }
 
 pub total_of_run : (own : Configuration) (steps : List Step) (demands : Demands)

@@ -50,7 +50,7 @@ at_place p [] n x all here = absurd (cc)
 at_place p (y ∷ xs) zero x all here = let e : y ≡ x = cc in rw (← e) (and_parts (p y) (list_all p xs) all).0
 at_place p (y ∷ xs) (suc n) x all here = at_place p xs n x (and_parts (p y) (list_all p xs) all).1 here
 
-part_listed : (p : Part → Bool) (part : Part) → list_all p all_parts ≡ true → p part ≡ true
+pub part_listed : (p : Part → Bool) (part : Part) → list_all p all_parts ≡ true → p part ≡ true
 part_listed p (Stations pools.Alu) all = at_place p all_parts 0 _ all refl
 part_listed p (Stations pools.Mul) all = at_place p all_parts 1 _ all refl
 part_listed p (Stations pools.Div) all = at_place p all_parts 2 _ all refl
@@ -65,7 +65,7 @@ part_listed p (Units units.Bru) all = at_place p all_parts 10 _ all refl
 part_listed p Buses all = at_place p all_parts 11 _ all refl
 part_listed p Width all = at_place p all_parts 12 _ all refl
 
-unit_listed : (p : UnitId → Bool) (unit : UnitId) → list_all p all_units ≡ true → p unit ≡ true
+pub unit_listed : (p : UnitId → Bool) (unit : UnitId) → list_all p all_units ≡ true → p unit ≡ true
 unit_listed p units.Alu all = at_place p all_units 0 _ all refl
 unit_listed p units.Mul all = at_place p all_units 1 _ all refl
 unit_listed p units.Div all = at_place p all_units 2 _ all refl

@@ -65,7 +65,7 @@ unit_in units.Div = omega arith
 unit_in units.Mem = omega arith
 unit_in units.Bru = omega arith
 
-between : (low high n : ℕ) → is_between low high n ≡ true → (low ≤ n) × (n ≤ high)
+pub between : (low high n : ℕ) → is_between low high n ≡ true → (low ≤ n) × (n ≤ high)
 between low high n h = grind (arith, nat_tests)
 
 stations_are : (config : Configuration) (pool : PoolId) → IsWithinLimits config

@@ -2,14 +2,14 @@
 use Rattle.std.proofs.Common.{ℕ, ◌+◌, ◌≤◌, ◌≡◌, ◌∙◌, Bool, true, false, arith, refl, ap, Option, Some}
 use Rattle.std.proofs.Common.{None, ◌==◌, ◌&&◌, if◌then◌else◌}
 use Rattle.std.proofs.lemmas.Bool.{ne_eqb}
-use Rattle.tomex_rvdec.specs.declared.pool.UnitId.{UnitId}
 use Rattle.std.proofs.lemmas.Bool.Decides.{nat_tests}
+use Rattle.tomex_rvdec.specs.declared.pool.UnitId.{UnitId}
+use Rattle.tomex_rvdec.specs.Parts.{place_of_unit}
 use Rattle.tomex_config.specs.Configuration.{Configuration}
 use Rattle.tomex_reservations.specs.Reservations.{Reserved, bus_line, is_left, taken_at, taken_with}
 use Rattle.tomex_timing.specs.Ahead.{TakesBus, one}
 use Rattle.tomex_timing.specs.History.{is_of}
 use Rattle.tomex_timing.proofs.Least.{first_agree, first_from_le}
-use Rattle.tomex_rvdec.specs.Parts.{place_of_unit}
 use Rattle.tomex_timing.proofs.Limits.{unit_in}
 use Rattle.tomex_timing.proofs.asking.take_slots.Goals as goal
 
