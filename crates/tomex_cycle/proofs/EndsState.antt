@@ -61,7 +61,7 @@ one_ends {config = config} t u p d older up place next late =
       | inl dest ↦ rw dest (or_false (d.at.end == u))
       | inr dest ↦
           let clause =
-              end_clause (step_pool d.step) d.at.station p _ _ _ (is_some (step_dest d.step)) place up.timed.0.end in
+          end_clause (step_pool d.step) d.at.station p _ _ _ (is_some (step_dest d.step)) place up.timed.0.end in
           let same : d.at.end ≡ d.at.finish = MatchBool-at_false _ _ dest clause in
           let done : is_finished_by (if nat_le d.at.start u then Some d.at.finish else None) u ≡ (d.at.end == u) =
           by_is u d.at.start d.at.finish l ∙ (ap (λ k. nat_le k u) (sym same) ∙ last_is t u d.at.end next late) in
@@ -76,7 +76,7 @@ one_sends {config = config} t u p d older up place next late = elim (cases_Bool 
   | inr dest ↦ rw dest refl
   | inl dest ↦
       let clause =
-          end_clause (step_pool d.step) d.at.station p _ _ _ (is_some (step_dest d.step)) place up.timed.0.end in
+      end_clause (step_pool d.step) d.at.station p _ _ _ (is_some (step_dest d.step)) place up.timed.0.end in
       let least = MatchBool-at_true _ _ dest clause in
       let test = least_test (can_end config older d.at.finish) d.at.end u least (omega arith) in
       rw dest (sym test)

@@ -201,9 +201,9 @@ pub fetch_made : (i : Loaded) {config : Configuration} (t u : ℕ) (d : Done) (h
 fetch_made i t u d h ft good timed at e is =
     let order : d.at.start ≤ d.at.finish = (reach d h good timed).order in
     let late : is_branch d.step ≡ true → t < d.at.finish = λ b. (
-        let unit = unit_with_pool d.step ∙ pool_in (step_pool d.step) pools.Bru b in
-        let after : d.at.issue < d.at.start = starts_after d timed.0 unit in
-        omega arith) in
+    let unit = unit_with_pool d.step ∙ pool_in (step_pool d.step) pools.Bru b in
+    let after : d.at.issue < d.at.start = starts_after d timed.0 unit in
+    omega arith) in
     is ∙ ap (λ (w : Bool). fetch_after d.step w (end_of d.step)) (branch_late (is_branch d.step) t d.at.finish late)
 
 -- What comes after it.

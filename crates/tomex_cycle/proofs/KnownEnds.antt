@@ -277,7 +277,7 @@ are_results {slots} {next} {first} {results} known due split none x l e =
         | inr k ↦
             let high : 80 ≤ x = ltb-false x 80 k in
             let branch : is_served units.Bru x ≡ true =
-                branch_places x (omega arith) ∙ rw (le-leb 80 x high, lt-ltb x 96 l) refl in
+            branch_places x (omega arith) ∙ rw (le-leb 80 x high, lt-ltb x 96 l) refl in
             absurd (cc)
       ],
     )

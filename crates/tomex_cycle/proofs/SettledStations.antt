@@ -1,6 +1,5 @@
--- What the stations show of a cycle: if they stay as they were, and no operation finishes in it, nothing happens in
--- it;
--- if operations start, and leave none that waits for a unit, it is settled.
+-- What the stations show of a cycle: if they stay as they were, and no operation finishes in it, nothing happens
+-- in it; if operations start, and leave none that waits for a unit, it is settled.
 use Rattle.tomex_cycle.proofs.Words.{◌≢◌, nat_lt, nat_le, ◌&&◌, if◌then◌else◌, MatchOption, cases_Bool, nat_tests}
 use Rattle.tomex_cycle.proofs.Words.{both_ways, le-ltb, lt-ltb, ltb-true, ltb-false, le-leb, and_from, and_parts}
 use Rattle.tomex_cycle.proofs.Words.{eq-eqb, Loaded, Configuration, IsWithinLimits, UnitId, address_of, is_number}
@@ -20,7 +19,6 @@ use Rattle.tomex_cycle.proofs.Runs.{AreLater, reach, issued_up_to, starts_after}
 use Rattle.tomex_cycle.proofs.StartsPicked.{ready_is, no_address}
 use Rattle.tomex_cycle.proofs.Truth.{some_not_none}
 use Rattle.tomex_cycle.proofs.Known.{free_to}
-use Rattle.tomex_cycle.specs.Views.{front}
 
 -- after the step that held a place has ended the place is empty, since no younger step could take it before
 left_empty : {i : Loaded} {config : Configuration} (t u x : ℕ) (newer : List Done) (d : Done) (older : List Done)
