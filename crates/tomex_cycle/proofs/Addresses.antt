@@ -72,8 +72,16 @@ pub or_else_none : (a : Option ℕ) → or_else a None ≡ a
 or_else_none None = refl
 or_else_none (Some x) = refl
 
-pub not_le : (a b : ℕ) → not (nat_le a b) ≡ true → b < a
-not_le a b e = grind (arith, nat_tests)
+-- what waits for its address is a busy access whose address is still to come
+pub waits_so : (t : ℕ) (d : Done) → waits_for_address t d ≡ true
+    → (nat_lt t d.at.end ≡ true) × (is_memory d.step ≡ true) × (t < cycle_of d.at.address)
+waits_so t d w =
+    let a = and_parts (nat_lt t d.at.end) (is_memory d.step && not (nat_le (cycle_of d.at.address) t)) w in
+    let b = and_parts (is_memory d.step) (not (nat_le (cycle_of d.at.address) t)) a.1 in
+    (a.0, b.0, not_le (cycle_of d.at.address) t b.1)
+  where
+    not_le : (a b : ℕ) → not (nat_le a b) ≡ true → b < a
+    not_le a b e = grind (arith, nat_tests)
 
 some_waits_by : {config : Configuration} (t y : ℕ) (d : Done) {older : List Done} (o : Option ℕ)
     → IsTimed config older d.step d.at → chosen t older ≡ o
@@ -88,11 +96,7 @@ some_waits_by t y d {older} (Some z) timed e before f =
     ]
 some_waits_by t y d None timed e before f = elim (cases_Bool (waits_for_address t d)) [
   | inr w ↦ let g : None ≡ Some y = rw w at f in absurd (cc)
-  | inl w ↦
-      let a = and_parts (nat_lt t d.at.end) (is_memory d.step && not (nat_le (cycle_of d.at.address) t)) w in
-      let b = and_parts (is_memory d.step) (not (nat_le (cycle_of d.at.address) t)) a.1 in
-      let l : t < cycle_of d.at.address = not_le (cycle_of d.at.address) t b.1 in
-      rw b.0 l
+  | inl w ↦ let (busy, memory, late) = waits_so t d w in rw memory late
 ]
 
 -- and if one waits, the last address is still to come
@@ -103,9 +107,7 @@ some_waits config t y (d ∷ older) timed e =
     some_waits_by t y d (chosen t older) timed.0 refl (λ z f. some_waits config t z older timed.1 f) e
 
 pub holds_by : (t y : ℕ) (d : Done) → place_of d ≡ Some y → waits_for_address t d ≡ true → holds_place t y d ≡ true
-holds_by t y d e w =
-    let a = and_parts (nat_lt t d.at.end) (is_memory d.step && not (nat_le (cycle_of d.at.address) t)) w in
-    rw (e, a.0, eq-eqb y y refl) refl
+holds_by t y d e w = rw (e, (waits_so t d w).0, eq-eqb y y refl) refl
 
 chosen_by : (t y : ℕ) (d : Done) (older : List Done) (o : Option ℕ) → chosen t older ≡ o
     → (chosen t older ≡ Some y → is_vacant t y older ≡ true → ⊥)
@@ -134,9 +136,7 @@ a_by t d = if is_memory d.step && nat_le (cycle_of d.at.address) t then Some (ad
 
 pub with_a : (i : Loaded) (u t : ℕ) (d : Done) (older : List Done) → a_by u d ≡ a_by t d
     → station_of i (clocks u u t) d older ≡ station_of i (clocks u t t) d older
-with_a i u t d older e =
-    let set : Option ℕ → Station = λ x. record (station_of i (clocks u t t) d older) { address = x } in
-    ap set e
+with_a i u t d older e = rw e refl
 
 pub a_none : (t : ℕ) (d : Done) → t < cycle_of d.at.address → a_by t d ≡ None
 a_none t d l = rw (lt-leb (cycle_of d.at.address) t l, and_right (is_memory d.step) false refl) refl
@@ -197,12 +197,10 @@ held_by {i} {config} t u x d older (Some y) up e held c =
 held_by {i} t u x d older None up e held c = elim (cases_Bool (waits_for_address t d)) [
   | inr w ↦ rw w (ap (λ (k : Station). Some k) (with_a i u t d older (idle_same t u d x held e w)))
   | inl w ↦
-      let a = and_parts (nat_lt t d.at.end) (is_memory d.step && not (nat_le (cycle_of d.at.address) t)) w in
-      let b = and_parts (is_memory d.step) (not (nat_le (cycle_of d.at.address) t)) a.1 in
-      let late : t < cycle_of d.at.address = not_le (cycle_of d.at.address) t b.1 in
-      let there = test_is t u d up e b.0 (none_waits t older (older_up_to up) c) late in
+      let (busy, memory, late) = waits_so t d w in
+      let there = test_is t u d up e memory (none_waits t older (older_up_to up) c) late in
       rw (w, given_here (place_of d) x (Some (station_of i (clocks u t t) d older)) (held_place t x d held))
-      (ap (λ (k : Station). Some k) (given i u t d older there late e b.0))
+      (ap (λ (k : Station). Some k) (given i u t d older there late e memory))
 ]
 
 -- the chosen place gets its address, and no other

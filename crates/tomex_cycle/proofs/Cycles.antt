@@ -5,20 +5,20 @@ use Rattle.tomex_cycle.proofs.Words.{RunEndsAfter, first_timed, byte_at, clocks,
 use Rattle.tomex_cycle.proofs.Words.{IsYetToIssue, MakesStarts, MakesAddress, MakesIssue, MakesEnds, is_done, Progress}
 use Rattle.tomex_cycle.proofs.Words.{Running, Ended, AreBusy, Pools, Core, Front, IsNextCycle, IsUpTo, core, front, ℕ}
 use Rattle.tomex_cycle.proofs.Words.{◌+◌, ◌<◌, ◌≤◌, ◌≡◌, ◌∙◌, Bool, true, false, arith, refl, List, [], ◌∷◌, ◌++◌}
-use Rattle.tomex_cycle.proofs.Words.{Option, None, sym, inl, inr, ◌≢◌, nat_le, ◌&&◌, ◌==◌, is_some, w128, nat_tests}
+use Rattle.tomex_cycle.proofs.Words.{Option, None, sym, inl, inr, ◌≢◌, ◌&&◌, ◌==◌, is_some, w128, nat_tests}
 use Rattle.tomex_cycle.proofs.Words.{bit_at-trailing_zeros, both_ways, eq-eqb, eqb-true, ne_eqb, is_number, j_of}
-use Rattle.tomex_cycle.proofs.Words.{step_unit, Field, Value, Unread, cycle_of, is_memory, field_of, has, has_one}
-use Rattle.tomex_cycle.proofs.Words.{AreDone, AreEnding, finishes, events_in, IsInIssueOrder, AreIssuedBy, IsStarting}
-use Rattle.tomex_cycle.proofs.Words.{Clocks, holds_place, order_of, place_of, station_at, station_of, ShowsStations}
-use Rattle.tomex_cycle.proofs.Words.{has_base, is_value, is_there, Station, slot, ◌^◌, Some, ap, ◌⊎◌, length, max}
-use Rattle.tomex_cycle.proofs.Words.{trailing_zeros, AddressHappens, EndsHappen, StartsHappen}
+use Rattle.tomex_cycle.proofs.Words.{step_unit, Field, Value, Unread, cycle_of, field_of, has, has_one, AreDone}
+use Rattle.tomex_cycle.proofs.Words.{AreEnding, finishes, events_in, IsInIssueOrder, AreIssuedBy, IsStarting, Clocks}
+use Rattle.tomex_cycle.proofs.Words.{holds_place, order_of, place_of, station_at, station_of, ShowsStations, has_base}
+use Rattle.tomex_cycle.proofs.Words.{is_value, is_there, Station, slot, ◌^◌, Some, ap, ◌⊎◌, length, max, trailing_zeros}
+use Rattle.tomex_cycle.proofs.Words.{AddressHappens, EndsHappen, StartsHappen}
 use Rattle.tomex_cycle.proofs.Runs.{done_is, rest_to, run_timed, AreLater, issued_up_to, starts_after, store_unit}
 use Rattle.tomex_cycle.proofs.EndsFetch.{done_in, ending_low}
 use Rattle.tomex_timing.specs.declared.tables.Field.TheVariants.{Waits}
 use Rattle.tomex_cycle.proofs.Shows.{run_split}
 use Rattle.tomex_cycle.proofs.Orders.{order_is}
-use Rattle.tomex_cycle.proofs.Addresses.{waiting_is, chosen, holds_by, none_waits, not_le, or_else, test_is}
-use Rattle.tomex_cycle.proofs.Addresses.{waits_for_address}
+use Rattle.tomex_cycle.proofs.Addresses.{waiting_is, chosen, holds_by, none_waits, or_else, test_is, waits_for_address}
+use Rattle.tomex_cycle.proofs.Addresses.{waits_so}
 use Rattle.tomex_cycle.proofs.IssueOrder.{next_address, where_base_is_there}
 use Rattle.tomex_cycle.proofs.EndsState.{ending_is, ends_in}
 use Rattle.tomex_cycle.proofs.Places.{low, ShowsPart, shows_part, held_here, older_shown, older_up_to, place_or_none}
@@ -263,10 +263,8 @@ chosen_happens {t = t} {u} {x} (d ∷ older) up e shown c base =
     elder None f c again = elim (cases_Bool (waits_for_address t d)) [
       | inr w ↦ let g : None ≡ Some x = rw w at c in absurd (cc)
       | inl w ↦
-          let a = and_parts (nat_lt t d.at.end) (is_memory d.step && not (nat_le (cycle_of d.at.address) t)) w in
-          let b = and_parts (is_memory d.step) (not (nat_le (cycle_of d.at.address) t)) a.1 in
-          let late : t < cycle_of d.at.address = not_le (cycle_of d.at.address) t b.1 in
-          let test = test_is t u d up e b.0 (none_waits t older (older_up_to up) f) late in
+          let (busy, memory, late) = waits_so t d w in
+          let test = test_is t u d up e memory (none_waits t older (older_up_to up) f) late in
           let slot = (held_here shown x (holds_by t x d (rw w at c) w)).slot in
           let value : is_value (field_of t older (j_of d.step)) ≡ true = ap has_base (sym slot) ∙ base in
           let at : cycle_of d.at.address ≡ u = eqb-true _ _ (sym test ∙ there_by (field_of t older (j_of d.step)) value)

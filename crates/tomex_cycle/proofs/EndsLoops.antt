@@ -153,8 +153,6 @@ hear_no picked n old first r e before count status =
           (reg_field first.values first.tags q) (λ y. sent_no old.slots picked n y e);
     }
 
--- What the loops of the end of a cycle have made so far.
-
 -- A place ends.
 
 none_hears : (p : ℕ) (o : Option Station) → option_map (hears (only p None)) o ≡ o

@@ -133,11 +133,8 @@ coming {config} {i} {n} t count pc run few e =
     let f = fetched_by pc follows at.0 in
     (x.0, record { less = less; is = x.1; follows = follows; at = f.0; fetched = f.1; goes = at.1 })
 
--- The numbers of a pool's stations: which are free, and how many are held.
+-- The numbers of a pool's stations: where one is free, a station is left.
 
--- Where a number is free, a station is left.
-
--- if a number of the pool is free, fewer stations are held than there are
 pub last_by : (t : ℕ) (h : List Done) → AreIssuedBy t h → last_issue h ≤ t
 last_by t [] issued = omega arith
 last_by t (d ∷ older) issued = issued.0

@@ -254,12 +254,12 @@ ready_by {t} {n} {set} p {goes} {d} {older} place late member serves alone befor
           let off : goes d ≡ false = ready ∙ le-ltb (count_by goes older) n (omega arith) in
           record {
             count = count_off goes d older off ∙ (rw (order, e, length-append) (omega arith));
-            taken = λ x. rw (order, e, take-append-le n xs (p ∷ []) full)
-                (ap (λ (ys : List ℕ). is_listed (take n ys) x) (sym e)
-                ∙ (before.taken x ∙ elim (cases_Bool (holds_place t x d)) [
+            taken = λ x.
+                let was = ap (λ (ys : List ℕ). is_listed (take n ys) x) (sym e) ∙ before.taken x in
+                rw (order, e, take-append-le n xs (p ∷ []) full) (was ∙ elim (cases_Bool (holds_place t x d)) [
                   | inr h ↦ rw h refl
                   | inl h ↦ rw (h, off) (alone x h)
-                ]));
+                ]);
           }
     ]
 

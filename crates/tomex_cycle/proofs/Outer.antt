@@ -16,7 +16,6 @@ use Rattle.tomex_cycle.proofs.Runs.{run_whole, run_timed, steps_are, run_none, r
 use Rattle.tomex_cycle.proofs.Runs.{more_left, stops}
 use Rattle.tomex_rvexec.specs.History.{history as first_steps}
 use Rattle.tomex_cycle.proofs.Shows.{same_tables}
-use Rattle.tomex_cycle.specs.Views.{front}
 
 -- while the answer is Running the total lies ahead
 pub running_low : (cycle all : ℕ) (last : Progress) → last ≡ (if nat_lt cycle all then Running else Ended)

@@ -164,11 +164,6 @@ pub place_there : {config : Configuration} (d : Done) {older : List Done} → Is
     → d.at.issue < d.at.end → is_some (place_of d) ≡ true
 place_there {config} d {older} timed l = grind (arith, nat_tests)
 
--- The order.
-
-pub turn_and : (a b c : Bool) → ((true && a) && b && c) ≡ ((b && c) && a)
-turn_and a b c = grind (arith, nat_tests)
-
 -- What the stations show of a part of a history: each busy step of it is in the place that it holds.
 
 -- no place that a step holds is vacant

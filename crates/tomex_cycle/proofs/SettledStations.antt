@@ -1,6 +1,5 @@
--- What the stations show of a cycle: if they stay as they were, and no operation finishes in it, nothing happens in
--- it;
--- if operations start, and leave none that waits for a unit, it is settled.
+-- What the stations show of a cycle: if they stay as they were, and no operation finishes in it, nothing happens
+-- in it; if operations start, and leave none that waits for a unit, it is settled.
 use Rattle.tomex_cycle.proofs.Words.{◌≢◌, nat_lt, nat_le, ◌&&◌, if◌then◌else◌, MatchOption, cases_Bool, nat_tests}
 use Rattle.tomex_cycle.proofs.Words.{both_ways, le-ltb, lt-ltb, ltb-true, ltb-false, le-leb, and_from, and_parts}
 use Rattle.tomex_cycle.proofs.Words.{eq-eqb, Loaded, Configuration, IsWithinLimits, UnitId, address_of, is_number}
@@ -20,7 +19,6 @@ use Rattle.tomex_cycle.proofs.Runs.{AreLater, reach, issued_up_to, starts_after}
 use Rattle.tomex_cycle.proofs.StartsPicked.{ready_is, no_address}
 use Rattle.tomex_cycle.proofs.Truth.{some_not_none}
 use Rattle.tomex_cycle.proofs.Known.{free_to}
-use Rattle.tomex_cycle.specs.Views.{front}
 
 -- after the step that held a place has ended the place is empty, since no younger step could take it before
 left_empty : {i : Loaded} {config : Configuration} (t u x : ℕ) (newer : List Done) (d : Done) (older : List Done)
@@ -60,14 +58,15 @@ some_same e = cc
 pub are_kept : {i : Loaded} {config : Configuration} {s t u : ℕ} {mid new : Pools} {h : List Done}
     → IsUpTo i config t h → u ≡ t + 1 → ShowsStations i (clocks s t t) h mid
     → ShowsStations i (clocks u u u) h new → new.slots ≡ mid.slots → AreKept i s t u new h
-are_kept {i} {s = s} {t} {u} up e before after same = record {
+are_kept {i} {s = s} {t} {u} {new = new} up e before after same = record {
   each = λ newer d older split x held.
       let here = rw split at up in
       let place = (and_parts (is_number (place_of d) x) (nat_lt t d.at.end) held).0 in
       let few = (low (d ∷ older) (part_up_to newer here)).0 in
       let small : x < 96 = place_low (step_pool d.step) d.at.station x few (held_place t x d held) in
-      let was = ap (λ xs. slice_index_or xs x None) same ∙ (before.slots x small ∙ rw split (station_here (clocks s t t)
-      newer d older x here (omega arith) held)) in
+      let was : slot new.slots x ≡ Some (station_of i (clocks s t t) d older) =
+      ap (λ xs. slice_index_or xs x None) same ∙ (before.slots x small
+      ∙ rw split (station_here (clocks s t t) newer d older x here (omega arith) held)) in
       elim (cases_Bool (nat_lt u d.at.end)) [
         | inr l ↦ absurd (some_not_none (station_of i (clocks s t t) d older) (sym was ∙ (after.slots x small
             ∙ rw split (left_empty t u x newer d older here e held (ltb-false u d.at.end l)))))

@@ -11,10 +11,9 @@ use Rattle.tomex_cycle.proofs.Words.{is_under_way, a_from, busy_from, pool_at, t
 use Rattle.tomex_cycle.proofs.Words.{both_ways, Operand, is_branch, j_of, k_of, times_of, field_of, field_from}
 use Rattle.tomex_cycle.proofs.Words.{times_are, IsSnapshot, IsYetToIssue, byte_at, first_timed, RunEndsAfter, fetch_of}
 use Rattle.tomex_cycle.proofs.Words.{place_of, Core, zero, suc, ◌-◌, true, ◌++◌, subst}
-use Rattle.tomex_cycle.proofs.Places.{low, AreLow, IsLow, same_place, turn_and, issued_more}
+use Rattle.tomex_cycle.proofs.Places.{low, AreLow, IsLow, same_place, issued_more}
 use Rattle.tomex_cycle.proofs.Quiet.{AllSteady, AllQuiet}
 use Rattle.tomex_cycle.proofs.Runs.{next_done, not_by, run_next, run_timed, step_is}
-use Rattle.tomex_cycle.specs.Views.{front}
 
 a_same : (t imm address cycle : ℕ) (memory : Bool) → (if memory then Some (if nat_lt t cycle then imm else address) else
     None) ≡ a_from memory (if memory && nat_le cycle t then Some address else None) imm
@@ -23,8 +22,10 @@ a_same t imm address cycle memory = grind (arith, nat_tests)
 busy_same : (i : Loaded) (t : ℕ) (tag : Tag) (d : Done) (older : List Done)
     → busy_of t tag d older ≡ busy_from tag (station_of i (clocks t t t) d older)
 busy_same i t tag d older =
-    let a = a_same t d.step.instr.imm (address_of d.step) (cycle_of d.at.address) (is_memory d.step) in
-    ap (λ (x : Option ℕ). record (busy_of t tag d older) { a = x }) a
+    rw (a_same t d.step.instr.imm (address_of d.step) (cycle_of d.at.address) (is_memory d.step)) refl
+
+turn_and : (a b c : Bool) → ((true && a) && b && c) ≡ ((b && c) && a)
+turn_and a b c = grind (arith, nat_tests)
 
 holds_test : (t : ℕ) (tag : Tag) (d : Done) → tag.number < 16 → IsLow d → d.at.issue ≤ t → (is_under_way t d && is_in
     tag.pool (step_pool d.step) && is_number d.at.station tag.number) ≡ holds_place t (place_of_tag tag) d

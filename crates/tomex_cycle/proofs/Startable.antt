@@ -88,15 +88,12 @@ none_clear {waiting} {rest} {left} {p} so small member without wants = record {
   ];
 }
 
-none_waits : (unit : UnitId) → waits_for unit None ≡ false
-none_waits unit = refl
-
 pub all_cleared : {st : Pools} {next waiting rest clear : ℕ} → AreBusy st.slots st.busy st.issue_numbers
     → IsSetOf (waits_for units.Mem) st.slots waiting → AreCleared st next waiting rest clear → rest ≡ 0
     → AreStartableFor st next units.Mem clear
 all_cleared {st} {waiting} {rest} filled of so empty = record {
-  inside = λ x l e. is_busy_there (waits_for units.Mem) st.slots st.busy st.issue_numbers waiting (none_waits units.Mem)
-      filled of x l (so.found x l e);
+  inside = λ x l e. is_busy_there (waits_for units.Mem) st.slots st.busy st.issue_numbers waiting refl filled of x l
+      (so.found x l e);
   wants = λ x l. so.wants x l (none_rest rest x empty);
 }
 
@@ -124,8 +121,7 @@ pub all_waiting : (st : Pools) (next waiting : ℕ) → AreBusy st.slots st.busy
     → IsInIssueOrder st.busy st.issue_numbers (older ++ (place ∷ younger)) → is_clear st.slots older s next ≡ true)
     → AreStartableFor st next units.Mem waiting
 all_waiting st next waiting filled of clear = record {
-  inside = is_busy_there (waits_for units.Mem) st.slots st.busy st.issue_numbers waiting (none_waits units.Mem) filled
-      of;
+  inside = is_busy_there (waits_for units.Mem) st.slots st.busy st.issue_numbers waiting refl filled of;
   wants = λ x l older younger by. of x l ∙ elim (cases_Bool (waits_for units.Mem (slot st.slots x))) [
     | inr e ↦ e ∙ sym (wants_not st.slots older next units.Mem (slot st.slots x) e)
     | inl e ↦ e ∙ wants_clear st.slots older next units.Mem (slot st.slots x) true e (λ s here. sym
@@ -160,7 +156,7 @@ wants_unit slots older next unit (Some s) apart = elim (cases_Bool (waits_for un
 pub ready_for : (st : Pools) (next set : ℕ) (unit : UnitId) → AreBusy st.slots st.busy st.issue_numbers
     → IsSetOf (waits_for unit) st.slots set → unit ≢ units.Mem → AreStartableFor st next unit set
 ready_for st next set unit filled of apart = record {
-  inside = is_busy_there (waits_for unit) st.slots st.busy st.issue_numbers set (none_waits unit) filled of;
+  inside = is_busy_there (waits_for unit) st.slots st.busy st.issue_numbers set refl filled of;
   wants = λ x l older younger by. of x l ∙ wants_unit st.slots older next unit (slot st.slots x) apart;
 }
 
@@ -240,9 +236,6 @@ none_starts config st next waiting filled of empty =
     (are_served config st next units.Bru 0 0 (other units.Bru (λ e. absurd (cc))) (picked units.Bru))
     (λ x. rw (none_in x) refl)
   where
-    none_too : (unit : UnitId) (o : Option Station) → waits o ≡ false → waits_for unit o ≡ false
-    none_too unit o e = grind (arith, nat_tests)
-
     none_for : (unit : UnitId) → IsSetOf (waits_for unit) st.slots 0
     none_for unit = grind (arith, nat_tests)
 

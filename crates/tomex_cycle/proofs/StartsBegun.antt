@@ -133,8 +133,6 @@ all_begun {config} {next} {m} {picked} {rest} {old} {now} empty so =
     skip_to (λ j. HaveBegun config next m picked j old now) picked so.k 96 so.high
     (λ j from to. none_after picked rest so.k so.from empty j from (omega arith)) (λ j e b. skip_begun e b) so.begun
 
--- What a store leaves in memory.
-
 -- The stores of the picked places, one after the other.
 
 pub inside_as : (o : Option ByteRange) (a b m n : ℕ) → a ≡ b → m ≡ n → IfSome o (λ r. (b ≤ r.from) × (r.to ≤ b + n))

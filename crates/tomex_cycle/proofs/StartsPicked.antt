@@ -1,5 +1,4 @@
 -- The tests that an operation passes as it starts are those of the recurrence: operands, address, older accesses.
-use Rattle.tomex_timing.proofs.Bools.{and_swap as and_swapped}
 use Rattle.tomex_cycle.proofs.Words.{nat_lt, nat_le, if◌then◌else◌, ◌&&◌, not, is_some, cases_Bool, nat_tests}
 use Rattle.tomex_cycle.proofs.Words.{ltb-false, lt-ltb, or_right, Loaded, Configuration, Step, address_of, bytes_of}
 use Rattle.tomex_cycle.proofs.Words.{is_store, j_of, k_of, Tag, Done, cycle_of, is_memory, last_address, source_end}
@@ -119,8 +118,6 @@ clear_is {t = t} {u} {st} (d ∷ older) s x up f shown last bytes store =
     ]
 
 -- The pass over the order picks the stations that the recurrence starts.
-
--- Which start.
 
 -- the step uses a unit, and starts in the cycle
 abbrev pub starts_in : ℕ → Done → Bool

@@ -1,6 +1,5 @@
 use Rattle.tomex_cycle.proofs.Truth.{taken}
 use Rattle.tomex_cycle.proofs.EndsLoops.{all_applied, ended_below, first_applied, one_applied}
-use Rattle.tomex_cycle.proofs.Words.{false}
 use Rattle.tomex_cycle.proofs.ends.apply.Goals as goal
 
 pub members-init : goal.members-init

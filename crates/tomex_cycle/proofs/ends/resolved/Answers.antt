@@ -1,5 +1,4 @@
 use Rattle.tomex_cycle.proofs.KnownEnds.{no_branch, one_branch}
-use Rattle.tomex_cycle.proofs.Words.{true}
 use Rattle.tomex_cycle.proofs.ends.resolved.Goals as goal
 
 pub returns-then-branches-eq0 : goal.returns-then-branches-eq0

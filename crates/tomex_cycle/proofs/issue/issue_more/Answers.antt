@@ -1,5 +1,5 @@
 -- The first issue is made; each turn makes one more, or finds that it can't be made.
-use Rattle.tomex_cycle.proofs.Words.{front, ◌∙◌, ◌<◌, ◌≤◌, arith, refl, sym, true, false}
+use Rattle.tomex_cycle.proofs.Words.{front, ◌∙◌, ◌<◌, ◌≤◌, arith, refl, sym}
 use Rattle.tomex_cycle.proofs.IssuesPhase.{on_first, on_full, on_more, on_wait, one_is}
 use Rattle.tomex_cycle.proofs.issue.issue_more.Goals as goal
 

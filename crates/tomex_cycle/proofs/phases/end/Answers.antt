@@ -1,4 +1,4 @@
-use Rattle.tomex_cycle.proofs.Words.{front, refl, true, false}
+use Rattle.tomex_cycle.proofs.Words.{front, refl}
 use Rattle.tomex_cycle.specs.Ends.{sent_below}
 use Rattle.tomex_cycle.specs.Starts.{AreLow}
 use Rattle.tomex_cycle.proofs.Cycles.{due_happens, end_happens, not_zero}

@@ -1,5 +1,5 @@
 -- None issues, one does, or more after it.
-use Rattle.tomex_cycle.proofs.Words.{◌≡◌, arith, refl, true, false}
+use Rattle.tomex_cycle.proofs.Words.{◌≡◌, arith, refl}
 use Rattle.tomex_cycle.proofs.IssuesPhase.{phase_fault, phase_more, phase_none, phase_one}
 use Rattle.tomex_cycle.proofs.phases.issue.Goals as goal
 

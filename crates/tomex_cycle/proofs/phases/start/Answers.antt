@@ -1,4 +1,4 @@
-use Rattle.tomex_cycle.proofs.Words.{IfSome_then, true, false}
+use Rattle.tomex_cycle.proofs.Words.{IfSome_then}
 use Rattle.tomex_cycle.proofs.Cycles.{start_happens}
 use Rattle.tomex_cycle.proofs.StartsDone.{start_made, start_none}
 use Rattle.tomex_cycle.proofs.phases.start.Goals as goal

@@ -1,4 +1,4 @@
-use Rattle.tomex_cycle.proofs.Words.{◌+◌, refl, inr, true}
+use Rattle.tomex_cycle.proofs.Words.{◌+◌, refl, inr}
 use Rattle.tomex_cycle.proofs.skipping.skip_quiet.Goals as goal
 
 pub returns-then-take_results-clause-skipped : goal.returns-then-take_results-clause-skipped

@@ -1,4 +1,4 @@
-use Rattle.tomex_cycle.proofs.Words.{refl, true, false}
+use Rattle.tomex_cycle.proofs.Words.{refl}
 use Rattle.tomex_cycle.proofs.KnownEnds.{are_results, known_results, others_finish, apart_is}
 use Rattle.tomex_cycle.proofs.skipping.take_results.Goals as goal
 

@@ -1,6 +1,5 @@
 use Rattle.tomex_cycle.proofs.IssueOrder.{alone_clear}
 use Rattle.tomex_cycle.proofs.Startable.{all_cleared, all_of, all_waiting, first_cleared, found_waiting}
-use Rattle.tomex_cycle.proofs.Words.{true}
 use Rattle.tomex_rvdec.specs.declared.pool.UnitId.TheVariants as units
 use Rattle.tomex_cycle.proofs.starts.accessible.Goals as goal
 

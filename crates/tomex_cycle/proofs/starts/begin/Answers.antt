@@ -1,4 +1,4 @@
-use Rattle.tomex_cycle.proofs.Words.{IfSome_then, inside_left, no_option, ◌∙◌, refl, sym, true, false, is_some}
+use Rattle.tomex_cycle.proofs.Words.{IfSome_then, inside_left, no_option, ◌∙◌, refl, sym}
 use Rattle.tomex_cycle.proofs.Truth.{taken}
 use Rattle.tomex_cycle.proofs.StartsBegun.{all_begun, first_begun, left_in, member_begun, no_fault_at, some_not}
 use Rattle.tomex_cycle.proofs.starts.begin.Goals as goal

@@ -1,4 +1,4 @@
-use Rattle.tomex_cycle.proofs.Words.{◌∙◌, refl, sym, false, is_some}
+use Rattle.tomex_cycle.proofs.Words.{◌∙◌, refl, sym}
 use Rattle.tomex_cycle.proofs.Known.{known_started}
 use Rattle.tomex_membuf.proofs.Older.{no_option}
 use Rattle.tomex_cycle.proofs.starts.begin_at.Goals as goal

@@ -1,4 +1,4 @@
-use Rattle.tomex_cycle.proofs.Words.{◌∙◌, sym, true, false, is_clear}
+use Rattle.tomex_cycle.proofs.Words.{◌∙◌, sym}
 use Rattle.tomex_cycle.proofs.Startable.{all_cleared, first_cleared, found_waiting, none_clear, one_clear}
 use Rattle.tomex_cycle.proofs.starts.clear_among.Goals as goal
 

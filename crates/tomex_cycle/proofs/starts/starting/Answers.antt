@@ -1,6 +1,5 @@
 use Rattle.tomex_cycle.proofs.Startable.{are_served, all_of, are_starting, none_starts, single_of}
 use Rattle.tomex_timing.proofs.Limits.{units_low}
-use Rattle.tomex_cycle.proofs.Words.{true}
 use Rattle.tomex_rvdec.specs.declared.pool.UnitId.TheVariants as units
 use Rattle.tomex_cycle.proofs.starts.starting.Goals as goal
 

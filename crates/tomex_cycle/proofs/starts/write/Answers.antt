@@ -1,6 +1,5 @@
 use Rattle.tomex_cycle.proofs.Truth.{taken}
 use Rattle.tomex_cycle.proofs.StartsBegun.{all_stored, first_stored, member_stored, store_picked, stores_stored}
-use Rattle.tomex_cycle.proofs.Words.{false}
 use Rattle.tomex_cycle.proofs.starts.write.Goals as goal
 
 pub members-init : goal.members-init

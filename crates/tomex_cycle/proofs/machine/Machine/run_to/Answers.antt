@@ -1,4 +1,4 @@
-use Rattle.tomex_cycle.proofs.Words.{◌≡◌, ◌<◌, arith, refl, ap, sym, max, ◌∙◌, true, false}
+use Rattle.tomex_cycle.proofs.Words.{◌≡◌, ◌<◌, arith, refl, ap, sym, max, ◌∙◌}
 use Rattle.tomex_cycle.specs.Seen.{seen}
 use Rattle.tomex_cycle.proofs.Skips.{paid_counts, paid_first, paid_on}
 use Rattle.tomex_cycle.proofs.Outer.{over_seen}
