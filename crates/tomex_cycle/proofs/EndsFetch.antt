@@ -232,7 +232,7 @@ made_ends config {next} old picked ends filled follows made heard_ i h t e up s 
       from = follow_is h up e shown (rw s.from at follows);
     }
 
--- Where nothing ends, nothing changes.
+-- If nothing ends, nothing changes.
 
 pub ends_none : (config : Configuration) {next : ℕ} (ending : ℕ) (old : Front) {fetch : Fetch}
     → AreEnding old.pools config.buses next ending → AreBusy old.pools.slots old.pools.busy old.pools.issue_numbers

@@ -243,7 +243,7 @@ pub leaves_none : (st : Pools) (buses : ℕ) {next due : ℕ} {g : Finishes} →
 leaves_none st buses {next} {g = g} filled now e none =
     leaves_known st buses g filled now (none_chosen st buses e none) (none_sent g)
 
--- Where nothing but results finishes in a cycle, they are unsent after it, and that is all that changes.
+-- If only results finish in a cycle, they are unsent after it, and that is all that changes.
 
 -- what is due first, taken apart: results, which no branch has, and the others
 pub record IsApart (slots : List (Option Station)) (first results others : ℕ) : Type 0 where

@@ -1,4 +1,4 @@
--- Where nothing happens in a cycle and nothing finishes for a while, nothing happens for that while.
+-- If nothing happens in a cycle and nothing finishes for a while, nothing happens for that while.
 use Rattle.tomex_cycle.proofs.Words.{◌≢◌, nat_le, ◌==◌, ◌&&◌, is_some, count_by, if◌then◌else◌, nat_tests, MatchOption}
 use Rattle.tomex_cycle.proofs.Words.{MatchBool, AllByRecursion, cases_Bool, both_ways, leb-true, leb-false, ne_eqb}
 use Rattle.tomex_cycle.proofs.Words.{and_right, sum_by-cons, Configuration, IsWithinLimits, option_of, PoolId, UnitId}

@@ -289,7 +289,7 @@ start_made config next old new m written fault picked starting filled begins goo
       },
     )
 
--- Where no operation starts, nothing changes.
+-- If no operation starts, nothing changes.
 
 pub start_none : {config : Configuration} {next starting : ℕ} {old : Pools} (m : Bytes)
     → IsStarting config old next starting → AreBusy old.slots old.busy old.issue_numbers → starting ≡ 0
