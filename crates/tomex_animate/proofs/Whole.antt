@@ -21,7 +21,7 @@ use Rattle.tomex_snapshots.specs.declared.entries.Entry.{Entry}
 use Rattle.tomex_snapshots.specs.declared.entries.Span.{Span}
 use Rattle.tomex_snapshots.specs.Entries.{done_of, history_of, is_there}
 use Rattle.tomex_animate.specs.Stretch.{earliest, is_later, is_past}
-use Rattle.tomex_snapshots.specs.Takers.{held, operand_takers, register_takers, takers, takers_from, takers_to}
+use Rattle.tomex_snapshots.specs.Takers.{occupant, operand_takers, register_takers, takers, takers_from, takers_to}
 use Rattle.tomex_frames.specs.Events.{all_events, event_text, events, happens, item, item_if, items}
 use Rattle.tomex_animate.specs.Machine.{cycles_of}
 use Rattle.tomex_animate.specs.Page.{frame}
@@ -74,14 +74,14 @@ busy_same s tag d mid old past = rw (
       past,
 ) refl
 
-held_past : (s t : ℕ) (h : List Done) (tag : Tag) → ArePast t h → held s t h tag ≡ None
+held_past : (s t : ℕ) (h : List Done) (tag : Tag) → ArePast t h → occupant s t h tag ≡ None
 held_past s t [] tag past = refl
 held_past s t (d ∷ h) tag past =
     let over : is_under_way t d ≡ false = and_right _ _ (le-ltb t d.at.end past.0) in
     rw over (held_past s t h tag past.1)
 
 held_mid : (s t : ℕ) (mid old : List Done) (tag : Tag) → s ≤ t → ArePast s old → ArePast t old
-    → held s t (mid ++ old) tag ≡ held s t mid tag
+    → occupant s t (mid ++ old) tag ≡ occupant s t mid tag
 held_mid s t [] old tag low before past = held_past s t old tag past
 held_mid s t (d ∷ mid) old tag low before past =
     let here : Bool = is_under_way t d && is_in tag.pool (step_pool d.step) && is_number d.at.station tag.number in
@@ -90,12 +90,13 @@ held_mid s t (d ∷ mid) old tag low before past =
       | inr e ↦ rw e (held_mid s t mid old tag low before past)
     ]
 
-held_new : (s t : ℕ) (new h : List Done) (tag : Tag) → AreYetToIssue t new → held s t (new ++ h) tag ≡ held s t h tag
+held_new : (s t : ℕ) (new h : List Done) (tag : Tag) → AreYetToIssue t new → occupant s t (new ++ h) tag
+    ≡ occupant s t h tag
 held_new s t [] h tag later = refl
 held_new s t (d ∷ new) h tag later = rw (lt-leb d.at.issue t later.0) (held_new s t new h tag later.1)
 
 pub held_same : (s t : ℕ) (new mid old : List Done) (tag : Tag) → s ≤ t → AreYetToIssue t new → ArePast s old
-    → ArePast t old → held s t (new ++ (mid ++ old)) tag ≡ held s t mid tag
+    → ArePast t old → occupant s t (new ++ (mid ++ old)) tag ≡ occupant s t mid tag
 held_same s t new mid old tag low later before past =
     held_new s t new (mid ++ old) tag later ∙ held_mid s t mid old tag low before past
 
@@ -279,9 +280,9 @@ history_mid front some rest =
 
 -- two histories show the same in a view
 pub record ShowSame (t : ℕ) (a b : List Done) : Type 0 where
-  pub before : (tag : Tag) → held (t - 1) (t - 1) a tag ≡ held (t - 1) (t - 1) b tag
-  pub taking : (tag : Tag) → held (t - 1) t a tag ≡ held (t - 1) t b tag
-  pub now : (tag : Tag) → held t t a tag ≡ held t t b tag
+  pub before : (tag : Tag) → occupant (t - 1) (t - 1) a tag ≡ occupant (t - 1) (t - 1) b tag
+  pub taking : (tag : Tag) → occupant (t - 1) t a tag ≡ occupant (t - 1) t b tag
+  pub now : (tag : Tag) → occupant t t a tag ≡ occupant t t b tag
   pub was : (r : ℕ) → qi_of (t - 1) a r ≡ qi_of (t - 1) b r
   pub is : (r : ℕ) → qi_of t a r ≡ qi_of t b r
 
@@ -298,11 +299,11 @@ show_same first last t front some rest low high past later =
     let hf = history_of front in
     let e = history_mid front some rest in
     record {
-      before = λ tag. ap (λ (h : List Done). held (t - 1) (t - 1) h tag) e
+      before = λ tag. ap (λ (h : List Done). occupant (t - 1) (t - 1) h tag) e
           ∙ held_same (t - 1) (t - 1) hr hs hf tag (omega arith) R P P;
-      taking = λ tag. ap (λ (h : List Done). held (t - 1) t h tag) e
+      taking = λ tag. ap (λ (h : List Done). occupant (t - 1) t h tag) e
           ∙ held_same (t - 1) t hr hs hf tag (omega arith) S P Q;
-      now = λ tag. ap (λ (h : List Done). held t t h tag) e ∙ held_same t t hr hs hf tag (omega arith) S Q Q;
+      now = λ tag. ap (λ (h : List Done). occupant t t h tag) e ∙ held_same t t hr hs hf tag (omega arith) S Q Q;
       was = λ r. ap (λ (h : List Done). qi_of (t - 1) h r) e ∙ qi_same (t - 1) hr hs hf r R P;
       is = λ r. ap (λ (h : List Done). qi_of t h r) e ∙ qi_same t hr hs hf r S Q;
     }
@@ -313,8 +314,8 @@ takers_to_same : (t : ℕ) (a b : List Done) (tag : Tag) (r : ℕ) → ShowSame 
 unfolding takers_to
 takers_to_same t a b tag r same =
     ap₂ (λ (x y : List Taker). x ++ y)
-    (flat_map_same (λ station. operand_takers tag (held (t - 1) t a station))
-    (λ station. operand_takers tag (held (t - 1) t b station))
+    (flat_map_same (λ station. operand_takers tag (occupant (t - 1) t a station))
+    (λ station. operand_takers tag (occupant (t - 1) t b station))
     (λ station. ap (operand_takers tag) (same.taking station)) all_tags)
     (ap₂ (λ (x y : Option Tag). register_takers tag r x y) (same.was r) (same.is r))
 

@@ -6,5 +6,5 @@ mod system;
 mod values;
 
 pub use fault::{LineFault, fault_of, refusal_of};
-pub use system::{not_text, unread};
+pub use system::{not_text, reading_fault};
 pub use values::{Bounds, flag_of, number_of, word_of, words_of};

@@ -15,7 +15,7 @@ pub fn not_text(alloc: Global) -> Result<String, AllocError>
 
 /// Why the command line could not be read: out of memory, or a word is not UTF-8, which is a
 /// mistake in the line. There may have been no memory for the message of the latter.
-pub fn unread(wants_memory: bool, said: Result<String, AllocError>) -> LineFault
+pub fn reading_fault(wants_memory: bool, said: Result<String, AllocError>) -> LineFault
     ensures memory { wants_memory ≡ true → result ≡ fault.Memory }
     ensures said { wants_memory ≡ false → IfOk said (λ text. result ≡ fault.Usage text) }
     ensures unsaid { IfErr said (λ e. result ≡ fault.Memory) }

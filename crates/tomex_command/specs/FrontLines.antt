@@ -1,7 +1,7 @@
 -- The result of a line that asks for the front of a study, by `all`, or by `explore`, `front` and `plot`.
 use Rattle.std.specs.Prelude.{List, ℕ}
 use Rattle.tomex_study.specs.Study.{DesignSpace}
-use Rattle.tomex_report.specs.Answer.{IsShown}
+use Rattle.tomex_report.specs.Answer.{IsAnswerIn}
 use Rattle.tomex_report.specs.declared.front_view.FrontView.{FrontView}
 use Rattle.tomex_command.specs.declared.failure.Failure.{Failure}
 use Rattle.tomex_command.specs.declared.failure.Failure.TheVariants.{Worker}
@@ -13,7 +13,7 @@ pub record IsFrontOf (view : FrontView) (file : List ℕ → Told) (name : List 
   pub bytes : List ℕ
   pub contents : List (List ℕ)
   pub sources : AreSources file name bytes contents
-  pub shown : IsShown view bytes contents text
+  pub shown : IsAnswerIn view bytes contents text
 
 -- the failures of an exploration: those of the study, and a refused thread if the study is fine
 abbrev pub IsExploreFailure : (List ℕ → Told) → List ℕ → Failure → Type 0

@@ -15,15 +15,15 @@ use Rattle.tomex_command.specs.Chosen.{IsOfRun, IsRunFailure}
 use Rattle.tomex_streams.specs.Files.{Told}
 
 -- the text that is asked for: the log of a number of steps from one on, or their picture
-abbrev pub IsShown : Bool → Configuration → List Step → ℕ → ℕ → List ℕ → Type 0
-IsShown true config steps from count text = IsLogOf config steps from count text
-IsShown false config steps from count text = IsPictureOf config steps from count text
+abbrev pub IsLogOrPicture : Bool → Configuration → List Step → ℕ → ℕ → List ℕ → Type 0
+IsLogOrPicture true config steps from count text = IsLogOf config steps from count text
+IsLogOrPicture false config steps from count text = IsPictureOf config steps from count text
 
 -- the study of the line's files has the configuration and the program, and the text shows their steps
 abbrev pub IsPipelineOf : (List ℕ → Told) → PipelineLine → List ℕ → Type 0
 IsPipelineOf file line text =
     IsOfRun file line.run (λ config program.
-    IsShown line.konata config (steps_from program.limit (start_of program.image)) line.from line.steps text)
+    IsLogOrPicture line.konata config (steps_from program.limit (start_of program.image)) line.from line.steps text)
 
 -- it has them, and there is no picture of their steps, for this reason
 abbrev pub IsUndrawn : (List ℕ → Told) → PipelineLine → PictureError → Type 0

@@ -3,7 +3,7 @@ use Rattle.std.specs.Prelude.{◌≡◌, ◌≢◌, ℕ, ◌+◌, ◌<◌, List,
 use Rattle.std.specs.Fmt.{decimal}
 use Rattle.tomex_image.specs.Image.{Loaded}
 use Rattle.tomex_image.specs.Window.{Span}
-use Rattle.tomex_image.specs.Loading.{placed, refused}
+use Rattle.tomex_image.specs.Loading.{IsPlaced, refused}
 use Rattle.tomex_image.specs.declared.error.ImageError.{ImageError}
 use Rattle.tomex_image.specs.declared.error.ImageError.TheVariants as images
 use Rattle.tomex_rvexec.specs.declared.outcome.EndKind.{EndKind}
@@ -35,13 +35,13 @@ text_of kind steps s = register_lines 0 s.regs ++ end_line kind s.pc steps
 -- the bytes load as an image whose run ends within the limit, and this is the text of its end
 abbrev pub IsRunText : List ℕ → Span → ℕ → List ℕ → Type 0
 IsRunText bytes window limit text =
-    (i : Loaded) × placed bytes window i × (refused bytes window ≡ None)
+    (i : Loaded) × IsPlaced bytes window i × (refused bytes window ≡ None)
     × ((k : ℕ) × (s : State) × (kind : EndKind) × (k < limit) × RunEnds i k s kind × (text ≡ text_of kind (k + 1) s))
 
 -- the bytes load as an image whose run has this refusal
 abbrev pub LoadsAndFails : List ℕ → Span → ℕ → RunError → Type 0
 LoadsAndFails bytes window limit e =
-    (i : Loaded) × placed bytes window i × (refused bytes window ≡ None) × IsRefusal i limit e
+    (i : Loaded) × IsPlaced bytes window i × (refused bytes window ≡ None) × IsRefusal i limit e
 
 -- when each refusal comes; memory may run out at any time
 abbrev pub IsRunRefusal : List ℕ → Span → ℕ → RunRefusal → Type 0

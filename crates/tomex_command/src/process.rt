@@ -14,7 +14,7 @@ use std::process::ExitCode;
 use std::sync::Wait;
 use std::thread::Threads;
 use std::time::Clock;
-use tomex_arguments::{LineFault, not_text, unread};
+use tomex_arguments::{LineFault, not_text, reading_fault};
 use tomex_streams::{Files, HostFiles, Meter, Sink, Stream, TerminalMeter};
 
 /// The exit code of a status.
@@ -59,7 +59,7 @@ fn words_of(rt: &(impl env::Env + AllocGlobal)) -> Result<Vec<String>, LineFault
     let alloc = rt.alloc();
     match env::args(rt) {
         Ok(words) => Ok(words.collect(alloc)?),
-        Err(error) => Err(unread(error.kind() == ErrorKind::OutOfMemory, not_text(alloc))),
+        Err(error) => Err(reading_fault(error.kind() == ErrorKind::OutOfMemory, not_text(alloc))),
     }
 }
 

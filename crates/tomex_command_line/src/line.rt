@@ -14,10 +14,10 @@ ghost use Rattle.tomex_command_line.specs.Asked.{IsCommand, IsAsked, IsNoCommand
 pub mod all;
 pub mod animate;
 mod command_name;
-mod described;
 pub mod explain;
 pub mod explore;
 mod front;
+pub mod one_run;
 mod page;
 pub mod pipeline;
 pub mod plot;
@@ -25,8 +25,8 @@ mod prices;
 mod rows;
 pub mod run;
 pub mod stalls;
-pub mod studied;
 pub mod tables;
+mod texts;
 mod times;
 mod values;
 pub mod worth;
@@ -35,16 +35,16 @@ use all::AllLine;
 use animate::AnimateLine;
 use clap::{ArgMatches, Command};
 use command_name::{CommandName, command_named};
-use described::offering;
 use explain::ExplainLine;
 use explore::ExploreLine;
+use one_run::{OneRun, one_run_of};
 use pipeline::PipelineLine;
 use plot::PlotLine;
 use run::RunLine;
 use stalls::StallsLine;
 use std::alloc::{AllocError, Global};
-use studied::{OneRun, one_run_of};
 use tables::TablesLine;
+use texts::with_command;
 use tomex_arguments::{LineFault, fault_of, refusal_of};
 use worth::WorthLine;
 
@@ -118,21 +118,21 @@ fn grammar<'a>(alloc: Global) -> Result<Command<'a>, AllocError>
     ensures { IfOk result (λ c. app_of c ≡ tomex_app) }
 {
     let program = Ok(without_commands(alloc));
-    let program = offering(program, run::grammar(alloc));
-    let program = offering(program, times::grammar(alloc));
-    let program = offering(program, stalls::grammar(alloc));
-    let program = offering(program, pipeline::grammar(alloc));
-    let program = offering(program, tables::grammar(alloc));
-    let program = offering(program, animate::grammar(alloc));
-    let program = offering(program, all::grammar(alloc));
-    let program = offering(program, explore::grammar(alloc));
-    let program = offering(program, front::grammar(alloc));
-    let program = offering(program, plot::grammar(alloc));
-    let program = offering(program, rows::grammar(alloc));
-    let program = offering(program, worth::grammar(alloc));
-    let program = offering(program, prices::grammar(alloc));
-    let program = offering(program, page::grammar(alloc));
-    offering(program, explain::grammar(alloc))
+    let program = with_command(program, run::grammar(alloc));
+    let program = with_command(program, times::grammar(alloc));
+    let program = with_command(program, stalls::grammar(alloc));
+    let program = with_command(program, pipeline::grammar(alloc));
+    let program = with_command(program, tables::grammar(alloc));
+    let program = with_command(program, animate::grammar(alloc));
+    let program = with_command(program, all::grammar(alloc));
+    let program = with_command(program, explore::grammar(alloc));
+    let program = with_command(program, front::grammar(alloc));
+    let program = with_command(program, plot::grammar(alloc));
+    let program = with_command(program, rows::grammar(alloc));
+    let program = with_command(program, worth::grammar(alloc));
+    let program = with_command(program, prices::grammar(alloc));
+    let program = with_command(program, page::grammar(alloc));
+    with_command(program, explain::grammar(alloc))
 }
 
 /// The line of this command, with the values that the parser found.

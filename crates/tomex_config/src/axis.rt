@@ -3,7 +3,8 @@
 ghost use Rattle.std.specs.Prelude.{◌≡◌, ◌==◌, nat_lt, false};
 ghost use Rattle.std.specs.List.{list_all};
 ghost use Rattle.tomex_config.specs.Configuration.{is_between, is_option};
-ghost use Rattle.tomex_config.specs.Grid.{lists_of, lengths, has_zero, product, has_empty, most_rows, stations_in_range};
+ghost use Rattle.tomex_config.specs.Grid.{lists_of, lengths, has_zero, product, has_empty, most_rows};
+ghost use Rattle.tomex_config.specs.Grid.{stations_in_range};
 ghost use Rattle.tomex_config.specs.Grid.{options_in_range, rest_in_range, in_range, is_above_limit, is_too_large};
 
 use crate::config::{UnitOption, is_option};

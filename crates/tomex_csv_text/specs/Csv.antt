@@ -9,8 +9,8 @@ abbrev pub record_text : List (List ℕ) → List ℕ
 record_text fields = row_text default_writer fields
 
 -- all that a writer into a list of bytes wrote, including what it still buffers
-abbrev pub written : {W : Type 0} → (W → List ℕ) → Writer W → List ℕ
-written items writer = items (writer_under writer) ++ writer_pending writer
+abbrev pub text_written : {W : Type 0} → (W → List ℕ) → Writer W → List ℕ
+text_written items writer = items (writer_under writer) ++ writer_pending writer
 
 -- a writer that begins a record
 pub record IsReady {W : Type 0} (writer : Writer W) : Type 0 where

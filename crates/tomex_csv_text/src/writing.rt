@@ -2,7 +2,7 @@
 
 ghost use Rattle.std.specs.Prelude.{◌≡◌, ◌++◌, IfOk, OnOk};
 ghost use Rattle.csv.specs.Records.{fields_of};
-ghost use Rattle.tomex_csv_text.specs.Csv.{IsReady, record_text, written};
+ghost use Rattle.tomex_csv_text.specs.Csv.{IsReady, record_text, text_written};
 
 use csv::{ByteRecord, Writer};
 use std::alloc::{AllocError, Allocator};
@@ -14,8 +14,8 @@ pub fn put_record<A: Allocator>(
 ) -> Result<(), AllocError>
     requires { IsReady writer.old }
     ensures ready { OnOk result (IsReady writer.new) }
-    ensures text { OnOk result (written (λ v. v.items) writer.new
-        ≡ written (λ v. v.items) writer.old ++ record_text (fields_of fields.now)) }
+    ensures text { OnOk result (text_written (λ v. v.items) writer.new
+        ≡ text_written (λ v. v.items) writer.old ++ record_text (fields_of fields.now)) }
 {
     match writer.write_byte_record(fields) {
         Ok(()) => Ok(()),
@@ -25,7 +25,7 @@ pub fn put_record<A: Allocator>(
 
 /// All that was written.
 pub fn into_text<A: Allocator>(writer: Writer<Vec<u8, A>>) -> Result<Vec<u8, A>, AllocError>
-    ensures { IfOk result (λ text. text.items ≡ written (λ v. v.items) writer) }
+    ensures { IfOk result (λ text. text.items ≡ text_written (λ v. v.items) writer) }
 {
     match writer.into_inner() {
         Ok(text) => Ok(text),

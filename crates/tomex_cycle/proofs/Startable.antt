@@ -4,7 +4,7 @@ use Rattle.tomex_cycle.proofs.Words.{nat_tests, eqb-true, eqb-false, is_in, is_n
 use Rattle.tomex_cycle.proofs.Words.{IsPicked, Configuration, option_of, pool_of, unit_at, unit_of, place_of_unit}
 use Rattle.tomex_cycle.proofs.Words.{PoolId, UnitId, is_of, none_in, inside_left, none_picked, no_option, is_memory_op}
 use Rattle.tomex_cycle.proofs.Words.{is_waiting, AreBusy, Pools, IsSetOf, has_address, waits, Station, IsStarting}
-use Rattle.tomex_cycle.proofs.Words.{is_clear, kind_if, kind_of, wanted, ◌||◌, slot, ℕ, ◌<◌, ◌≡◌, ◌∙◌, Bool, true}
+use Rattle.tomex_cycle.proofs.Words.{is_clear, kind_if, kind_of, unit_needed, ◌||◌, slot, ℕ, ◌<◌, ◌≡◌, ◌∙◌, Bool, true}
 use Rattle.tomex_cycle.proofs.Words.{false, refl, List, [], ◌∷◌, ◌++◌, Option, Some, None, ap, arith, sym, inl, inr}
 use Rattle.tomex_cycle.proofs.Words.{slice_index, bytes_at, bytes_of_op, IsWith, none_rest, single_picked}
 use Rattle.tomex_cycle.proofs.Words.{is_busy_there, bytes_from, is_ready, AreStartableFor, IsWanted}
@@ -24,7 +24,7 @@ one_kind w c u unit h4 = grind (arith, nat_tests)
 
 -- what waits for no unit of this kind wants none
 wants_not : (slots : List (Option Station)) (older : List ℕ) (next : ℕ) (unit : UnitId) (o : Option Station)
-    → waits_for unit o ≡ false → is_number (wanted slots older next o) (place_of_unit unit) ≡ false
+    → waits_for unit o ≡ false → is_number (unit_needed slots older next o) (place_of_unit unit) ≡ false
 wants_not slots older next unit None e = refl
 wants_not slots older next unit (Some s) e =
     no_kind (is_waiting s) (is_clear slots older s next) (unit_of s.instr.op) unit e
@@ -32,7 +32,7 @@ wants_not slots older next unit (Some s) e =
 -- a step that waits for a unit takes it if no older access blocks it
 pub wants_clear : (slots : List (Option Station)) (older : List ℕ) (next : ℕ) (unit : UnitId) (o : Option Station)
     (clear : Bool) → waits_for unit o ≡ true → ((s : Station) → o ≡ Some s → clear ≡ is_clear slots older s next)
-    → clear ≡ is_number (wanted slots older next o) (place_of_unit unit)
+    → clear ≡ is_number (unit_needed slots older next o) (place_of_unit unit)
 wants_clear slots older next unit None clear w each = absurd (both_ways false refl w)
 wants_clear slots older next unit (Some s) clear w each =
     each s refl ∙ sym (one_kind (is_waiting s) (is_clear slots older s next) (unit_of s.instr.op) unit w)
@@ -145,7 +145,7 @@ clear_of slots older next unit s apart w =
     ∙ other_unit unit (unit_of s.instr.op) apart (and_parts (is_waiting s) (is_of unit (unit_of s.instr.op)) w).1))
 
 wants_unit : (slots : List (Option Station)) (older : List ℕ) (next : ℕ) (unit : UnitId) (o : Option Station)
-    → unit ≢ units.Mem → waits_for unit o ≡ is_number (wanted slots older next o) (place_of_unit unit)
+    → unit ≢ units.Mem → waits_for unit o ≡ is_number (unit_needed slots older next o) (place_of_unit unit)
 wants_unit slots older next unit None apart = refl
 wants_unit slots older next unit (Some s) apart = elim (cases_Bool (waits_for unit (Some s))) [
   | inr e ↦ e ∙ sym (wants_not slots older next unit (Some s) e)

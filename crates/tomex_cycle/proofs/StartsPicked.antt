@@ -7,7 +7,7 @@ use Rattle.tomex_cycle.proofs.Words.{is_clear, clocks, order_of, station_of, no_
 use Rattle.tomex_cycle.proofs.Words.{bytes_in, is_waiting, step_in, is_there, value_in, Pools, Station, ◌||◌, IsUpTo}
 use Rattle.tomex_cycle.proofs.Words.{slot, ◌==◌, count_by, ltb-true, and_parts, and_right, ne_eqb, option_of, UnitId}
 use Rattle.tomex_cycle.proofs.Words.{place_of_unit, is_number, step_unit, unit_with_pool, is_of, can_start, has_unit}
-use Rattle.tomex_cycle.proofs.Words.{wanted, kind_if, kind_of, IsStarting, ShowsStations, holds_place, place_of}
+use Rattle.tomex_cycle.proofs.Words.{unit_needed, kind_if, kind_of, IsStarting, ShowsStations, holds_place, place_of}
 use Rattle.tomex_cycle.proofs.Words.{AreBusy, IsInIssueOrder, has, onto_end, ℕ, ◌+◌, ◌<◌, ◌≤◌, ◌≡◌, ◌∙◌, Bool, true}
 use Rattle.tomex_cycle.proofs.Words.{false, arith, refl, List, [], ◌∷◌, ◌++◌, Option, Some, None, ap, sym, inl, inr}
 use Rattle.tomex_cycle.proofs.Words.{append-nil, length, slice_index, append_assoc, MatchBool-at_false, bytes_of_memory}
@@ -216,7 +216,7 @@ no_pool_unit d timed e = grind (arith, nat_tests, unit_with_pool d.step)
 -- one step of a kind is served by the recurrence
 one_serves : {i : Loaded} {config : Configuration} {t u set : ℕ} {st : Pools} (unit : UnitId) (d : Done)
     (older : List Done) → IsUpTo i config t (d ∷ older) → u ≡ t + 1 → ShowsPart i (clocks t t t) st (d ∷ older)
-    → ((x : ℕ) → x < 128 → holds_place t x d ≡ true → has set x ≡ is_number (wanted st.slots (order_of t older) u
+    → ((x : ℕ) → x < 128 → holds_place t x d ≡ true → has set x ≡ is_number (unit_needed st.slots (order_of t older) u
     (slot st.slots x)) (place_of_unit unit)) → Serves t (option_of config unit).units set (starts_of unit u) d older
 one_serves {i} {config} {t} {u} {st = st} unit d older up f shown wants = record {
   idle = λ l.
@@ -230,7 +230,7 @@ one_serves {i} {config} {t} {u} {st = st} unit d older up f shown wants = record
       let small : x < 96 = at.small in
       sym (ap (λ b. b && nat_lt (count_by (starts_of unit u) older) (option_of config unit).units)
       (wants x (omega arith) held
-      ∙ ap (λ o. is_number (wanted st.slots (order_of t older) u o) (place_of_unit unit)) at.slot)
+      ∙ ap (λ o. is_number (unit_needed st.slots (order_of t older) u o) (place_of_unit unit)) at.slot)
       ∙ wants_is (is_waiting (station_of i (clocks t t t) d older) && is_clear st.slots (order_of t older)
       (station_of i (clocks t t t) d older) u) (d.at.start == u) unit (step_unit d.step)
       (λ v. nat_lt (count_of v u older) (option_of config v).units)

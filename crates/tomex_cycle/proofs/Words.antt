@@ -101,8 +101,9 @@ pub use Rattle.tomex_cycle.specs.Seen.{Seen, seen, seen_after, is_end, Machine}
 pub use Rattle.tomex_cycle.specs.Settled.{AllSettled, IsSettled}
 pub use Rattle.tomex_cycle.specs.Sound.{IsSound}
 pub use Rattle.tomex_cycle.specs.Starts.{AllCanBegin, AllInside, AreLow, AreStartable, CanBegin, HaveBegun, HaveStored}
-pub use Rattle.tomex_cycle.specs.Starts.{IsStarting, NoneWaits, begun, begun_if, is_clear, kind_if, kind_of, stored_at}
-pub use Rattle.tomex_cycle.specs.Starts.{wanted, written_by, AreStartableFor, IsWanted}
+pub use Rattle.tomex_cycle.specs.Starts.{IsStarting, NoneWaits, with_start, with_start_if, is_clear, kind_if}
+pub use Rattle.tomex_cycle.specs.Starts.{kind_of, stored_at}
+pub use Rattle.tomex_cycle.specs.Starts.{unit_needed, written_by, AreStartableFor, IsWanted}
 pub use Rattle.tomex_cycle.specs.Views.{Clocks, Core, Front, ShowsFront, ShowsMemory, ShowsRegisters, ShowsStations}
 pub use Rattle.tomex_cycle.specs.Views.{clocks, fetch_after, fetch_of, holds_place, issue_number_at, onto_end, order_of}
 pub use Rattle.tomex_cycle.specs.Views.{place_of, sent_at, core, front, station_at, station_of, stop_of}

@@ -38,16 +38,16 @@ is_clear slots [] s cycle = true
 is_clear slots (x ∷ xs) s cycle = lets_pass (slot slots x) s cycle && is_clear slots xs s cycle
 
 -- the kind of unit that the operation in a place needs, after these older ones, if it can start
-abbrev pub wanted : List (Option Station) → List ℕ → ℕ → Option Station → Option ℕ
-wanted slots older cycle None = None
-wanted slots older cycle (Some s) =
+abbrev pub unit_needed : List (Option Station) → List ℕ → ℕ → Option Station → Option ℕ
+unit_needed slots older cycle None = None
+unit_needed slots older cycle (Some s) =
     kind_if (is_waiting s && is_clear slots older s cycle) (kind_of (unit_of s.instr.op))
 
 -- true if the operation in a place needs a unit of the kind, given the busy places in issue order
 abbrev pub IsWanted : Pools → ℕ → UnitId → ℕ → Bool → Type 0
 IsWanted st cycle unit x is =
     (older younger : List ℕ) → IsInIssueOrder st.busy st.issue_numbers (older ++ (x ∷ younger))
-    → is ≡ is_number (wanted st.slots older cycle (slot st.slots x)) (place_of_unit unit)
+    → is ≡ is_number (unit_needed st.slots older cycle (slot st.slots x)) (place_of_unit unit)
 
 -- the set of the busy places whose operations can start if a unit of this kind is free
 pub record AreStartableFor (st : Pools) (cycle : ℕ) (unit : UnitId) (set : ℕ) : Type 0 where
@@ -82,8 +82,8 @@ finish_from config cycle None = None
 finish_from config cycle (Some unit) = Some (cycle + (option_of config unit).latency - 1)
 
 -- a station whose operation starts in the cycle, over a memory
-abbrev pub begun : Configuration → ℕ → Bytes → Station → Station
-begun config cycle m s =
+abbrev pub with_start : Configuration → ℕ → Bytes → Station → Station
+with_start config cycle m s =
     record s { finish = finish_from config cycle (unit_of s.instr.op); value = result_of (step_in s) (byte_in m) }
 
 -- the fault of a station whose access is outside memory
@@ -110,14 +110,14 @@ abbrev pub AllCanBegin : Bytes → ℕ → List (Option Station) → Type 0
 AllCanBegin m picked slots =
     (x : ℕ) → x < 96 → has picked x ≡ true → (s : Station) × (slot slots x ≡ Some s) × CanBegin m s
 
-abbrev pub begun_if : Configuration → ℕ → Bytes → Bool → Option Station → Option Station
-begun_if config cycle m picked o = if picked then option_map (begun config cycle m) o else o
+abbrev pub with_start_if : Configuration → ℕ → Bytes → Bool → Option Station → Option Station
+with_start_if config cycle m picked o = if picked then option_map (with_start config cycle m) o else o
 
 -- the operations of the picked places below k have started
 pub record HaveBegun (config : Configuration) (cycle : ℕ) (m : Bytes) (picked k : ℕ) (old new : Pools) : Type 0 where
   pub places : length new.slots ≡ 96
   pub slots : (x : ℕ) → x < 96
-      → slot new.slots x ≡ begun_if config cycle m (nat_lt x k && has picked x) (slot old.slots x)
+      → slot new.slots x ≡ with_start_if config cycle m (nat_lt x k && has picked x) (slot old.slots x)
   pub issue_numbers : new.issue_numbers ≡ old.issue_numbers
 
 -- the byte at an address after the store of a place, if it is picked

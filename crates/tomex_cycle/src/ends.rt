@@ -16,7 +16,7 @@ use tomex_bus::pick;
 use tomex_rvdec::UnitId;
 use tomex_rvexec::next_pc;
 use tomex_sets::{both, difference, lowest, union, without_lowest};
-use tomex_tags::{Pools, RegStatus, Station, broadcast, served_by};
+use tomex_tags::{Pools, RegStatus, Station, broadcast, places_served_by};
 
 /// The operations that finish and the instructions that end in a cycle.
 #[derive(Clone, Copy)]
@@ -92,11 +92,11 @@ pub fn apply(pools: &mut Pools, registers: &mut RegStatus, picked: u128)
 
 /// The place of the branch that finishes in the cycle, if any.
 #[inline(always)]
-fn resolved(pools: &Pools, due: u128, cycle: u64) -> Option<usize>
+fn done_branch(pools: &Pools, due: u128, cycle: u64) -> Option<usize>
     requires { AreDone pools.now.slots cycle due }
     ensures { IsDoneBranch cycle pools.now.slots result }
 {
-    let branches = both(due, served_by(UnitId::Bru));
+    let branches = both(due, places_served_by(UnitId::Bru));
     if branches == 0 {
         return None;
     }
@@ -120,7 +120,7 @@ pub fn follow(fetch: &mut Fetch, pools: &Pools, due: u128, cycle: u64)
     ensures { Follows cycle pools.now.slots fetch.old fetch.new }
 {
     if let Fetch::Waits = *fetch {
-        if let Some(place) = resolved(pools, due, cycle) {
+        if let Some(place) = done_branch(pools, due, cycle) {
             *fetch = Fetch::At(target_at(pools.at(place)));
         }
     }

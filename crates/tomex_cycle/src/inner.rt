@@ -132,7 +132,7 @@ impl<A: Allocator> Inner<A> {
     }
 
     /// The state before the first cycle of an image, over a memory that holds its bytes.
-    fn begun<B: Allocator>(memory: Memory<A>, image: &Image<B>) -> Self
+    fn at_start<B: Allocator>(memory: Memory<A>, image: &Image<B>) -> Self
         requires { memory ≡ record { base = image.now.window.base; bytes = image.now.memory } }
         ensures { IsFresh image.now result }
     {
@@ -153,7 +153,7 @@ impl<A: Allocator> Inner<A> {
     {
         let mut memory = Memory::new(0, Vec::new(alloc));
         memory.reload(image.window().base(), image.memory())?;
-        Ok(Inner::begun(memory, image))
+        Ok(Inner::at_start(memory, image))
     }
 
     /// A new state before the first cycle of this image, made in the memory of the old one if that is enough. The old
@@ -172,7 +172,7 @@ impl<A: Allocator> Inner<A> {
             activity,
         } = self;
         if memory.reload(image.window().base(), image.memory()).is_ok() {
-            return Ok(Inner::begun(memory, image));
+            return Ok(Inner::at_start(memory, image));
         }
         Err(Inner {
             pools,

@@ -44,7 +44,7 @@ pub fn start<A: Allocator>(
     ensures fault { IfSome result.fault (λ f. (x : ℕ) × IsAccessFault pools.old memory.old x f) }
     ensures timetable { result.fault ≡ None → IsTimetableOf pools.new.slots cycle finishes.new }
 {
-    let starting = starts::starting(pools, config, cycle);
+    let starting = starts::choose_starting(pools, config, cycle);
     if starting == 0 {
         return Starts {
             fault: None,

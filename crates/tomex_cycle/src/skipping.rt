@@ -10,7 +10,7 @@ use tomex_config::Config;
 use tomex_rvdec::UnitId;
 use tomex_rvexec::Fetcher;
 use tomex_sets::difference;
-use tomex_tags::{Pools, served_by};
+use tomex_tags::{Pools, places_served_by};
 
 /// The number of cycles that can be skipped before the next finish, which is `ahead` cycles away if there is one; at
 /// most `most`.
@@ -52,7 +52,7 @@ fn take_results(finishes: &mut Finishes, pools: &Pools) -> bool
     ensures results { result ≡ true → (cycle : ℕ) → IsTimetableOf pools.now.slots cycle finishes.old
         → AreResults pools.now.slots cycle × IsTimetableOf pools.now.slots (cycle + 1) finishes.new }
 {
-    let results = difference(pools.writers(), served_by(UnitId::Bru));
+    let results = difference(pools.writers(), places_served_by(UnitId::Bru));
     let others = difference(finishes.wheel.first(), results);
     if others != 0 {
         return false;

@@ -13,7 +13,7 @@ ghost use Rattle.tomex_steps.specs.Results.{byte_in, result_of};
 ghost use Rattle.tomex_cycle.specs.Finishes.{IsTimetableOf};
 ghost use Rattle.tomex_cycle.specs.Starts.{AllCanBegin, AllInside, AllWaitFor, AreLow, AreStartableFor, CanBegin};
 ghost use Rattle.tomex_cycle.specs.Starts.{HaveBegun, HaveStored, IsAccessFault, IsStarting, IsWanted};
-ghost use Rattle.tomex_cycle.specs.Starts.{access_fault, begun};
+ghost use Rattle.tomex_cycle.specs.Starts.{access_fault, with_start};
 
 use crate::finishes::Finishes;
 use std::alloc::Allocator;
@@ -65,7 +65,7 @@ fn accessible(pools: &Pools, cycle: u64) -> u128
     ensures wait { AllWaitFor UnitId.Mem pools.now.slots result }
     ensures busy { AreBusy pools.now.slots pools.now.busy pools.now.issue_numbers }
 {
-    let waiting = pools.waiting_for(UnitId::Mem);
+    let waiting = pools.waiters_for(UnitId::Mem);
     if waiting == 0 {
         return 0;
     }
@@ -84,12 +84,12 @@ fn startable(pools: &Pools, unit: UnitId) -> u128
     ensures wait { IsSetOf (waits_for unit) pools.now.slots result }
     ensures busy { AreBusy pools.now.slots pools.now.busy pools.now.issue_numbers }
 {
-    pools.waiting_for(unit)
+    pools.waiters_for(unit)
 }
 
 /// The union of the five sets.
 #[inline(always)]
-fn together(alu: u128, mul: u128, div: u128, mem: u128, bru: u128) -> u128
+fn union_of_five(alu: u128, mul: u128, div: u128, mem: u128, bru: u128) -> u128
     ensures { (x : ℕ)
         → has result x ≡ (has alu x || (has mul x || (has div x || (has mem x || has bru x)))) }
 {
@@ -98,7 +98,7 @@ fn together(alu: u128, mul: u128, div: u128, mem: u128, bru: u128) -> u128
 
 /// The places whose operations start in the cycle: of each kind the oldest that can, at most as many as there are
 /// units.
-pub fn starting(pools: &Pools, config: &Config, cycle: u64) -> u128
+pub fn choose_starting(pools: &Pools, config: &Config, cycle: u64) -> u128
     ensures starting { IsStarting config.now pools.now cycle result }
     ensures busy { AreBusy pools.now.slots pools.now.busy pools.now.issue_numbers }
 {
@@ -114,10 +114,10 @@ pub fn starting(pools: &Pools, config: &Config, cycle: u64) -> u128
     if is_single(waiting) {
         // Each kind has at least one unit.
         config.keeps_limits();
-        return together(alu, mul, div, mem, bru);
+        return union_of_five(alu, mul, div, mem, bru);
     }
     let issue_numbers = pools.issue_numbers();
-    together(
+    union_of_five(
         pick(alu, issue_numbers, config.units(UnitId::Alu)),
         pick(mul, issue_numbers, config.units(UnitId::Mul)),
         pick(div, issue_numbers, config.units(UnitId::Div)),
@@ -166,7 +166,7 @@ fn outcome<A: Allocator>(
     requires own { unit_of station.now.instr.op ≡ Some (unit_of_pool (pool_at (place / 16))) }
     requires pool { pool_of station.now.instr.op ≡ Some (pool_at (place / 16)) }
     ensures value { (cycle : ℕ) → IfSome result (λ o. with_start (cycle + o.0 - 1) o.1 station.now
-        ≡ begun config.now cycle memory.now station.now) }
+        ≡ with_start config.now cycle memory.now station.now) }
     ensures range { IfSome result (λ o. (1 ≤ o.0) × (o.0 ≤ 64)) }
     ensures outside { IfSome result (λ o. IsInside memory.now (step_in station.now)) }
     ensures inside { CanBegin memory.now station.now → IsSome result }
@@ -188,7 +188,7 @@ fn begin_at<A: Allocator>(
     requires timetable { IsTimetableOf pools.old.slots cycle finishes.old }
     ensures slots { (s : Station) → slot pools.old.slots place ≡ Some s → CanBegin memory.now s
         → pools.new.slots
-        ≡ slice_set pools.old.slots place (Some (begun config.now cycle memory.now s)) }
+        ≡ slice_set pools.old.slots place (Some (with_start config.now cycle memory.now s)) }
     ensures good { (s : Station) → slot pools.old.slots place ≡ Some s → CanBegin memory.now s
         → result ≡ None }
     ensures only { IfSome result (IsAccessFault pools.old memory.now place) }

@@ -28,7 +28,7 @@ use Rattle.tomex_frames.specs.Laws.{IsOn, NextIsListed, NothingIsLost, RowsAreOf
 use Rattle.tomex_frames.specs.Laws.{StepsShowTheirWaits, ViewsShowStalls, WaitsComeBeforeIssues, cycles_with}
 use Rattle.tomex_frames.specs.Laws.{rows_of, rows_with, says}
 use Rattle.tomex_frames.specs.Constants.{status_head}
-use Rattle.tomex_frames.specs.Status.{listed, row_if, status_table, step_row}
+use Rattle.tomex_frames.specs.Status.{listed_cycles, row_if, status_table, step_row}
 use Rattle.tomex_frames.proofs.Sums.{by_steps, contains_kept, count_kept, sum_both, sum_same}
 use Rattle.tomex_frames.proofs.Placed.{entries_more, entry_at, placed_run}
 use Rattle.tomex_frames.proofs.Waits.{IsPlaced, after, before, shown_waits}
@@ -37,7 +37,7 @@ use Rattle.tomex_frames.proofs.Waits.{IsPlaced, after, before, shown_waits}
 
 -- a step that is there in a cycle of the page
 is_listed : (page : Span) (es : List Entry) (e : Entry) (t : ℕ) → IsOn page t → e.from ≤ t → t ≤ e.at.end
-    → is_there (listed page es t) e ≡ true
+    → is_there (listed_cycles page es t) e ≡ true
 is_listed page es e t on from to = elim (cases_Bool (nat_le (count_by (is_there page) es) 16)) [
   | inl few ↦ rw few (and_from _ _ (le-leb e.from page.to (omega (arith, on)))
       (le-leb page.from e.at.end (omega (arith, on))))
@@ -55,11 +55,11 @@ rows_kept_of span t (e ∷ es) = elim (cases_Bool (is_there span e)) [
 pub rows_are_of_steps : RowsAreOfSteps
 unfolding status_table
 rows_are_of_steps page es t =
-    ap (λ (z : List ℕ). status_head ++ (z ++ table_end)) (rows_kept_of (listed page es t) t es)
+    ap (λ (z : List ℕ). status_head ++ (z ++ table_end)) (rows_kept_of (listed_cycles page es t) t es)
 
 pub nothing_is_lost : NothingIsLost
 nothing_is_lost page es e t on there from to =
-    contains_kept (is_there (listed page es t)) es e there (is_listed page es e t on from to)
+    contains_kept (is_there (listed_cycles page es t)) es e there (is_listed page es e t on from to)
 
 pub waits_come_before_issues : WaitsComeBeforeIssues
 waits_come_before_issues config steps good =

@@ -36,8 +36,8 @@ abbrev pub cycle_by : ℕ → ℕ → Content
 cycle_by t n = if nat_le n t then Cycle n else Nothing
 
 -- the cell of what a step doesn't have, from its issue on
-abbrev pub unused : ℕ → Entry → Cell
-unused t e = record { new = false; content = if nat_le e.at.issue t then NotUsed else Nothing }
+abbrev pub unused_cell : ℕ → Entry → Cell
+unused_cell t e = record { new = false; content = if nat_le e.at.issue t then NotUsed else Nothing }
 
 abbrev pub station_content : Option Tag → Content
 station_content None = Nothing
@@ -54,7 +54,7 @@ issue_cell t e = record { new = e.at.issue == t; content = cycle_by t e.at.issue
 
 -- loads and stores have an address cycle
 abbrev pub address_from : ℕ → Entry → Option ℕ → Cell
-address_from t e None = unused t e
+address_from t e None = unused_cell t e
 address_from t e (Some a) = record { new = a == t; content = cycle_by t a }
 
 abbrev pub address_cell : ℕ → Entry → Cell
@@ -68,13 +68,13 @@ execute_cell t e =
     if has_unit e then (if nat_lt t e.at.start then record { new = false; content = Nothing }
     else (if nat_lt t e.at.finish then record { new = e.at.start == t; content = Since e.at.start }
     else record { new = e.at.finish == t; content = took e.at.start e.at.finish }))
-    else unused t e
+    else unused_cell t e
 
 abbrev pub write_cell : ℕ → Entry → Cell
 write_cell t e =
     if has_unit e && is_some (step_dest e.step)
     then record { new = e.at.end == t; content = cycle_by t e.at.end }
-    else unused t e
+    else unused_cell t e
 
 -- the cause that the k-th cycle of a step's waits for its start, from 0, is charged to: causes are in this order
 abbrev pub start_cause : Waits → ℕ → Cause

@@ -15,11 +15,11 @@ use Rattle.tomex_snapshots.specs.declared.entries.Entry.{Entry}
 use Rattle.tomex_snapshots.specs.declared.entries.Span.{Span}
 use Rattle.tomex_frames.specs.Cells.{doing_in, doing_text}
 use Rattle.tomex_frames.specs.Constants.{status_head}
-use Rattle.tomex_frames.specs.Status.{listed, status_table, step_row}
+use Rattle.tomex_frames.specs.Status.{listed_cycles, status_table, step_row}
 
 -- the steps that a view lists
 abbrev pub rows_of : Span → List Entry → ℕ → List Entry
-rows_of page es t = filter (is_there (listed page es t)) es
+rows_of page es t = filter (is_there (listed_cycles page es t)) es
 
 -- it has a row for each of them
 abbrev pub RowsAreOfSteps : Type 0

@@ -32,7 +32,7 @@ step_row t e =
 
 -- All steps of the page's cycles if these are at most 16: then the table keeps its rows, and fills in. Otherwise those
 -- of a cycle and the two before it.
-abbrev pub listed : Span → List Entry → ℕ → Span
+abbrev pub listed_cycles : Span → List Entry → ℕ → Span
 listed page es t =
     if nat_le (count_by (is_there page) es) 16 then page else record { from = t - 2; to = t }
 
@@ -40,4 +40,4 @@ abbrev pub row_if : Span → ℕ → Entry → List ℕ
 row_if span t e = if is_there span e then step_row t e else []
 
 unfoldable pub status_table : Span → List Entry → ℕ → List ℕ
-status_table page es t = status_head ++ (flat_map (row_if (listed page es t) t) es ++ table_end)
+status_table page es t = status_head ++ (flat_map (row_if (listed_cycles page es t) t) es ++ table_end)

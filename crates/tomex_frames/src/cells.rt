@@ -72,8 +72,8 @@ fn cycle_by(by: u64, cycle: u64) -> Content
 }
 
 /// The cell of what a step doesn't have.
-fn unused(cycle: u64, entry: &Entry) -> Cell
-    ensures { result ≡ unused cycle entry.now }
+fn unused_cell(cycle: u64, entry: &Entry) -> Cell
+    ensures { result ≡ unused_cell cycle entry.now }
 {
     let content = if entry.at.issue <= cycle {
         Content::NotUsed
@@ -122,7 +122,7 @@ pub fn address_cell(cycle: u64, entry: &Entry) -> Cell
             new: address == cycle,
             content: cycle_by(cycle, address),
         },
-        None => unused(cycle, entry),
+        None => unused_cell(cycle, entry),
     }
 }
 
@@ -143,7 +143,7 @@ pub fn execute_cell(cycle: u64, entry: &Entry) -> Cell
 {
     let (start, finish) = (entry.at.start, entry.at.finish);
     if !entry.has_unit() {
-        return unused(cycle, entry);
+        return unused_cell(cycle, entry);
     }
     if cycle < start {
         return Cell {
@@ -174,6 +174,6 @@ pub fn write_cell(cycle: u64, entry: &Entry) -> Cell
             content: cycle_by(cycle, end),
         }
     } else {
-        unused(cycle, entry)
+        unused_cell(cycle, entry)
     }
 }

@@ -3,7 +3,8 @@
 ghost use Rattle.std.specs.Prelude.{◌≡◌, ◌++◌, OnOk, count_by, string_bytes};
 ghost use Rattle.std.specs.List.{flat_map};
 ghost use Rattle.tomex_snapshots.specs.Entries.{is_there};
-ghost use Rattle.tomex_frames.specs.Status.{listed, row_cells, row_class, row_head, row_if, status_table, step_row};
+ghost use Rattle.tomex_frames.specs.Status.{listed_cycles, row_cells, row_class, row_head, row_if};
+ghost use Rattle.tomex_frames.specs.Status.{status_table, step_row};
 
 use crate::cells::{address_cell, execute_cell, issue_cell, station_cell, write_cell};
 use crate::constants::status_head;
@@ -81,8 +82,8 @@ fn count_in(span: Span, entries: &[Entry]) -> usize
 }
 
 /// The cycles whose steps are listed in the view of a cycle.
-fn listed(page: Span, entries: &[Entry], cycle: u64) -> Span
-    ensures { result ≡ listed page entries.now cycle }
+fn listed_cycles(page: Span, entries: &[Entry], cycle: u64) -> Span
+    ensures { result ≡ listed_cycles page entries.now cycle }
 {
     if count_in(page, entries) <= FEW_STEPS {
         page
@@ -123,7 +124,7 @@ pub fn push_status_table<A: Allocator>(
     ensures { OnOk result (string_bytes text.new
         ≡ string_bytes text.old ++ status_table page entries.now cycle) }
 {
-    let span = listed(page, entries, cycle);
+    let span = listed_cycles(page, entries, cycle);
     text.push_str(status_head())?;
     push_rows(text, span, cycle, entries)?;
     push_table_end(text)

@@ -93,15 +93,15 @@ number_at at row =
     codes "<text x=\"" ++ (decimal (at.x + 6) ++ (codes "\" y=\"" ++ (decimal (at.y - 6)
     ++ (codes "\">" ++ (decimal row ++ codes "</text>\n")))))
 
-abbrev pub named_at : Point → ℕ → Named
-named_at at row = record { at = at; digits = length (decimal row) }
+abbrev pub named_point : Point → ℕ → Named
+named_point at row = record { at = at; digits = length (decimal row) }
 
 -- the numbers of the rows that have room for one
 abbrev pub numbers_of : Axes → Option Named → List FrontRow → List ℕ
 numbers_of axes last [] = []
 numbers_of axes last (r ∷ rows) =
     let at = point_of axes r in
-    if has_room last at then number_at at r.row ++ numbers_of axes (Some (named_at at r.row)) rows
+    if has_room last at then number_at at r.row ++ numbers_of axes (Some (named_point at r.row)) rows
     else numbers_of axes last rows
 
 -- the picture's size, and the style of its texts
@@ -150,8 +150,8 @@ centred_group = codes "<g text-anchor=\"middle\">\n"
 abbrev pub cost_label : List ℕ
 cost_label = codes "<text x=\"404\" y=\"426\" font-size=\"14\">cost</text>\n</g>\n"
 
-abbrev pub ending_there : List ℕ
-ending_there = codes "<g text-anchor=\"end\">\n"
+abbrev pub end_anchor : List ℕ
+end_anchor = codes "<g text-anchor=\"end\">\n"
 
 abbrev pub cycles_label : List ℕ
 cycles_label = codes "<text x=\"104\" y=\"48\" font-size=\"14\">cycles</text>\n</g>\n"
@@ -159,7 +159,7 @@ cycles_label = codes "<text x=\"104\" y=\"48\" font-size=\"14\">cycles</text>\n<
 unfoldable pub scales_text : Axes → List ℕ
 scales_text axes =
     centred_group
-    ++ (marks_of axes CostNumber ++ (cost_label ++ (ending_there ++ (marks_of axes CyclesNumber ++ cycles_label))))
+    ++ (marks_of axes CostNumber ++ (cost_label ++ (end_anchor ++ (marks_of axes CyclesNumber ++ cycles_label))))
 
 -- the staircase as a line, the points, and their rows' numbers
 unfoldable pub rows_text : Axes → List ℕ → List FrontRow → List ℕ

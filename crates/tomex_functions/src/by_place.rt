@@ -10,7 +10,7 @@ ghost use Rattle.tomex_rvexec.specs.Run.{start_of};
 ghost use Rattle.tomex_rvexec.specs.Texts.{hex8};
 ghost use Rattle.tomex_rvexec.specs.Trace.{steps_from};
 ghost use Rattle.tomex_steps.specs.declared.step.Step.{Step};
-ghost use Rattle.tomex_csv_text.specs.Csv.{IsReady, record_text, written};
+ghost use Rattle.tomex_csv_text.specs.Csv.{IsReady, record_text, text_written};
 ghost use Rattle.tomex_run_views.specs.Tally.{fields_of_sum};
 ghost use Rattle.tomex_symbols.specs.Symbols.{symbols_of};
 ghost use Rattle.tomex_symbols.specs.declared.symbol.Symbol.{Symbol};
@@ -60,8 +60,8 @@ fn put_place<A: Allocator>(
 ) -> Result<(), AllocError>
     requires ready { IsReady writer.old }
     ensures ready { OnOk result (IsReady writer.new) }
-    ensures text { OnOk result (written (λ v. v.items) writer.new
-        ≡ written (λ v. v.items) writer.old ++ record_text (with_function file.now place.now function.now)) }
+    ensures text { OnOk result (text_written (λ v. v.items) writer.new
+        ≡ text_written (λ v. v.items) writer.old ++ record_text (with_function file.now place.now function.now)) }
 {
     fill_place(record, scratch, heap, file, place, function)?;
     put_record(writer, record)
@@ -79,7 +79,7 @@ fn put_places<A: Allocator>(
     ensures ready { OnOk result (IsReady writer.new) }
     ensures text { OnOk result ((symbols : List Symbol) (steps : List Step) → IsIndexOf symbols steps index.now
         → All (λ place. HasAddress place.first.pc steps) (values tally.now.groups)
-        → written (λ v. v.items) writer.new ≡ written (λ v. v.items) writer.old
+        → text_written (λ v. v.items) writer.new ≡ text_written (λ v. v.items) writer.old
         ++ flat_map (λ place. record_text (place_fields file.now symbols place)) (values tally.now.groups)) }
     ensures rising { OnOk result (IsOrdered nat_cmp tally.now.groups) }
 {
@@ -113,8 +113,8 @@ fn put_counted<A: Allocator>(
     requires cycles { counted.now.tally.all.cycles ≤ 2 ^ 62 }
     ensures text { OnOk result ((symbols : List Symbol) (steps : List Step) → IsIndexOf symbols steps index.now
         → All (λ place. HasAddress place.first.pc steps) (values counted.now.tally.groups)
-        → written (λ v. v.items) writer.new
-        ≡ written (λ v. v.items) writer.old ++ report_of_counted file.now symbols counted.now) }
+        → text_written (λ v. v.items) writer.new
+        ≡ text_written (λ v. v.items) writer.old ++ report_of_counted file.now symbols counted.now) }
     ensures rising { OnOk result (IsOrdered nat_cmp counted.now.tally.groups) }
 {
     put_columns(writer, heap, &["pc", "instr", "function"])?;

@@ -26,7 +26,7 @@ fn push_byte(text: &mut String, byte: u8) -> Result<(), AllocError>
 }
 
 /// A name that isn't UTF-8, byte by byte.
-fn escaped(heap: Global, bytes: &[u8]) -> Result<String, AllocError>
+fn escape(heap: Global, bytes: &[u8]) -> Result<String, AllocError>
     ensures { IfOk result (λ text. string_bytes text ≡ flat_map shown_byte bytes.now) }
 {
     let mut text = String::new(heap);
@@ -42,7 +42,7 @@ fn shown_bytes(heap: Global, bytes: &[u8]) -> Result<String, AllocError>
 {
     match str::from_utf8(bytes) {
         Ok(name) => shown_name(heap, name),
-        Err(_) => escaped(heap, bytes),
+        Err(_) => escape(heap, bytes),
     }
 }
 

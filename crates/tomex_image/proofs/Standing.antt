@@ -7,7 +7,7 @@ use Rattle.std.proofs.lemmas.List.Elements.{All-nil}
 use Rattle.tomex_image.specs.ElfTests.{tests_from, elf_tests, file_tests, Fits}
 use Rattle.tomex_image.specs.FileHeader.{entry_of}
 use Rattle.tomex_image.specs.Image.{Loaded}
-use Rattle.tomex_image.specs.Loading.{is_elf, flat_tests, flat_placed, elf_placed, placed, refused}
+use Rattle.tomex_image.specs.Loading.{is_elf, flat_tests, IsPlacedFlat, IsPlacedElf, IsPlaced, refused}
 use Rattle.tomex_image.specs.Placing.{byte_of}
 use Rattle.tomex_image.specs.ProgramHeader.{headers_of, segments_of}
 use Rattle.tomex_image.specs.Standing.{IsElfImage, IsZeroOutside, StandsIn}
@@ -27,12 +27,12 @@ passes bytes window elf passed = at (is_elf bytes) elf passed
     at false t p = cc
 
 -- and what its image is
-elf_image : (bytes : List ℕ) (window : Span) (image : Loaded) → IsTrue (is_elf bytes) → placed bytes window image
-    → elf_placed bytes window image
+elf_image : (bytes : List ℕ) (window : Span) (image : Loaded) → IsTrue (is_elf bytes) → IsPlaced bytes window image
+    → IsPlacedElf bytes window image
 elf_image bytes window image elf is = at (is_elf bytes) elf is
   where
-    at : (b : Bool) → IsTrue b → MatchBool b (elf_placed bytes window image) (flat_placed bytes window image)
-        → elf_placed bytes window image
+    at : (b : Bool) → IsTrue b → MatchBool b (IsPlacedElf bytes window image) (IsPlacedFlat bytes window image)
+        → IsPlacedElf bytes window image
     at true t p = p
     at false t p = cc
 
@@ -45,7 +45,7 @@ fitting bytes window passed =
     all_fit window (length bytes) (entry_of bytes) [] (headers_of bytes) both.1 (All-nil (Fits window (length bytes)))
 
 -- the image at an address of the window
-image_at : (bytes : List ℕ) (window : Span) (image : Loaded) (a : ℕ) → elf_placed bytes window image → window.base ≤ a
+image_at : (bytes : List ℕ) (window : Span) (image : Loaded) (a : ℕ) → IsPlacedElf bytes window image → window.base ≤ a
     → a < window.base + window.size → slice_index image.memory (a - window.base) ≡ byte_of bytes (segments_of bytes) a
 image_at bytes window image a is low high =
     let there : window.base + (a - window.base) ≡ a = omega arith in

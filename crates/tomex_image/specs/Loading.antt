@@ -29,18 +29,18 @@ abbrev pub refused : List ℕ → Span → Option ImageError
 refused bytes window = first_failing (if is_elf bytes then elf_tests bytes window else flat_tests bytes window)
 
 -- a flat file is loaded at the window's base; the rest is zero
-abbrev pub flat_placed : List ℕ → Span → Loaded → Type 0
-flat_placed bytes window i = (i.window ≡ window)
+abbrev pub IsPlacedFlat : List ℕ → Span → Loaded → Type 0
+IsPlacedFlat bytes window i = (i.window ≡ window)
     × (i.memory ≡ bytes ++ replicate (window.size - length bytes) 0)
     × (i.entry ≡ window.base)
 
 -- an ELF file's image has at each address the byte that a segment places there, or zero
-abbrev pub elf_placed : List ℕ → Span → Loaded → Type 0
-elf_placed bytes window i = (i.window ≡ window)
+abbrev pub IsPlacedElf : List ℕ → Span → Loaded → Type 0
+IsPlacedElf bytes window i = (i.window ≡ window)
     × (length i.memory ≡ window.size)
     × ((k : ℕ) → k < window.size → slice_index i.memory k ≡ byte_of bytes (segments_of bytes) (window.base + k))
     × (i.entry ≡ entry_of bytes)
 
 -- the image is that of the bytes
-abbrev pub placed : List ℕ → Span → Loaded → Type 0
-placed bytes window i = MatchBool (is_elf bytes) (elf_placed bytes window i) (flat_placed bytes window i)
+abbrev pub IsPlaced : List ℕ → Span → Loaded → Type 0
+IsPlaced bytes window i = MatchBool (is_elf bytes) (IsPlacedElf bytes window i) (IsPlacedFlat bytes window i)

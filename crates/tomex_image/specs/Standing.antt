@@ -3,7 +3,7 @@ use Rattle.std.specs.Prelude.{◌≡◌, ◌⊎◌, ℕ, ◌+◌, ◌-◌, ◌<�
 use Rattle.std.specs.List.{All}
 use Rattle.tomex_image.specs.declared.elf.program_header.ProgramHeader.{ProgramHeader}
 use Rattle.tomex_image.specs.Image.{Loaded}
-use Rattle.tomex_image.specs.Loading.{is_elf, placed, refused}
+use Rattle.tomex_image.specs.Loading.{is_elf, IsPlaced, refused}
 use Rattle.tomex_image.specs.Placing.{file_byte}
 use Rattle.tomex_image.specs.Window.{Span}
 
@@ -11,7 +11,7 @@ use Rattle.tomex_image.specs.Window.{Span}
 pub record IsElfImage (bytes : List ℕ) (window : Span) (image : Loaded) : Type 0 where
   pub elf : IsTrue (is_elf bytes)
   pub accepted : refused bytes window ≡ None
-  pub image_of : placed bytes window image
+  pub image_of : IsPlaced bytes window image
 
 -- the byte of the image at an address of its window
 abbrev pub image_byte : Loaded → ℕ → ℕ

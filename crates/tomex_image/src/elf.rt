@@ -1,7 +1,7 @@
 //! ELF files of 32 bits (System V ABI, chapters "Object Files" and "Program Loading and Dynamic
 //! Linking"): read, tested, and placed in memory.
 ghost use Rattle.std.specs.Prelude.{◌≡◌, ◌⊎◌, IfOk, IfErr, None, Some};
-ghost use Rattle.tomex_image.specs.Loading.{elf_placed};
+ghost use Rattle.tomex_image.specs.Loading.{IsPlacedElf};
 ghost use Rattle.tomex_image.specs.ElfTests.{elf_tests};
 ghost use Rattle.tomex_image.specs.Tests.{first_failing};
 
@@ -27,7 +27,7 @@ pub fn load_elf<A: Allocator>(
     bytes: &[u8],
     window: Window,
 ) -> Result<Image<A>, ImageError>
-    ensures placed { IfOk result (λ i. elf_placed bytes.now window i) }
+    ensures placed { IfOk result (λ i. IsPlacedElf bytes.now window i) }
     ensures passed { IfOk result (λ i. first_failing (elf_tests bytes.now window) ≡ None) }
     ensures err { IfErr result
         (λ e. ((e ≡ ImageError.Memory) × (first_failing (elf_tests bytes.now window) ≡ None))

@@ -1,6 +1,6 @@
 //! Flat files: raw bytes, loaded at the window's base.
 ghost use Rattle.std.specs.Prelude.{◌≡◌, ◌⊎◌, ◌++◌, ◌-◌, ◌≤◌, IfOk, IfErr, None, Some, replicate, length};
-ghost use Rattle.tomex_image.specs.Loading.{flat_placed, flat_tests};
+ghost use Rattle.tomex_image.specs.Loading.{IsPlacedFlat, flat_tests};
 ghost use Rattle.tomex_image.specs.Tests.{first_failing};
 
 use crate::error::ImageError;
@@ -25,7 +25,7 @@ pub fn load_flat<A: Allocator>(
     bytes: &[u8],
     window: Window,
 ) -> Result<Image<A>, ImageError>
-    ensures placed { IfOk result (λ i. flat_placed bytes.now window i) }
+    ensures placed { IfOk result (λ i. IsPlacedFlat bytes.now window i) }
     ensures passed { IfOk result (λ i. first_failing (flat_tests bytes.now window) ≡ None) }
     ensures err { IfErr result
         (λ e. ((e ≡ ImageError.Memory) × (first_failing (flat_tests bytes.now window) ≡ None))

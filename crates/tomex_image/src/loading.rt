@@ -1,6 +1,6 @@
 //! Loading: from the bytes of a file to an image.
 ghost use Rattle.std.specs.Prelude.{◌≡◌, ◌⊎◌, IfOk, IfErr, None, Some};
-ghost use Rattle.tomex_image.specs.Loading.{is_elf, placed, refused};
+ghost use Rattle.tomex_image.specs.Loading.{is_elf, IsPlaced, refused};
 
 use crate::elf::load_elf;
 use crate::error::ImageError;
@@ -25,7 +25,7 @@ fn has_elf_magic(bytes: &[u8]) -> bool
 /// The work is bounded: a file has at most 65,535 program headers, each of which is tested once
 /// against at most 16 earlier segments, and what is then written is at most twice the window's size.
 pub fn load<A: Allocator>(alloc: A, bytes: &[u8], window: Window) -> Result<Image<A>, ImageError>
-    ensures ok { IfOk result (λ i. placed bytes.now window i × (refused bytes.now window ≡ None)) }
+    ensures ok { IfOk result (λ i. IsPlaced bytes.now window i × (refused bytes.now window ≡ None)) }
     ensures err { IfErr result
         (λ e. ((e ≡ ImageError.Memory) × (refused bytes.now window ≡ None)) ⊎ (refused bytes.now window ≡ Some e)) }
 {

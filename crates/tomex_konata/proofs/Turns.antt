@@ -10,7 +10,7 @@ use Rattle.tomex_konata.specs.declared.events.Event.{Event}
 use Rattle.tomex_konata.specs.declared.events.Kind.{Kind}
 use Rattle.tomex_konata.specs.declared.events.Kind.TheVariants.{Change, Out}
 use Rattle.tomex_konata.specs.Konata.{next_since, with_cycle}
-use Rattle.tomex_konata.specs.Kept.{change_cycles, change_in, event_lines, gone_after, lines_at, once, events_text}
+use Rattle.tomex_konata.specs.Kept.{change_cycles, change_in, event_lines, steps_out_after, lines_at, once, events_text}
 
 next : {X : Type 0} (xs : List X) (i : ℕ) (x d : X) → i < length xs → x ≡ get_or xs i d → drop i xs ≡ x
     ∷ drop (suc i) xs
@@ -72,7 +72,7 @@ pub event_more : (number : ℕ) (es : List Entry) (vs : List Event) (i since gon
     → e ≡ get_or es v.id e
     → cleared ≡ [] → lines ≡ cleared ++ event_lines number gone v.cycle v.kind e
     → after ≡ before ++ with_cycle (v.cycle - since) lines → since' ≡ next_since since v.cycle lines
-    → gone' ≡ gone_after gone v.kind
+    → gone' ≡ steps_out_after gone v.kind
     → before ++ events_text number es since gone (drop i vs) ≡ whole → after
     ++ events_text number es since' gone' (drop (i + 1) vs) ≡ whole
 event_more number es vs i since gone since' gone' v d e cleared lines before after whole within is inside entry clear
@@ -89,10 +89,10 @@ event_more number es vs i since gone since' gone' v d e cleared lines before aft
     ∙ (ap (λ (z : List ℕ). before ++ z) (sym whole_line) ∙ so_far))
 
 -- an event takes no more than one step out
-pub few_gone : (gone gone' i : ℕ) (kind : Kind) → gone' ≡ gone_after gone kind → gone ≤ i → gone' ≤ i + 1
+pub few_gone : (gone gone' i : ℕ) (kind : Kind) → gone' ≡ steps_out_after gone kind → gone ≤ i → gone' ≤ i + 1
 few_gone gone gone' i kind is few = rw is (go kind)
   where
-    go : (kind : Kind) → gone_after gone kind ≤ i + 1
+    go : (kind : Kind) → steps_out_after gone kind ≤ i + 1
     go Change = omega (arith, few)
     go Out = omega (arith, few)
 

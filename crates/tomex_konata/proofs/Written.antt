@@ -10,7 +10,7 @@ use Rattle.tomex_konata.specs.declared.entries.Entry.{Entry}
 use Rattle.tomex_konata.specs.declared.events.Event.{Event}
 use Rattle.tomex_konata.specs.Konata.{cycles_of, gone_before, goes_out, lines_in, next_since, outs_in, cycles_line}
 use Rattle.tomex_konata.specs.Konata.{step_lines, with_cycle}
-use Rattle.tomex_konata.specs.Kept.{change_cycles, change_in, changes_of, events_of, gone_after, lines_at, out_of}
+use Rattle.tomex_konata.specs.Kept.{change_cycles, change_in, changes_of, events_of, steps_out_after, lines_at, out_of}
 use Rattle.tomex_konata.specs.Kept.{events_text}
 use Rattle.tomex_konata.proofs.Moments.{changes_at}
 use Rattle.tomex_konata.proofs.Quiet.{quiet}
@@ -70,23 +70,24 @@ module _ (number last : ℕ) (all : List Entry) where
   -- the lines of some events, and how many steps have gone out after them
   abbrev lines_of : ℕ → List Event → List ℕ
   lines_of gone [] = []
-  lines_of gone (v ∷ vs) = lines_at number gone v (slice_get all v.id) ++ lines_of (gone_after gone v.kind) vs
+  lines_of gone (v ∷ vs) = lines_at number gone v (slice_get all v.id) ++ lines_of (steps_out_after gone v.kind) vs
 
   abbrev gone_of : ℕ → List Event → ℕ
   gone_of gone [] = gone
-  gone_of gone (v ∷ vs) = gone_of (gone_after gone v.kind) vs
+  gone_of gone (v ∷ vs) = gone_of (steps_out_after gone v.kind) vs
 
   lines_more : (gone : ℕ) (vs ws : List Event) → lines_of gone (vs ++ ws) ≡ lines_of gone vs
       ++ lines_of (gone_of gone vs) ws
   lines_more gone [] ws = refl
   lines_more gone (v ∷ vs) ws =
-      ap (λ (z : List ℕ). lines_at number gone v (slice_get all v.id) ++ z) (lines_more (gone_after gone v.kind) vs ws)
-      ∙ sym (append_assoc (lines_at number gone v (slice_get all v.id)) (lines_of (gone_after gone v.kind) vs)
-      (lines_of (gone_of (gone_after gone v.kind) vs) ws))
+      ap (λ (z : List ℕ). lines_at number gone v (slice_get all v.id) ++ z)
+          (lines_more (steps_out_after gone v.kind) vs ws)
+      ∙ sym (append_assoc (lines_at number gone v (slice_get all v.id)) (lines_of (steps_out_after gone v.kind) vs)
+      (lines_of (gone_of (steps_out_after gone v.kind) vs) ws))
 
   gone_more : (gone : ℕ) (vs ws : List Event) → gone_of gone (vs ++ ws) ≡ gone_of (gone_of gone vs) ws
   gone_more gone [] ws = refl
-  gone_more gone (v ∷ vs) ws = gone_more (gone_after gone v.kind) vs ws
+  gone_more gone (v ∷ vs) ws = gone_more (steps_out_after gone v.kind) vs ws
 
   abbrev AllAt : ℕ → List Event → Type 0
   AllAt t [] = Unit {0}
@@ -106,14 +107,15 @@ module _ (number last : ℕ) (all : List Entry) where
   one_cycle t since gone [] ws at = refl
   one_cycle t since gone (v ∷ vs) ws at =
       let lines = lines_at number gone v (slice_get all v.id) in
-      let more = lines_of (gone_after gone v.kind) vs in
+      let more = lines_of (steps_out_after gone v.kind) vs in
       let then = next_since since t lines in
-      let rest = events_text number all (next_since then t more) (gone_of (gone_after gone v.kind) vs) ws in
+      let rest = events_text number all (next_since then t more) (gone_of (steps_out_after gone v.kind) vs) ws in
       ap (λ (c : ℕ). with_cycle (c - since) lines
-      ++ events_text number all (next_since since c lines) (gone_after gone v.kind) (vs ++ ws)) at.0
-      ∙ (ap (λ (z : List ℕ). with_cycle (t - since) lines ++ z) (one_cycle t then (gone_after gone v.kind) vs ws at.1)
+      ++ events_text number all (next_since since c lines) (steps_out_after gone v.kind) (vs ++ ws)) at.0
+      ∙ (ap (λ (z : List ℕ). with_cycle (t - since) lines ++ z)
+          (one_cycle t then (steps_out_after gone v.kind) vs ws at.1)
       ∙ (sym (append_assoc (with_cycle (t - since) lines) (with_cycle (t - then) more) rest)
-      ∙ ap₂ (λ (y : List ℕ) (s : ℕ). y ++ events_text number all s (gone_of (gone_after gone v.kind) vs) ws)
+      ∙ ap₂ (λ (y : List ℕ) (s : ℕ). y ++ events_text number all s (gone_of (steps_out_after gone v.kind) vs) ws)
       (sym (with_more t since lines more)) (sym (since_more t since lines more))))
 
   -- the changes of a cycle

@@ -14,9 +14,9 @@ use Rattle.tomex_konata.specs.declared.events.Kind.TheVariants.{Change, Out}
 use Rattle.tomex_konata.specs.Konata.{next_since, out_lines, step_lines, with_cycle}
 
 -- the youngest writer of an operand, by a table of those of all registers
-abbrev pub written_in : List (Option Producer) → Option Operand → Option Producer
-written_in writers None = None
-written_in writers (Some o) = slice_index_or writers o.register None
+abbrev pub writer_of : List (Option Producer) → Option Operand → Option Producer
+writer_of writers None = None
+writer_of writers (Some o) = slice_index_or writers o.register None
 
 -- the table after a step that writes this register
 abbrev pub writers_after : List (Option Producer) → Option ℕ → Producer → List (Option Producer)
@@ -73,9 +73,9 @@ abbrev pub lines_at : ℕ → ℕ → Event → Option Entry → List ℕ
 lines_at number gone v None = []
 lines_at number gone v (Some e) = event_lines number gone v.cycle v.kind e
 
-abbrev pub gone_after : ℕ → Kind → ℕ
-gone_after gone Change = gone
-gone_after gone Out = gone + 1
+abbrev pub steps_out_after : ℕ → Kind → ℕ
+steps_out_after gone Change = gone
+steps_out_after gone Out = gone + 1
 
 -- the text of some events, after `gone` steps have gone out; the last cycle with lines was `since`
 abbrev pub events_text : ℕ → List Entry → ℕ → ℕ → List Event → List ℕ
@@ -83,4 +83,4 @@ events_text number es since gone [] = []
 events_text number es since gone (v ∷ vs) =
     with_cycle (v.cycle - since) (lines_at number gone v (slice_get es v.id))
     ++ events_text number es (next_since since v.cycle (lines_at number gone v (slice_get es v.id)))
-    (gone_after gone v.kind) vs
+    (steps_out_after gone v.kind) vs

@@ -17,7 +17,7 @@ use Rattle.tomex_timing.specs.Search.{times_in, total_of}
 use Rattle.tomex_timing.specs.declared.times.Done.{Done}
 use Rattle.tomex_timing.specs.declared.times.Times.{Times}
 use Rattle.tomex_run_views.specs.Chart.{first_issue, stage_in}
-use Rattle.tomex_run_views.specs.Excerpt.{shown}
+use Rattle.tomex_run_views.specs.Excerpt.{excerpt}
 use Rattle.tomex_run_views.specs.declared.stage.Stage.{Stage}
 use Rattle.tomex_run_views.specs.declared.stage.Stage.TheVariants.{Issue, Address, Execute, Write, BusWait, Wait}
 use Rattle.tomex_konata.specs.declared.entries.Entry.{Entry}
@@ -183,4 +183,4 @@ log_of number steps times =
 -- the text is the log of the requested steps
 pub record IsLogOf (config : Configuration) (steps : List Step) (number count : ℕ) (text : List ℕ) : Type 0 where
   pub there : number ≤ length steps
-  pub is : text ≡ log_of number (shown number count steps) (shown number count (times_in config steps))
+  pub is : text ≡ log_of number (excerpt number count steps) (excerpt number count (times_in config steps))

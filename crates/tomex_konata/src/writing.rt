@@ -7,7 +7,7 @@ ghost use Rattle.tomex_rvexec.specs.Trace.{steps_from};
 ghost use Rattle.tomex_timing.specs.Search.{total_of};
 ghost use Rattle.tomex_run_views.specs.Excerpt.{HasNoExcerpt};
 ghost use Rattle.tomex_konata.specs.Konata.{IsLogOf, head_of, log_of, next_since, with_cycle};
-ghost use Rattle.tomex_konata.specs.Kept.{event_lines, gone_after, events_text};
+ghost use Rattle.tomex_konata.specs.Kept.{event_lines, steps_out_after, events_text};
 
 use crate::entries::{Entry, entries_of};
 use crate::events::{Event, Kind, ordered_events};
@@ -64,9 +64,9 @@ fn push_in_cycle<A: Allocator>(
 }
 
 /// The number of steps that have gone out after an event.
-fn gone_after(gone: u64, kind: Kind) -> u64
+fn steps_out_after(gone: u64, kind: Kind) -> u64
     requires { gone < 2 ^ 63 }
-    ensures { result ≡ gone_after gone kind }
+    ensures { result ≡ steps_out_after gone kind }
 {
     match kind {
         Kind::Change => gone,
@@ -96,7 +96,7 @@ fn push_events<A: Allocator>(
         lines.clear();
         push_event(&mut lines, number, gone, event, &entries[event.id])?;
         since = push_in_cycle(text, since, event.cycle, lines.as_str())?;
-        gone = gone_after(gone, event.kind);
+        gone = steps_out_after(gone, event.kind);
     }
     Ok(())
 }

@@ -17,9 +17,9 @@ use Rattle.tomex_row_runs.specs.Cycles.{cycles_of}
 use Rattle.tomex_row_runs.specs.StudyFront.{all_rows, front_of_study}
 use Rattle.tomex_study.specs.Study.{DesignSpace}
 use Rattle.tomex_front_views.specs.LinkedPlot.{is_shown}
-use Rattle.tomex_page_tables.specs.Shown.{chosen, chosen_place, no_row, row_of, shown_of}
+use Rattle.tomex_page_tables.specs.Shown.{chosen_row, chosen_place, no_row, row_of, shown_rows}
 use Rattle.tomex_page_tables.specs.declared.shown.ShownRow.{ShownRow}
-use Rattle.tomex_page.specs.Laws.{AreApart, IsShown, LeadsOn, LinkedRowsAreShown, LinksLeadToViews, SectionsAreViews}
+use Rattle.tomex_page.specs.Laws.{AreApart, IsShownRow, LeadsOn, LinkedRowsAreShown, LinksLeadToViews, SectionsAreViews}
 use Rattle.tomex_page.specs.Laws.{ViewsAreApart, ViewsAreOfRows, views_of}
 use Rattle.tomex_page.specs.Page.{number_before, number_of, row_section, view_at, view_of}
 use Rattle.tomex_page.proofs.ShownRows.{place_within}
@@ -39,7 +39,7 @@ later : (r : FrontRow) (rows : List FrontRow) (q : FrontRow) → Contains rows q
 later r rows q there = (suc there.0, omega (arith, there.1), there.2)
 
 -- a row that is found is one of those that are shown
-row_at : (shown : List FrontRow) (n : ℕ) → list_any (λ r. r.row == n) shown ≡ true → IsShown shown n
+row_at : (shown : List FrontRow) (n : ℕ) → list_any (λ r. r.row == n) shown ≡ true → IsShownRow shown n
 row_at [] n found = absurd (cc)
 row_at (r ∷ shown) n found = elim (or_cases (r.row == n) (list_any (λ r. r.row == n) shown) found) [
   | inl here ↦ (r, (0, omega arith, refl), eqb-true r.row n here)
@@ -55,12 +55,12 @@ linked_rows_are_shown shown n found = row_at shown n found
 -- links to the rows before and after
 to_before : (shown : List FrontRow) (before : Option ShownRow)
     → ((x : ShownRow) → before ≡ Some x → Contains shown x.row) → (n : ℕ) → option_map number_before before ≡ Some n
-    → IsShown shown n
+    → IsShownRow shown n
 to_before shown None each n is = absurd (cc)
 to_before shown (Some x) each n is = let number : x.row.row ≡ n = cc in (x.row, each x refl, number)
 
 to_after : (shown rows : List FrontRow) → ((r : FrontRow) → Contains rows r → Contains shown r) → (n : ℕ)
-    → option_map number_of (slice_get rows 0) ≡ Some n → IsShown shown n
+    → option_map number_of (slice_get rows 0) ≡ Some n → IsShownRow shown n
 to_after shown [] each n is = absurd (cc)
 to_after shown (r ∷ rows) each n is =
     let number : r.row ≡ n = cc in
@@ -129,19 +129,19 @@ places_rise n j k many l =
     quotients_rise (j * (n - 1)) (k * (n - 1)) (omega arith)
 
 chosen_apart : (front : List FrontRow) → AreApart front → 64 < length front
-    → AreApart (map (chosen front) (range_with_len 0 64))
+    → AreApart (map (chosen_row front) (range_with_len 0 64))
 chosen_apart front far many j k l m same =
-    let few : k < 64 = omega (arith, m, length-map-range_with_len (chosen front) 0 64) in
-    let own : slice_index_or (map (chosen front) (range_with_len 0 64)) j no_row ≡ chosen front j =
-    get_or-map-range_with_len (chosen front) 0 64 j j no_row (omega arith) (omega arith) in
-    let other : slice_index_or (map (chosen front) (range_with_len 0 64)) k no_row ≡ chosen front k =
-    get_or-map-range_with_len (chosen front) 0 64 k k no_row few (omega arith) in
+    let few : k < 64 = omega (arith, m, length-map-range_with_len (chosen_row front) 0 64) in
+    let own : slice_index_or (map (chosen_row front) (range_with_len 0 64)) j no_row ≡ chosen_row front j =
+    get_or-map-range_with_len (chosen_row front) 0 64 j j no_row (omega arith) (omega arith) in
+    let other : slice_index_or (map (chosen_row front) (range_with_len 0 64)) k no_row ≡ chosen_row front k =
+    get_or-map-range_with_len (chosen_row front) 0 64 k k no_row few (omega arith) in
     far (chosen_place (length front) j) (chosen_place (length front) k) (places_rise (length front) j k many l)
     (place_within (length front) k (omega arith) few)
     (ap (λ (r : FrontRow). r.row) (sym own) ∙ (same ∙ ap (λ (r : FrontRow). r.row) other))
 
-shown_apart : (front : List FrontRow) → AreApart front → AreApart (shown_of front)
-unfolding shown_of
+shown_apart : (front : List FrontRow) → AreApart front → AreApart (shown_rows front)
+unfolding shown_rows
 shown_apart front far = elim (cases_Bool (nat_le (length front) 64)) [
   | inl few ↦ rw few far
   | inr many ↦ rw many (chosen_apart front far (leb-false (length front) 64 many))

@@ -6,7 +6,7 @@ use Rattle.std.specs.List.{Contains, range_with_len}
 use Rattle.std.proofs.lemmas.Bool.{leb-false}
 use Rattle.std.proofs.lemmas.List.Elements.{All-cons, All-contains, All-contains_itself, All-nil, Contains-get_or}
 use Rattle.tomex_pareto.specs.declared.front_row.FrontRow.{FrontRow}
-use Rattle.tomex_page_tables.specs.Shown.{chosen, chosen_place, no_row, shown_of}
+use Rattle.tomex_page_tables.specs.Shown.{chosen_row, chosen_place, no_row, shown_rows}
 
 all_values : {X : Type 0} (P : X → Type 0) (f : ℕ → X) (a n : ℕ) → ((k : ℕ) → k < a + n → P (f k))
     → All P (map f (range_with_len a n))
@@ -24,11 +24,11 @@ all_cond : (front other : List FrontRow) (b : Bool) → All (Contains front) fro
 all_cond front other true all rest = all
 all_cond front other false all rest = rest refl
 
-pub shown_in : (front : List FrontRow) → All (Contains front) (shown_of front)
-unfolding shown_of
+pub shown_in : (front : List FrontRow) → All (Contains front) (shown_rows front)
+unfolding shown_rows
 shown_in front =
-    all_cond front (map (chosen front) (range_with_len 0 64)) (nat_le (length front) 64) (All-contains_itself front)
-    (λ long. all_values (Contains front) (chosen front) 0 64 (λ k few.
+    all_cond front (map (chosen_row front) (range_with_len 0 64)) (nat_le (length front) 64) (All-contains_itself front)
+    (λ long. all_values (Contains front) (chosen_row front) 0 64 (λ k few.
     Contains-get_or front (chosen_place (length front) k) no_row
     (place_within (length front) k (omega (arith, leb-false (length front) 64 long)) (omega (arith, few)))))
 

@@ -16,11 +16,11 @@ chart_signs = 16384
 unfoldable pub too_wide : List ℕ
 too_wide = codes "<p>Too wide: <code>tomex pipeline</code> draws it.</p>\n"
 
-unfoldable pub preformatted : TimedSteps → List ℕ
-preformatted e = codes "<pre>" ++ (picture_of e.number e.steps e.times ++ codes "</pre>")
+unfoldable pub chart_block : TimedSteps → List ℕ
+chart_block e = codes "<pre>" ++ (picture_of e.number e.steps e.times ++ codes "</pre>")
 
 unfoldable pub picture_text : TimedSteps → List ℕ
-picture_text e = if nat_le (signs_of e.times) chart_signs then preformatted e else too_wide
+picture_text e = if nat_le (signs_of e.times) chart_signs then chart_block e else too_wide
 
 unfoldable pub chart_start : List ℕ → List ℕ
 chart_start name =

@@ -14,7 +14,7 @@ use Rattle.tomex_timing.specs.Needs.{need_of}
 use Rattle.tomex_timing.specs.declared.needs.Needs.{Needs}
 use Rattle.tomex_timing.specs.declared.part.Part.TheVariants.{Width}
 use Rattle.tomex_page_tables.specs.Asked.{steps_of}
-use Rattle.tomex_page_tables.specs.Shown.{no_row, row_of, shown_of}
+use Rattle.tomex_page_tables.specs.Shown.{no_row, row_of, shown_rows}
 use Rattle.tomex_page_tables.specs.declared.shown.ShownRow.{ShownRow}
 use Rattle.tomex_page.specs.Page.{row_section, row_sections, view_at, view_of}
 use Rattle.tomex_page.specs.Runs.{needs_on}
@@ -47,19 +47,19 @@ ViewsAreOfRows = (s : DesignSpace) (before : Option ShownRow) (rows : List Front
     → map (λ v. v.here.row) (views_of s before rows) ≡ rows
 
 -- a row of this number is shown
-abbrev pub IsShown : List FrontRow → ℕ → Type 0
-IsShown shown n = (r : FrontRow) × Contains shown r × (r.row ≡ n)
+abbrev pub IsShownRow : List FrontRow → ℕ → Type 0
+IsShownRow shown n = (r : FrontRow) × Contains shown r × (r.row ≡ n)
 
 -- what the picture and the tables link to
 abbrev pub LinkedRowsAreShown : Type 0
-LinkedRowsAreShown = (shown : List FrontRow) (n : ℕ) → is_shown shown n ≡ true → IsShown shown n
+LinkedRowsAreShown = (shown : List FrontRow) (n : ℕ) → is_shown shown n ≡ true → IsShownRow shown n
 
 -- each link of a view leads to the view of a row that is shown
 pub record LeadsOn (shown : List FrontRow) (l : Links) : Type 0 where
-  pub first : IsShown shown l.first
-  pub before : ForSome l.before (λ n. IsShown shown n)
-  pub after : ForSome l.after (λ n. IsShown shown n)
-  pub last : IsShown shown l.last
+  pub first : IsShownRow shown l.first
+  pub before : ForSome l.before (λ n. IsShownRow shown n)
+  pub after : ForSome l.after (λ n. IsShownRow shown n)
+  pub last : IsShownRow shown l.last
 
 abbrev pub LinksLeadToViews : Type 0
 LinksLeadToViews = (s : DesignSpace) (shown : List FrontRow)
@@ -71,4 +71,4 @@ AreApart rows = (j k : ℕ) → j < k → k < length rows
     → (slice_index_or rows j no_row).row ≢ (slice_index_or rows k no_row).row
 
 abbrev pub ViewsAreApart : Type 0
-ViewsAreApart = (s : DesignSpace) → AreApart (shown_of (front_of_study s))
+ViewsAreApart = (s : DesignSpace) → AreApart (shown_rows (front_of_study s))

@@ -18,7 +18,7 @@ use Rattle.tomex_page.specs.Constants.{page_css, page_help}
 use Rattle.tomex_page_tables.specs.Front.{front_table}
 use Rattle.tomex_page_rows.specs.Parts.{against, parts_table}
 use Rattle.tomex_page.specs.Runs.{needs_on}
-use Rattle.tomex_page_tables.specs.Shown.{most_rows, no_row, row_of, shown_of}
+use Rattle.tomex_page_tables.specs.Shown.{most_rows, no_row, row_of, shown_rows}
 use Rattle.tomex_page.specs.Stalls.{stalls_table}
 use Rattle.tomex_page_rows.specs.Stays.{prices_table}
 use Rattle.tomex_page.specs.declared.section.View.{View}
@@ -124,4 +124,4 @@ page_over name s front shown =
 
 -- the page of a study with this name
 unfoldable pub page_of : List ℕ → DesignSpace → List ℕ
-page_of name s = page_over name s (front_of_study s) (shown_of (front_of_study s))
+page_of name s = page_over name s (front_of_study s) (shown_rows (front_of_study s))

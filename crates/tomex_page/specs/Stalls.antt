@@ -21,12 +21,12 @@ abbrev pub share : ℕ → ℕ → ℕ
 share n total = min 100 (n * 100 / total)
 
 -- a bar with this percentage of its cell's width
-unfoldable pub filled : ℕ → List ℕ
-filled percent = codes "<td><i style=\"width:" ++ (decimal percent ++ codes "%\"></i></td>")
+unfoldable pub bar_cell : ℕ → List ℕ
+bar_cell percent = codes "<td><i style=\"width:" ++ (decimal percent ++ codes "%\"></i></td>")
 
 -- no bar for 0 cycles
 unfoldable pub bar : ℕ → ℕ → List ℕ
-bar n total = if n == 0 then td [] else filled (share n total)
+bar n total = if n == 0 then td [] else bar_cell (share n total)
 
 abbrev pub cycle_cells : ℕ → ℕ → List ℕ
 cycle_cells n total = number_cell n ++ bar n total

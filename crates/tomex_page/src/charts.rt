@@ -1,7 +1,7 @@
 //! The chart of a run's first instructions.
 
 ghost use Rattle.std.specs.Prelude.{◌≡◌, ◌++◌, OnOk, string_bytes};
-ghost use Rattle.tomex_page.specs.Charts.{chart_of, chart_start, first_steps, picture_text, preformatted, too_wide};
+ghost use Rattle.tomex_page.specs.Charts.{chart_of, chart_start, first_steps, picture_text, chart_block, too_wide};
 ghost use Rattle.tomex_page_tables.specs.Asked.{steps_of};
 
 use std::alloc::{AllocError, Allocator, Global};
@@ -17,14 +17,14 @@ const CHART_STEPS: u32 = 32;
 const CHART_SIGNS: u64 = 16_384;
 
 /// Adds the picture of an excerpt.
-#[tactic(auto, unfolding(crate::specs::Charts::preformatted))]
+#[tactic(auto, unfolding(crate::specs::Charts::chart_block))]
 fn push_preformatted<A: Allocator, B: Allocator>(
     text: &mut String<A>,
     heap: Global,
     excerpt: &Excerpt<B>,
 ) -> Result<(), AllocError>
     ensures { OnOk result (string_bytes text.new
-        ≡ string_bytes text.old ++ preformatted excerpt.now) }
+        ≡ string_bytes text.old ++ chart_block excerpt.now) }
 {
     text.push_str("<pre>")?;
     push_picture(text, heap, excerpt)?;

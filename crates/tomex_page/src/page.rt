@@ -13,7 +13,7 @@ use std::alloc::{AllocError, Allocator, Global};
 use std::fmt::Write;
 use tomex_html::push_page_end;
 use tomex_page_rows::PriceBook;
-use tomex_page_tables::{push_front_table, shown_of};
+use tomex_page_tables::{push_front_table, shown_rows};
 use tomex_pareto::FrontRow;
 use tomex_study::Study;
 use tomex_survey::Survey;
@@ -91,7 +91,7 @@ pub fn study_page<A: Allocator + Clone>(
     ensures { IfOk result (λ text. text.items ≡ page_of name.now study.now) }
 {
     study.keeps_limits();
-    let shown = shown_of(heap, survey.front())?;
+    let shown = shown_rows(heap, survey.front())?;
     let mut text = String::new(alloc.clone()?);
     push_page(
         &mut text,

@@ -4,7 +4,7 @@ ghost use Rattle.std.specs.Prelude.{◌≡◌, ◌++◌, IfOk, OnOk, string_byte
 ghost use Rattle.std.specs.List.{flat_map};
 ghost use Rattle.tomex_html.specs.Tables.{row_start};
 ghost use Rattle.tomex_page.specs.Stalls.{after_issue, bar, before_issue, cause_cells, cause_row, cycle_cells};
-ghost use Rattle.tomex_page.specs.Stalls.{filled, group, part_cells};
+ghost use Rattle.tomex_page.specs.Stalls.{bar_cell, group, part_cells};
 ghost use Rattle.tomex_page.specs.Stalls.{pool_parts, share, stall_row, stalls_caption, stalls_table, unit_parts};
 ghost use Rattle.tomex_run_views.specs.StallsReport.{name_of_part};
 
@@ -71,9 +71,9 @@ fn share(cycles: u64, total: u64) -> u64
 }
 
 /// Adds a cell with a bar of this percentage of the cell's width.
-#[tactic(auto, unfolding(crate::specs::Stalls::filled))]
+#[tactic(auto, unfolding(crate::specs::Stalls::bar_cell))]
 fn push_filled<A: Allocator>(text: &mut String<A>, percent: u64) -> Result<(), AllocError>
-    ensures { OnOk result (string_bytes text.new ≡ string_bytes text.old ++ filled percent) }
+    ensures { OnOk result (string_bytes text.new ≡ string_bytes text.old ++ bar_cell percent) }
 {
     write!(text, "<td><i style=\"width:{percent}%\"></i></td>")
 }

@@ -17,10 +17,10 @@ unfoldable pub more : List ℕ → ℕ → List ℕ
 more command lines = if nat_le lines most_lines then [] else rest_text command (lines - most_lines)
 
 -- the texts of the items, with commas between them
-abbrev pub joined : {X : Type 0} → (X → List ℕ) → List X → List ℕ
-joined text [] = []
-joined text (x ∷ xs) = text x ++ flat_map (λ y. codes ", " ++ text y) xs
+abbrev pub with_commas : {X : Type 0} → (X → List ℕ) → List X → List ℕ
+with_commas text [] = []
+with_commas text (x ∷ xs) = text x ++ flat_map (λ y. codes ", " ++ text y) xs
 
 -- the same for the first items, with a sign if there are more
 unfoldable pub some : {X : Type 0} → (X → List ℕ) → List X → List ℕ
-some text xs = joined text (take most_lines xs) ++ (if nat_lt most_lines (length xs) then codes " .." else [])
+some text xs = with_commas text (take most_lines xs) ++ (if nat_lt most_lines (length xs) then codes " .." else [])

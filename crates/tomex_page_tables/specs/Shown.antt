@@ -18,12 +18,12 @@ no_row = record { row = 0; cost = 0; cycles = 0 }
 abbrev pub chosen_place : ℕ → ℕ → ℕ
 chosen_place n k = k * (n - 1) / 63
 
-abbrev pub chosen : List FrontRow → ℕ → FrontRow
-chosen front k = slice_index_or front (chosen_place (length front) k) no_row
+abbrev pub chosen_row : List FrontRow → ℕ → FrontRow
+chosen_row front k = slice_index_or front (chosen_place (length front) k) no_row
 
-unfoldable pub shown_of : List FrontRow → List FrontRow
-shown_of front =
-    if nat_le (length front) most_rows then front else map (chosen front) (range_with_len 0 most_rows)
+unfoldable pub shown_rows : List FrontRow → List FrontRow
+shown_rows front =
+    if nat_le (length front) most_rows then front else map (chosen_row front) (range_with_len 0 most_rows)
 
 -- a row of a study, with its configuration
 abbrev pub row_of : DesignSpace → FrontRow → ShownRow

@@ -4,7 +4,7 @@ ghost use Rattle.std.specs.Prelude.{◌≡◌, ◌++◌, ◌*◌, codes, IfOk, O
 ghost use Rattle.std.specs.List.{flat_map, list_any};
 ghost use Rattle.tomex_page_tables.specs.Asked.{cost_of_part, entries_text, facet_text, firsts, price_of_part};
 ghost use Rattle.tomex_page_tables.specs.Asked.{prices_text};
-ghost use Rattle.tomex_page_tables.specs.Pieces.{joined, some};
+ghost use Rattle.tomex_page_tables.specs.Pieces.{with_commas, some};
 ghost use Rattle.tomex_worth.specs.Changes.{same_entry};
 
 use crate::tables::{MOST_LINES, first_lines};
@@ -127,7 +127,7 @@ fn push_joined<A: Allocator>(
     configs: &[Config],
 ) -> Result<(), AllocError>
     ensures { OnOk result (string_bytes text.new
-        ≡ string_bytes text.old ++ joined (facet_text prices.now facet part) configs.now) }
+        ≡ string_bytes text.old ++ with_commas (facet_text prices.now facet part) configs.now) }
 {
     let [first, rest @ ..] = configs else {
         return Ok(());

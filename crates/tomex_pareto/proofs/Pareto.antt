@@ -14,7 +14,7 @@ use Rattle.std.proofs.lemmas.List.Sorted.{IsPermutation-middle, IsPermutation-re
 use Rattle.std.proofs.lemmas.List.Sorted.{IsPermutation-trans}
 use Rattle.std.proofs.lemmas.Map.Keys.{IsDistinct-from_apart, apart_from_distinct}
 use Rattle.tomex_pareto.specs.declared.front_row.FrontRow.{FrontRow}
-use Rattle.tomex_pareto.specs.Front.{dominates, is_undominated, comes_before, put, ordered, front_of}
+use Rattle.tomex_pareto.specs.Front.{dominates, is_undominated, comes_before, put, by_cost, front_of}
 use Rattle.tomex_pareto.specs.Pareto.{ComesBefore, Dominates}
 
 -- r is one of them
@@ -138,10 +138,10 @@ put_moves r (q ∷ qs) = elim (cases_Bool (comes_before r q)) [
       (IsPermutation-middle (r ∷ []) q qs) (IsPermutation-cons q (r ∷ qs) (put r qs) (put_moves r qs)))
 ]
 
-ordered_moves : (rs : List FrontRow) → IsPermutation rs (ordered rs)
+ordered_moves : (rs : List FrontRow) → IsPermutation rs (by_cost rs)
 ordered_moves [] = IsPermutation-refl []
-ordered_moves (r ∷ rs) = IsPermutation-trans (r ∷ rs) (r ∷ ordered rs) (ordered (r ∷ rs))
-    (IsPermutation-cons r rs (ordered rs) (ordered_moves rs)) (put_moves r (ordered rs))
+ordered_moves (r ∷ rs) = IsPermutation-trans (r ∷ rs) (r ∷ by_cost rs) (by_cost (r ∷ rs))
+    (IsPermutation-cons r rs (by_cost rs) (ordered_moves rs)) (put_moves r (by_cost rs))
 
 rises_put : (r : FrontRow) (qs : List FrontRow) → Rises ComesBefore qs → AllOf (λ q. r.row ≢ q.row) qs
     → Rises ComesBefore (put r qs)
@@ -155,10 +155,10 @@ rises_put r (q ∷ qs) up apart = elim (cases_Bool (comes_before r q)) [
       rw e (moved, rises_put r qs up.1 apart.1)
 ]
 
-rises_ordered : (rs : List FrontRow) → AreApart rs → Rises ComesBefore (ordered rs)
+rises_ordered : (rs : List FrontRow) → AreApart rs → Rises ComesBefore (by_cost rs)
 rises_ordered [] apart = tt
-rises_ordered (r ∷ rs) apart = rises_put r (ordered rs) (rises_ordered rs apart.1)
-    (all_moved (λ q. r.row ≢ q.row) rs (ordered rs) (ordered_moves rs) apart.0)
+rises_ordered (r ∷ rs) apart = rises_put r (by_cost rs) (rises_ordered rs apart.1)
+    (all_moved (λ q. r.row ≢ q.row) rs (by_cost rs) (ordered_moves rs) apart.0)
 
 -- two rising lists of the same rows are equal
 
@@ -199,8 +199,8 @@ front_is rows apart =
       rises = rises_ordered those (pairs_rise (λ a b. a.row ≢ b.row) those
           (AllPairs-filter (λ a b. a.row ≢ b.row) (is_undominated rows) rows
           (rises_pairs (λ a b. a.row ≢ b.row) rows apart)));
-      only = λ r h. kept_only rows r (has_moved (ordered those) those r (IsPermutation-sym _ _ moves) h);
-      all = λ r h f. has_moved those (ordered those) r moves (kept_all rows r h f);
+      only = λ r h. kept_only rows r (has_moved (by_cost those) those r (IsPermutation-sym _ _ moves) h);
+      all = λ r h f. has_moved those (by_cost those) r moves (kept_all rows r h f);
     }
 
 pub only_front : (rows front : List FrontRow) → AreApart rows → IsSortedFront rows front → front ≡ front_of rows

@@ -21,13 +21,13 @@ put r [] = r ∷ []
 put r (q ∷ qs) = if comes_before r q then r ∷ q ∷ qs else q ∷ put r qs
 
 -- by cost, then number
-abbrev pub ordered : List FrontRow → List FrontRow
-ordered [] = []
-ordered (r ∷ rs) = put r (ordered rs)
+abbrev pub by_cost : List FrontRow → List FrontRow
+by_cost [] = []
+by_cost (r ∷ rs) = put r (by_cost rs)
 
 -- the rows that none of them dominates, found by comparing all pairs, ordered by cost, then number
 unfoldable pub front_of : List FrontRow → List FrontRow
-front_of rows = ordered (filter (is_undominated rows) rows)
+front_of rows = by_cost (filter (is_undominated rows) rows)
 
 -- rows of these costs and cycles, numbered from n on
 abbrev pub rows_from : ℕ → List ℕ → List ℕ → List FrontRow

@@ -67,7 +67,7 @@ fn stays(last: Option<FrontRow>, row: FrontRow) -> bool
 ///
 /// A sort and one pass: a row stays if it takes fewer cycles than every row before it, or has the cost and cycles
 /// of the last one that stayed.
-fn undominated<A: Allocator>(
+fn keep_undominated<A: Allocator>(
     alloc: A,
     mut rows: Vec<FrontRow, A>,
 ) -> Result<Vec<FrontRow, A>, AllocError>
@@ -97,5 +97,5 @@ pub fn front<A: Allocator + Clone>(
     ensures { IfOk result (λ v. v.items ≡ front_of (finished_from 0 costs.now marks.now)) }
 {
     let rows = finished_rows(alloc.clone()?, costs, marks)?;
-    undominated(alloc, rows)
+    keep_undominated(alloc, rows)
 }

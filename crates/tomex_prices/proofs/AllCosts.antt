@@ -15,7 +15,7 @@ use Rattle.tomex_config.specs.declared.config.UnitOption.{UnitOption}
 use Rattle.tomex_study.specs.Study.{DesignSpace}
 use Rattle.tomex_prices.specs.declared.price.Price.{Price}
 use Rattle.tomex_prices.specs.declared.price.Price.TheVariants.{Station, Choice, Bus, Width}
-use Rattle.tomex_prices.specs.Price.{paid, same_option, amount}
+use Rattle.tomex_prices.specs.Price.{payments, same_option, amount}
 use Rattle.tomex_prices.specs.Prices.{choices_of, options_of, prices_of}
 use Rattle.tomex_prices.proofs.Splitting.{same_are_one}
 
@@ -105,7 +105,7 @@ own_option unit (c ∷ cs) (suc k) low =
 
 -- a configuration's share of a price
 abbrev pub share : PriceList → Configuration → Price → ℕ
-share prices config price = amount price prices * paid price config
+share prices config price = amount price prices * payments price config
 
 sum_choices : (prices : PriceList) (config : Configuration) (unit : UnitId) (os : List UnitOption)
     → sum_by (share prices config) (map (Choice unit) os) ≡ picked (option_of config unit) os

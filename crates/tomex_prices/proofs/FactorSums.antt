@@ -10,7 +10,7 @@ use Rattle.tomex_config.specs.Configuration.{Configuration}
 use Rattle.tomex_config.specs.Cost.{PriceList}
 use Rattle.tomex_prices.specs.declared.price.Price.{Price}
 use Rattle.tomex_prices.specs.AllPrices.{AreWithin, Factors}
-use Rattle.tomex_prices.specs.Price.{paid, amount}
+use Rattle.tomex_prices.specs.Price.{payments, amount}
 use Rattle.tomex_prices.proofs.AllCosts.{share}
 
 -- one price: f is its factor, s its stated value, a and b how often the row and a rival pay it
@@ -79,10 +79,10 @@ worst_rival f s a d e is =
 
 -- the factors that are worst for a row against a rival
 abbrev pub worst : ℕ → Configuration → Configuration → Factors
-worst e a b price = cond (nat_lt (paid price b) (paid price a)) (100 + e) (100 - e)
+worst e a b price = cond (nat_lt (payments price b) (payments price a)) (100 + e) (100 - e)
 
 pub worst_within : (e : ℕ) (a b : Configuration) → e ≤ 100 → AreWithin e (worst e a b)
-worst_within e a b few price = elim (cases_Bool (nat_lt (paid price b) (paid price a))) [
+worst_within e a b few price = elim (cases_Bool (nat_lt (payments price b) (payments price a))) [
   | inl holds ↦ rw holds (omega arith, omega arith)
   | inr fails ↦ rw fails (omega (arith, few), omega arith)
 ]
@@ -110,17 +110,17 @@ worst_apart s a b e few = elim (cases_lt b a) [
 
 module _ (prices : PriceList) (a b : Configuration) where
   abbrev pub paid_times : Factors → Configuration → Price → ℕ
-  paid_times factors config price = factors price * (amount price prices * paid price config)
+  paid_times factors config price = factors price * (amount price prices * payments price config)
 
   abbrev pub differs : Price → ℕ
-  differs price = amount price prices * abs_diff (paid price a) (paid price b)
+  differs price = amount price prices * abs_diff (payments price a) (payments price b)
 
   pub sums_apart : (factors : Factors) (all : List Price) (e : ℕ) → AreWithin e factors
       → sum_by (paid_times factors a) all + 100 * sum_by (share prices b) all
       ≤ sum_by (paid_times factors b) all + 100 * sum_by (share prices a) all + e * sum_by differs all
   sums_apart factors [] e within = omega arith
   sums_apart factors (p ∷ ps) e within =
-      let one = price_apart (factors p) (amount p prices) (paid p a) (paid p b) e (within p).0 (within p).1 in
+      let one = price_apart (factors p) (amount p prices) (payments p a) (payments p b) e (within p).0 (within p).1 in
       let rest = sums_apart factors ps e within in
       let more = mul-add e (differs p) (sum_by differs ps) in
       rw (
@@ -137,7 +137,7 @@ module _ (prices : PriceList) (a b : Configuration) where
       ≡ sum_by (paid_times (worst e a b) b) all + 100 * sum_by (share prices a) all + e * sum_by differs all
   worst_sums [] e few = omega arith
   worst_sums (p ∷ ps) e few =
-      let one = worst_apart (amount p prices) (paid p a) (paid p b) e few in
+      let one = worst_apart (amount p prices) (payments p a) (payments p b) e few in
       let rest = worst_sums ps e few in
       let more = mul-add e (differs p) (sum_by differs ps) in
       rw (
@@ -153,8 +153,8 @@ module _ (prices : PriceList) (a b : Configuration) where
   no_further : (p : Price) → share prices b p ≤ share prices a p + differs p
   no_further p =
       let s = amount p prices in
-      let low : paid p b ≤ paid p a + abs_diff (paid p a) (paid p b) = omega arith in
-      let more = mul-add s (paid p a) (abs_diff (paid p a) (paid p b)) in
+      let low : payments p b ≤ payments p a + abs_diff (payments p a) (payments p b) = omega arith in
+      let more = mul-add s (payments p a) (abs_diff (payments p a) (payments p b)) in
       let high = mul-le-mul_left s low in
       omega (arith, more, high)
 

@@ -17,7 +17,7 @@ use Rattle.tomex_prices.specs.declared.price.Price.{Price}
 use Rattle.tomex_prices.specs.AllPrices.{AreWithin, Factors, IsStatedAtHundred, LeavesBeyondPercent, StaysIfHundred}
 use Rattle.tomex_prices.specs.AllPrices.{StaysWithinPercent, cost_times, row_times}
 use Rattle.tomex_prices.specs.Percent.{difference, least_percent, percent_for, percent_of}
-use Rattle.tomex_prices.specs.Price.{paid, amount}
+use Rattle.tomex_prices.specs.Price.{payments, amount}
 use Rattle.tomex_prices.specs.Prices.{prices_of}
 use Rattle.tomex_prices.specs.Studies.{config_of}
 use Rattle.tomex_prices.proofs.AllCosts.{share}
@@ -186,11 +186,11 @@ leaves_beyond s r is one few =
 
 -- at a factor of 100 each
 hundred_times : (prices : PriceList) (config : Configuration) (all : List Price)
-    → sum_by (λ price. 100 * (amount price prices * paid price config)) all ≡ 100 * sum_by (share prices config) all
+    → sum_by (λ price. 100 * (amount price prices * payments price config)) all ≡ 100 * sum_by (share prices config) all
 hundred_times prices config [] = refl
 hundred_times prices config (p ∷ ps) =
     let rest = hundred_times prices config ps in
-    let more = sum_by-cons (λ price. 100 * (amount price prices * paid price config)) p ps in
+    let more = sum_by-cons (λ price. 100 * (amount price prices * payments price config)) p ps in
     let shares = sum_by-cons (share prices config) p ps in
     more ∙ (rw shares (omega (arith, rest)))
 

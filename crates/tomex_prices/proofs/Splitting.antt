@@ -14,7 +14,7 @@ use Rattle.tomex_config.specs.Configuration.{Configuration, option_of, plain_opt
 use Rattle.tomex_config.specs.Cost.{PriceList, cost_of, options_cost}
 use Rattle.tomex_prices.specs.declared.price.Price.{Price}
 use Rattle.tomex_prices.specs.declared.price.Price.TheVariants.{Station, Choice, Bus, Width}
-use Rattle.tomex_prices.specs.Price.{paid, same_option}
+use Rattle.tomex_prices.specs.Price.{payments, same_option}
 use Rattle.tomex_prices.specs.Repriced.{CostsSplit, StatedCostsStay, cost_with}
 
 -- lists of six and of five
@@ -58,7 +58,7 @@ cost_is config a b c d e f bus width = refl
 abbrev Splits : Price → ℕ → Configuration → (bus width : ℕ) → List ℕ → Type 0
 Splits price q config bus width xs =
     cost_with price q (record { stations = xs; bus = bus; width = width }) config
-    ≡ cost_with price 0 (record { stations = xs; bus = bus; width = width }) config + q * paid price config
+    ≡ cost_with price 0 (record { stations = xs; bus = bus; width = width }) config + q * payments price config
 
 station_split : (pool : PoolId) (q : ℕ) (config : Configuration) (bus width a b c d e f : ℕ)
     → Splits (Station pool) q config bus width (a ∷ b ∷ c ∷ d ∷ e ∷ f ∷ [])
@@ -114,7 +114,7 @@ sums_split units.Bru o q config a b c d e = omega arith
 choice_split : (unit : UnitId) (o : UnitOption) (q : ℕ) (prices : PriceList) (config : Configuration)
     → length config.units ≡ 5
     → cost_with (Choice unit o) q prices config
-    ≡ cost_with (Choice unit o) 0 prices config + q * paid (Choice unit o) config
+    ≡ cost_with (Choice unit o) 0 prices config + q * payments (Choice unit o) config
 choice_split unit o q prices config kinds = elim (cases_Bool (same_option (option_of config unit) o)) [
   | inl holds ↦
       let s : Sums unit o q config config.units =

@@ -15,7 +15,7 @@ use Rattle.tomex_prices.specs.declared.price.Price.{Price}
 use Rattle.tomex_prices.specs.declared.price.TheConstants.{GREATEST_PRICE}
 use Rattle.tomex_prices.specs.declared.priced_row.PricedRow.{PricedRow}
 use Rattle.tomex_prices.specs.Interval.{fall, least, most, rise}
-use Rattle.tomex_prices.specs.Price.{paid, amount}
+use Rattle.tomex_prices.specs.Price.{payments, amount}
 use Rattle.tomex_prices.specs.Prices.{is_relevant}
 use Rattle.tomex_prices.specs.PriceLaws.{HoldsAllIfIrrelevant, HoldsStated}
 use Rattle.tomex_prices.specs.Repriced.{costs_with, is_on, priced_from}
@@ -43,7 +43,7 @@ holds_stated s price r is few one =
 
 abbrev EachPays : Price → ℕ → List Configuration → Type 0
 EachPays price t [] = Unit {0}
-EachPays price t (c ∷ cs) = (paid price c ≡ t) × EachPays price t cs
+EachPays price t (c ∷ cs) = (payments price c ≡ t) × EachPays price t cs
 
 abbrev EachIsPaid : ℕ → List PricedRow → Type 0
 EachIsPaid t [] = Unit {0}
@@ -59,15 +59,15 @@ not_other n t e = elim (cases_Bool (n == t)) [
   | inr other ↦ absurd (true≢false (sym (ap not other) ∙ e))
 ]
 
-each_pays : (price : Price) (t : ℕ) (cs : List Configuration) → list_any (λ c. not (paid price c == t)) cs ≡ false
+each_pays : (price : Price) (t : ℕ) (cs : List Configuration) → list_any (λ c. not (payments price c == t)) cs ≡ false
     → EachPays price t cs
 each_pays price t [] e = tt
 each_pays price t (c ∷ cs) e =
-    let two = or_none (not (paid price c == t)) (list_any (λ d. not (paid price d == t)) cs) e in
-    (not_other (paid price c) t two.0, each_pays price t cs two.1)
+    let two = or_none (not (payments price c == t)) (list_any (λ d. not (payments price d == t)) cs) e in
+    (not_other (payments price c) t two.0, each_pays price t cs two.1)
 
 pays_at : (price : Price) (t k : ℕ) (cs : List Configuration) → k < length cs → EachPays price t cs
-    → paid price (get_or cs k plain) ≡ t
+    → payments price (get_or cs k plain) ≡ t
 pays_at price t k [] low each = absurd (omega arith)
 pays_at price t zero (c ∷ cs) low each = each.0
 pays_at price t (suc k) (c ∷ cs) low each = pays_at price t k cs (omega arith) each.1
@@ -113,14 +113,14 @@ interval_any : (s : DesignSpace) (price : Price) (t : ℕ) (r : PricedRow) → r
     × (most (amount price s.prices) r (rows_with s price) ≡ GREATEST_PRICE)
 interval_any s price t r own each =
     let paid = is_paid price s.prices t 0 s.rows (cycles_of s) each in (
-      least_any (amount price s.prices) t r (rows_with s price) own paid,
-      most_any (amount price s.prices) t r (rows_with s price) own paid,
+      least_any (amount price s.prices) t r (rows_with s price) own payments,
+      most_any (amount price s.prices) t r (rows_with s price) own payments,
     )
 
 equally_often : (price : Price) (cs : List Configuration) → is_relevant cs price ≡ false → (t : ℕ) × EachPays price t cs
 unfolding is_relevant
 equally_often price [] e = (0, tt)
-equally_often price (c ∷ cs) e = (paid price c, (refl, each_pays price (paid price c) cs e))
+equally_often price (c ∷ cs) e = (payments price c, (refl, each_pays price (payments price c) cs e))
 
 pub all_hold : HoldsAllIfIrrelevant
 all_hold s price r low fails =

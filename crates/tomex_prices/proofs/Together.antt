@@ -17,7 +17,7 @@ use Rattle.tomex_row_runs.specs.StudyFront.{all_rows}
 use Rattle.tomex_prices.specs.declared.price.Price.{Price}
 use Rattle.tomex_prices.specs.declared.priced_row.PricedRow.{PricedRow}
 use Rattle.tomex_prices.specs.Interval.{cost_at, fall, least, most, rise, slack}
-use Rattle.tomex_prices.specs.Price.{paid, amount}
+use Rattle.tomex_prices.specs.Price.{payments, amount}
 use Rattle.tomex_prices.specs.Prices.{prices_of}
 use Rattle.tomex_prices.specs.Studies.{config_of, interval_of, row_with, rows_with}
 use Rattle.tomex_prices.specs.Together.{IsShareOfWay, IsStatedAtStated, StaysByShares, Values, cost_at_values}
@@ -160,20 +160,21 @@ module _ (s : DesignSpace) (values : Values) (shares : Price → ℕ) (whole : �
   gap = j.cost - r.cost - premium r j
 
   abbrev values_paid : FrontRow → Price → ℕ
-  values_paid x price = values price * paid price (config_of s x)
+  values_paid x price = values price * payments price (config_of s x)
 
   slack_is : (price : Price) → slack (amount price s.prices) (row_with s price r) (row_with s price j) ≡ gap
   slack_is price = rw (apart_cost s price r is one, apart_cost s price j is there) refl
 
   one_counts : (price : Price)
       → IsShareOfWay (interval_of s price r) (amount price s.prices) (values price) (shares price) whole
-      → Counts (amount price s.prices) (values price) (paid price (config_of s r)) (paid price (config_of s j)) whole
+      → Counts (amount price s.prices) (values price) (payments price (config_of s r))
+          (payments price (config_of s j)) whole
       (shares price) gap
   one_counts price moves =
       let n = amount price s.prices in
       let v = values price in
-      let a = paid price (config_of s r) in
-      let b = paid price (config_of s j) in
+      let a = payments price (config_of s r) in
+      let b = payments price (config_of s j) in
       let rival = row_at_apart s price j is (row_at 0 s.costs (cycles_of s) j there) in
       elim (cases_lt b a) [
         | inl more ↦
@@ -255,7 +256,7 @@ pub stays_by_shares : StaysByShares
 unfolding cost_at_values
 stays_by_shares s values shares whole r is one some few moves =
     let free = front_free s r one in
-    on_costed (λ x. sum_by (λ price. values price * paid price (config_of s x)) (prices_of s)) s r free.0
+    on_costed (λ x. sum_by (λ price. values price * payments price (config_of s x)) (prices_of s)) s r free.0
     (λ j there fast. stays_dearer s values shares whole r j is free.0 there fast moves some few
     (free_keeps r j (free.1 j there) fast))
 

@@ -10,7 +10,7 @@ use Rattle.tomex_study.specs.Study.{DesignSpace, IsStudy}
 use Rattle.tomex_row_runs.specs.StudyFront.{all_rows, front_of_study}
 use Rattle.tomex_prices.specs.declared.price.Price.{Price}
 use Rattle.tomex_prices.specs.Percent.{percent_of}
-use Rattle.tomex_prices.specs.Price.{paid, amount}
+use Rattle.tomex_prices.specs.Price.{payments, amount}
 use Rattle.tomex_prices.specs.Prices.{prices_of}
 use Rattle.tomex_prices.specs.Repriced.{is_on}
 use Rattle.tomex_prices.specs.Studies.{config_of}
@@ -22,7 +22,7 @@ Factors = Price → ℕ
 -- the cost of a configuration, in hundredths: each price times its factor, as often as the configuration pays it
 unfoldable pub cost_times : Factors → PriceList → List Price → Configuration → ℕ
 cost_times factors prices all config =
-    sum_by (λ price. factors price * (amount price prices * paid price config)) all
+    sum_by (λ price. factors price * (amount price prices * payments price config)) all
 
 -- a row of a study at these factors
 abbrev pub row_times : Factors → DesignSpace → FrontRow → FrontRow

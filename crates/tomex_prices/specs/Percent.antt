@@ -9,7 +9,7 @@ use Rattle.tomex_config.specs.Cost.{PriceList}
 use Rattle.tomex_pareto.specs.declared.front_row.FrontRow.{FrontRow}
 use Rattle.tomex_study.specs.Study.{DesignSpace}
 use Rattle.tomex_prices.specs.declared.price.Price.{Price}
-use Rattle.tomex_prices.specs.Price.{paid, amount}
+use Rattle.tomex_prices.specs.Price.{payments, amount}
 use Rattle.tomex_prices.specs.Prices.{prices_of}
 use Rattle.tomex_prices.specs.Studies.{config_of}
 use Rattle.tomex_row_runs.specs.StudyFront.{all_rows}
@@ -17,7 +17,7 @@ use Rattle.tomex_row_runs.specs.StudyFront.{all_rows}
 -- the cost of the parts that two configurations don't have in common, at these prices: each price as often as one of
 -- them pays it more than the other
 unfoldable pub difference : PriceList → List Price → Configuration → Configuration → ℕ
-difference prices all a b = sum_by (λ price. amount price prices * abs_diff (paid price a) (paid price b)) all
+difference prices all a b = sum_by (λ price. amount price prices * abs_diff (payments price a) (payments price b)) all
 
 -- how much dearer a rival is, in percent of this difference, rounded down. A rival that takes fewer cycles must stay
 -- dearer by 1; one that takes more cycles, or differs in nothing that is paid, sets no bound: 100

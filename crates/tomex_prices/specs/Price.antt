@@ -14,11 +14,11 @@ same_option a b = a.units == b.units && a.latency == b.latency && a.price == b.p
 
 -- how often a configuration pays a price: once for each of its stations of the pool, once or never for an option, once
 -- for each of its buses, once for each instruction that may issue in a cycle
-abbrev pub paid : Price → Configuration → ℕ
-paid (Station pool) config = stations_of config pool
-paid (Choice unit o) config = if same_option (option_of config unit) o then 1 else 0
-paid Bus config = config.buses
-paid Width config = config.width
+abbrev pub payments : Price → Configuration → ℕ
+payments (Station pool) config = stations_of config pool
+payments (Choice unit o) config = if same_option (option_of config unit) o then 1 else 0
+payments Bus config = config.buses
+payments Width config = config.width
 
 -- the stated price
 abbrev pub amount : Price → PriceList → ℕ

@@ -8,7 +8,7 @@ use Rattle.tomex_config.specs.declared.config.UnitOption.{UnitOption}
 use Rattle.tomex_study.specs.Study.{DesignSpace}
 use Rattle.tomex_prices.specs.declared.price.Price.{Price}
 use Rattle.tomex_prices.specs.declared.price.Price.TheVariants.{Station, Choice, Bus, Width}
-use Rattle.tomex_prices.specs.Price.{paid, same_option}
+use Rattle.tomex_prices.specs.Price.{payments, same_option}
 
 -- the options for a kind of unit that some row has, each once, in the order of the first rows that have them
 abbrev pub options_of : UnitId → List Configuration → List UnitOption
@@ -28,7 +28,7 @@ prices_of s = map Station all_pools ++ (flat_map (choices_of s.rows) all_units +
 -- two of the rows pay a price differently often: some row and the first one
 unfoldable pub is_relevant : List Configuration → Price → Bool
 is_relevant [] price = false
-is_relevant (first ∷ rows) price = list_any (λ config. not (paid price config == paid price first)) rows
+is_relevant (first ∷ rows) price = list_any (λ config. not (payments price config == payments price first)) rows
 
 -- the prices that some rows pay more often than others: all others move every cost by the same amount
 unfoldable pub relevant_prices_of : DesignSpace → List Price

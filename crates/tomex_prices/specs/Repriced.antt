@@ -13,7 +13,7 @@ use Rattle.tomex_prices.specs.declared.price.Price.TheVariants.{Station, Choice,
 use Rattle.tomex_prices.specs.declared.price.TheConstants.{GREATEST_PRICE}
 use Rattle.tomex_prices.specs.declared.priced_row.PricedRow.{PricedRow}
 use Rattle.tomex_prices.specs.Interval.{interval, is_within}
-use Rattle.tomex_prices.specs.Price.{paid, same_option, amount}
+use Rattle.tomex_prices.specs.Price.{payments, same_option, amount}
 
 -- the list of prices, and a configuration, with this price replaced by q
 abbrev pub list_with : Price → ℕ → PriceList → PriceList
@@ -34,7 +34,8 @@ cost_with price q prices config = cost_of (config_with price q config) (list_wit
 -- that is its cost with the price replaced by 0, plus q as often as it pays the price
 abbrev pub CostsSplit : Type 0
 CostsSplit = (price : Price) (q : ℕ) (prices : PriceList) (config : Configuration) → IsPriceList prices
-    → IsWithinLimits config → cost_with price q prices config ≡ cost_with price 0 prices config + q * paid price config
+    → IsWithinLimits config → cost_with price q prices config
+        ≡ cost_with price 0 prices config + q * payments price config
 
 -- replaced by its stated value, a price changes no cost
 abbrev pub StatedCostsStay : Type 0
@@ -48,7 +49,7 @@ costs_with price q prices configs = costs_of (list_with price q prices) (map (co
 -- a configuration of this number and these cycles, with a price apart
 abbrev pub with_price_apart : Price → PriceList → ℕ → Configuration → ℕ → PricedRow
 with_price_apart price prices n config cycles =
-    record { row = n; rest = cost_with price 0 prices config; cycles = cycles; times = paid price config }
+    record { row = n; rest = cost_with price 0 prices config; cycles = cycles; times = payments price config }
 
 -- configurations of these cycles, numbered from n on
 abbrev pub priced_from : Price → PriceList → ℕ → List Configuration → List ℕ → List PricedRow

@@ -8,7 +8,7 @@ use Rattle.tomex_study.specs.Study.{DesignSpace, IsStudy}
 use Rattle.tomex_row_runs.specs.StudyFront.{all_rows, front_of_study}
 use Rattle.tomex_prices.specs.declared.intervals.PriceRange.{PriceRange}
 use Rattle.tomex_prices.specs.declared.price.Price.{Price}
-use Rattle.tomex_prices.specs.Price.{paid, amount}
+use Rattle.tomex_prices.specs.Price.{payments, amount}
 use Rattle.tomex_prices.specs.Prices.{prices_of}
 use Rattle.tomex_prices.specs.Repriced.{is_on}
 use Rattle.tomex_prices.specs.Studies.{config_of, interval_of}
@@ -19,7 +19,7 @@ Values = Price → ℕ
 
 -- the cost of a configuration at these values: each as often as it pays the price
 unfoldable pub cost_at_values : Values → List Price → Configuration → ℕ
-cost_at_values values all config = sum_by (λ price. values price * paid price config) all
+cost_at_values values all config = sum_by (λ price. values price * payments price config) all
 
 -- a row of a study at these values
 abbrev pub row_at_values : Values → DesignSpace → FrontRow → FrontRow

@@ -18,7 +18,7 @@ fn difference(prices: &Prices, all: &[Price], a: &Config, b: &Config) -> u128
 {
     let mut sum = 0;
     for price in all {
-        let times = price.paid(a).abs_diff(price.paid(b));
+        let times = price.payments(a).abs_diff(price.payments(b));
         sum += u128::from(price.amount(prices) * times);
     }
     sum

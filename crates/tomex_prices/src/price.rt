@@ -1,7 +1,7 @@
 //! A price of a study.
 
 ghost use Rattle.std.specs.Prelude.{◌≡◌, ◌≤◌, ◌<◌, ◌^◌, Some};
-ghost use Rattle.tomex_prices.specs.Price.{name_of_price, paid, same_option, amount};
+ghost use Rattle.tomex_prices.specs.Price.{name_of_price, payments, same_option, amount};
 
 use std::fmt;
 use tomex_config::{Config, Prices, UnitOption};
@@ -42,8 +42,8 @@ impl Price {
     }
 
     /// How often a configuration pays it.
-    pub fn paid(self, config: &Config) -> u64
-        ensures paid { result ≡ paid self config.now }
+    pub fn payments(self, config: &Config) -> u64
+        ensures payments { result ≡ payments self config.now }
         ensures few { result ≤ 16 }
     {
         match self {

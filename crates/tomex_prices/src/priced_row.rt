@@ -37,7 +37,7 @@ pub(crate) fn with_price_apart(
 {
     prices.keeps_limits();
     config.keeps_limits();
-    let times = price.paid(config);
+    let times = price.payments(config);
     let rest = cost(config, prices) - price.amount(prices) * times;
     PricedRow {
         row,

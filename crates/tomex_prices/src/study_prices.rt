@@ -4,7 +4,7 @@ ghost use Rattle.std.specs.Prelude.{◌≡◌, ◌≤◌, ◌==◌, ◌++◌, le
 ghost use Rattle.std.specs.List.{filter, flat_map, list_any};
 ghost use Rattle.tomex_config.specs.Configuration.{option_of};
 ghost use Rattle.tomex_config.specs.Cost.{all_pools, all_units};
-ghost use Rattle.tomex_prices.specs.Price.{paid, same_option};
+ghost use Rattle.tomex_prices.specs.Price.{payments, same_option};
 ghost use Rattle.tomex_prices.specs.Prices.{choices_of, is_relevant, prices_of, relevant_prices_of};
 ghost use Rattle.tomex_prices.specs.declared.price.Price.TheVariants.{Station};
 
@@ -78,10 +78,10 @@ pub fn prices<A: Allocator, B: Allocator>(
 
 /// True if one of the configurations pays a price more or less often than usual.
 fn is_other(price: Price, usual: u64, rows: &[Config]) -> bool
-    ensures { result ≡ list_any (λ config. not (paid price config == usual)) rows.now }
+    ensures { result ≡ list_any (λ config. not (payments price config == usual)) rows.now }
 {
     for config in rows {
-        if price.paid(config) != usual {
+        if price.payments(config) != usual {
             return true;
         }
     }
@@ -96,7 +96,7 @@ pub(crate) fn is_relevant(rows: &[Config], price: Price) -> bool
     let [first, rest @ ..] = rows else {
         return false;
     };
-    is_other(price, price.paid(first), rest)
+    is_other(price, price.payments(first), rest)
 }
 
 /// The prices that some rows of a study pay more often than others. No other price affects its

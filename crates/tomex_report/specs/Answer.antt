@@ -15,14 +15,14 @@ abbrev pub IsAnswer : List ℕ → List (List ℕ) → List ℕ → Type 0
 IsAnswer bytes files text = (s : DesignSpace) × IsStudyOf bytes files s × (text ≡ report_of s)
 
 -- the text of a study's front in a view
-abbrev pub shown_as : FrontView → DesignSpace → List ℕ
-shown_as Report s = report_of s
-shown_as Table s = front_table_of s
-shown_as Picture s = front_picture_of s
+abbrev pub view_text : FrontView → DesignSpace → List ℕ
+view_text Report s = report_of s
+view_text Table s = front_table_of s
+view_text Picture s = front_picture_of s
 
 -- the bytes and the files are those of a study, and the text is its front in this view
-abbrev pub IsShown : FrontView → List ℕ → List (List ℕ) → List ℕ → Type 0
-IsShown view bytes files text = (s : DesignSpace) × IsStudyOf bytes files s × (text ≡ shown_as view s)
+abbrev pub IsAnswerIn : FrontView → List ℕ → List (List ℕ) → List ℕ → Type 0
+IsAnswerIn view bytes files text = (s : DesignSpace) × IsStudyOf bytes files s × (text ≡ view_text view s)
 
 -- the study's own refusal; or it is a study, and memory or a thread was refused
 abbrev pub IsAnswerRefusal : List ℕ → List (List ℕ) → AnswerError → Type 0

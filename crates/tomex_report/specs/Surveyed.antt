@@ -15,12 +15,12 @@ use Rattle.tomex_report.specs.declared.surveying.SurveyView.{SurveyView}
 use Rattle.tomex_report.specs.declared.surveying.SurveyView.TheVariants.{Rows, Picture, Worth, Prices, Page}
 
 -- the text for all rows of a study
-abbrev pub surveyed_as : SurveyView → DesignSpace → List ℕ
-surveyed_as Rows s = rows_text_of s
-surveyed_as Picture s = rows_picture_of s
-surveyed_as (Worth row) s = worth_table_of s row
-surveyed_as Prices s = prices_table_of s
-surveyed_as (Page name) s = page_of name.now s
+abbrev pub survey_text : SurveyView → DesignSpace → List ℕ
+survey_text Rows s = rows_text_of s
+survey_text Picture s = rows_picture_of s
+survey_text (Worth row) s = worth_table_of s row
+survey_text Prices s = prices_table_of s
+survey_text (Page name) s = page_of name.now s
 
 -- the view is of a configuration that the study doesn't have
 abbrev pub lacks_row : SurveyView → DesignSpace → Bool
@@ -36,7 +36,7 @@ HasText view s = Unit {0}
 -- the text is what is printed of a study's rows
 pub record IsTextOf (view : SurveyView) (s : DesignSpace) (text : List ℕ) : Type 0 where
   pub has_text : HasText view s
-  pub text_is : text ≡ surveyed_as view s
+  pub text_is : text ≡ survey_text view s
 
 -- why a study has no such text; or out of memory
 abbrev pub IsWithoutText : SurveyView → DesignSpace → SurveyError → Type 0

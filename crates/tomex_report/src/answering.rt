@@ -4,7 +4,7 @@ ghost use Rattle.std.specs.Prelude.{◌≡◌, ◌≢◌, ◌≤◌, map, IfOk, 
 ghost use Rattle.tomex_row_runs.specs.StudyFront.{front_of_study};
 ghost use Rattle.tomex_sweep.specs.declared.outcome.SweepError.TheVariants.{Memory, Worker};
 ghost use Rattle.tomex_report.specs.declared.answer_error.AnswerError.TheVariants.{Sweep};
-ghost use Rattle.tomex_report.specs.Answer.{IsAnswer, IsAnswerRefusal, IsOfSweep, IsShown, shown_as};
+ghost use Rattle.tomex_report.specs.Answer.{IsAnswer, IsAnswerRefusal, IsOfSweep, IsAnswerIn, view_text};
 ghost use Rattle.tomex_texts.specs.FrontReport.{report_of};
 
 use crate::answer_error::AnswerError;
@@ -12,7 +12,7 @@ use crate::crew::Crew;
 use crate::front_text::front_report;
 use crate::front_view::{FrontView, cycles_by_program};
 use crate::replaying::replay;
-use crate::studied::studied;
+use crate::study::study_in;
 use std::alloc::{AllocError, Allocator, Global};
 use std::sync::Wait;
 use std::thread::Threads;
@@ -21,7 +21,7 @@ use tomex_study::Study;
 use tomex_sweep::{FrontRow, Gate, OpenGate, explore, run_all_under};
 
 /// The front of a study in a view.
-fn shown<R: Threads + Sync, A: Allocator + Clone + Send + Sync + Drop>(
+fn front_in_view<R: Threads + Sync, A: Allocator + Clone + Send + Sync + Drop>(
     rt: &R,
     alloc: A,
     heap: Global,
@@ -30,7 +30,7 @@ fn shown<R: Threads + Sync, A: Allocator + Clone + Send + Sync + Drop>(
     view: FrontView,
 ) -> Result<Vec<u8, A>, AllocError>
     requires { front.now ≡ front_of_study study.now }
-    ensures { IfOk result (λ text. text.items ≡ shown_as view study.now) }
+    ensures { IfOk result (λ text. text.items ≡ view_text view study.now) }
 {
     if let FrontView::Picture = view {
         return front_picture(alloc, heap, study, front);
@@ -45,7 +45,11 @@ fn shown<R: Threads + Sync, A: Allocator + Clone + Send + Sync + Drop>(
 }
 
 /// Explores a study with workers and renders its front in a view.
-fn explored<R: Threads + Wait + Sync, A: Allocator + Clone + Send + Sync + Drop, G: Gate + Sync>(
+fn explore_in_view<
+    R: Threads + Wait + Sync,
+    A: Allocator + Clone + Send + Sync + Drop,
+    G: Gate + Sync,
+>(
     rt: &R,
     alloc: A,
     heap: Global,
@@ -55,11 +59,11 @@ fn explored<R: Threads + Wait + Sync, A: Allocator + Clone + Send + Sync + Drop,
 ) -> Result<Vec<u8, A>, AnswerError>
     requires some_workers { 1 ≤ crew.workers }
     requires few_workers { crew.workers ≤ 32 }
-    ensures ok { IfOk result (λ text. text.items ≡ shown_as view study.now) }
+    ensures ok { IfOk result (λ text. text.items ≡ view_text view study.now) }
     ensures err { IfErr result IsOfSweep }
 {
     let outcome = explore(rt, alloc.clone()?, study, crew.workers, crew.gate)?;
-    Ok(shown(rt, alloc, heap, study, outcome.front.as_slice(), view)?)
+    Ok(front_in_view(rt, alloc, heap, study, outcome.front.as_slice(), view)?)
 }
 
 /// The front, in a view, of the study in the bytes and the files. Refusals are those of `answer`.
@@ -79,11 +83,11 @@ pub fn answer_shown<
     requires some_workers { 1 ≤ crew.workers }
     requires few_workers { crew.workers ≤ 32 }
     ensures ok { IfOk result
-        (λ text. IsShown view study.now (map (λ f. f.items) files.now) text.items) }
+        (λ text. IsAnswerIn view study.now (map (λ f. f.items) files.now) text.items) }
     ensures err { IfErr result (λ e. IsAnswerRefusal study.now (map (λ f. f.items) files.now) e) }
 {
-    let read = studied(&alloc, heap, study, files)?;
-    explored(rt, alloc, heap, &read, crew, view)
+    let read = study_in(&alloc, heap, study, files)?;
+    explore_in_view(rt, alloc, heap, &read, crew, view)
 }
 
 /// For every study whose programs end within the stated number of instructions, every list of
@@ -115,7 +119,7 @@ pub fn answer<R: Threads + Wait + Sync, A: Allocator + Clone + Send + Sync + Dro
 }
 
 /// The report of a study, whose rows are all run to their ends on the calling thread.
-fn explored_whole<R: Threads + Sync, A: Allocator + Clone + Send + Sync + Drop, G: Gate>(
+fn report_of_all_runs<R: Threads + Sync, A: Allocator + Clone + Send + Sync + Drop, G: Gate>(
     rt: &R,
     alloc: A,
     heap: Global,
@@ -126,7 +130,7 @@ fn explored_whole<R: Threads + Sync, A: Allocator + Clone + Send + Sync + Drop, 
     ensures err { IfErr result (λ e. e ≡ Sweep Memory) }
 {
     let outcome = run_all_under(alloc.clone()?, study, gate)?;
-    Ok(shown(
+    Ok(front_in_view(
         rt,
         alloc,
         heap,
@@ -150,8 +154,8 @@ pub fn answer_all_under<R: Threads + Sync, A: Allocator + Clone + Send + Sync + 
     ensures err { IfErr result (λ e. IsAnswerRefusal study.now (map (λ f. f.items) files.now) e) }
     ensures no_worker { IfErr result (λ e. e ≢ Sweep Worker) }
 {
-    let read = studied(&alloc, heap, study, files)?;
-    explored_whole(rt, alloc, heap, &read, gate)
+    let read = study_in(&alloc, heap, study, files)?;
+    report_of_all_runs(rt, alloc, heap, &read, gate)
 }
 
 /// The same report, with all rows run to their ends on the calling thread.

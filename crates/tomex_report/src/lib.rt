@@ -9,7 +9,7 @@ mod crew;
 mod front_text;
 mod front_view;
 mod replaying;
-mod studied;
+mod study;
 mod survey_error;
 mod surveying;
 

@@ -7,7 +7,7 @@ ghost use Rattle.tomex_row_runs.specs.StudyFront.{all_rows, front_of_study};
 ghost use Rattle.tomex_survey.specs.Totals.{totals_of};
 
 use crate::crew::Crew;
-use crate::studied::studied;
+use crate::study::study_in;
 use crate::survey_error::SurveyError;
 use std::alloc::{Allocator, Global};
 use std::thread::Threads;
@@ -90,7 +90,7 @@ pub fn answer_survey<R: Threads + Sync, A: Allocator + Clone + Send + Sync + Dro
     ensures refused { IfErr result
         (λ e. IsSurveyRefusal view.entry study.now (map (λ f. f.items) files.now) e) }
 {
-    let study = studied(&alloc, heap, study, files)?;
+    let study = study_in(&alloc, heap, study, files)?;
     if lacks_row(&study, view) {
         return Err(SurveyError::NoSuchRow);
     }

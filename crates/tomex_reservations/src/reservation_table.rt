@@ -53,7 +53,7 @@ impl<A: Allocator> ReservationTable<A> {
 
     /// How many of a line are taken in a cycle.
     #[inline(always)]
-    fn taken(&self, line: usize, cycle: u64) -> u8
+    fn count_taken(&self, line: usize, cycle: u64) -> u8
         requires line { line < 6 }
         requires ahead { self.now.base ≤ cycle }
         ensures { result ≡ taken_at self.now line cycle }
@@ -81,7 +81,7 @@ impl<A: Allocator> ReservationTable<A> {
         ensures from { from ≤ result.cycle }
         ensures by { result.cycle ≤ max from (bound + 1) }
     {
-        let taken = self.taken(line, from);
+        let taken = self.count_taken(line, from);
         if taken < most {
             Room {
                 cycle: from,
@@ -108,7 +108,7 @@ impl<A: Allocator> ReservationTable<A> {
     {
         let mut cycle = from;
         loop {
-            let taken = self.taken(line, cycle);
+            let taken = self.count_taken(line, cycle);
             if taken < most {
                 return Room {
                     cycle,

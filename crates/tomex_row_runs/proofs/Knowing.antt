@@ -18,7 +18,7 @@ use Rattle.tomex_plateaus.specs.Plateaus.{total_known}
 use Rattle.tomex_cycle.specs.Run.{total}
 use Rattle.tomex_row_runs.specs.Cycles.{totals_on}
 use Rattle.tomex_row_runs.specs.Knowledge.{AreLearnt, AreTotals, IsKnowledge, IsLearnt, IsLearntAt, IsTotalAt}
-use Rattle.tomex_row_runs.specs.Knowledge.{KnowledgeOf, OnlyAt, known_on, nothing_known}
+use Rattle.tomex_row_runs.specs.Knowledge.{KnowledgeOf, OnlyAt, known_totals_on, nothing_known}
 use Rattle.tomex_study.specs.Program.{Workload, IsProgram}
 use Rattle.tomex_row_runs.proofs.Totals.{total_within}
 
@@ -212,8 +212,8 @@ same_there config place n lists = λ old new was is. some_same new old (sym is �
 -- the totals so far are known by the lists so far
 pub one_looked_up : (lists : List Kept) (config : Configuration) (known : List (Option ℕ)) (place : ℕ) (l : Kept)
     (o : Option ℕ) → place < length lists → place < length known → l ≡ get_or lists place l
-    → o ≡ total_known config l.found → take place known ≡ take place (known_on lists config)
-    → take (place + 1) (set known place o) ≡ take (place + 1) (known_on lists config)
+    → o ≡ total_known config l.found → take place known ≡ take place (known_totals_on lists config)
+    → take (place + 1) (set known place o) ≡ take (place + 1) (known_totals_on lists config)
 one_looked_up lists config known place l o low here at is before =
     let f : Kept → Option ℕ = λ (x : Kept). total_known config x.found in
     let more : take (place + 1) (map f lists) ≡ take place (map f lists) ++ f l ∷ [] =
@@ -329,10 +329,10 @@ known_at programs config totals place are low = λ p at.
 -- all are looked up
 pub all_looked_up : (programs : List Workload) (lists : List Kept) (config : Configuration) (known : List (Option ℕ))
     (place : ℕ) → IsKnowledge programs lists → length lists ≤ place → place ≤ length lists
-    → take place known ≡ take place (known_on lists config)
-    → take (length programs) known ≡ known_on lists config
+    → take place known ≡ take place (known_totals_on lists config)
+    → take (length programs) known ≡ known_totals_on lists config
 all_looked_up programs lists config known place is past within looked =
     let same : length lists ≡ length programs = as_many programs lists is in
     let here : length programs ≡ place = omega arith in
-    let long : length (known_on lists config) ≡ length lists = length-map _ _ in
-    ap (λ (n : ℕ). take n known) here ∙ (looked ∙ take_all place (known_on lists config) (omega arith))
+    let long : length (known_totals_on lists config) ≡ length lists = length-map _ _ in
+    ap (λ (n : ℕ). take n known) here ∙ (looked ∙ take_all place (known_totals_on lists config) (omega arith))

@@ -44,8 +44,8 @@ nothing_known programs =
     map (λ p. record { steps = steps_from p.limit (start_of p.image); found = []; oldest = 0 }) programs
 
 -- the known totals on a configuration, in the programs' order
-abbrev pub known_on : List Kept → Configuration → List (Option ℕ)
-known_on lists config = map (λ l. total_known config l.found) lists
+abbrev pub known_totals_on : List Kept → Configuration → List (Option ℕ)
+known_totals_on lists config = map (λ l. total_known config l.found) lists
 
 -- Only the list at a place may differ.
 pub record OnlyAt (place : ℕ) (old new : List Kept) : Type 0 where

@@ -3,7 +3,7 @@
 ghost use Rattle.std.specs.Prelude.{◌≡◌, ◌<◌, ◌≤◌, ℕ, length, take, slice_get, IfOk, OnOk, OnErr, All, Some, None};
 ghost use Rattle.tomex_cycle.specs.Run.{total};
 ghost use Rattle.tomex_row_runs.specs.Cycles.{totals_on};
-ghost use Rattle.tomex_row_runs.specs.Knowledge.{AreLearnt, AreTotals, IsLearntAt, IsTotalAt, OnlyAt, known_on};
+ghost use Rattle.tomex_row_runs.specs.Knowledge.{AreLearnt, AreTotals, IsLearntAt, IsTotalAt, OnlyAt, known_totals_on};
 ghost use Rattle.tomex_row_runs.specs.Knowledge.{nothing_known};
 ghost use Rattle.tomex_study.specs.Program.{IsProgram, Workload};
 
@@ -54,7 +54,7 @@ impl<'s, A: Allocator + Clone> Knowledge<'s, A> {
 
     /// The known totals on a configuration, in the programs' order.
     pub fn known_totals(&self, config: &Config) -> [Option<u64>; 8]
-        ensures known { take (length self.now.programs) result ≡ known_on self.now.lists config.now }
+        ensures known { take (length self.now.programs) result ≡ known_totals_on self.now.lists config.now }
         ensures totals { AreTotals self.now.programs config.now result }
     {
         let mut known = [None; 8];

@@ -3,7 +3,7 @@
 ghost use Rattle.std.specs.Prelude.{◌≡◌, ◌<◌, ◌++◌, length, map, slice_index_or, IfOk, OnOk};
 ghost use Rattle.std.specs.List.{flat_map, range_with_len};
 ghost use Rattle.tomex_config.specs.Configuration.{plain};
-ghost use Rattle.tomex_csv_text.specs.Csv.{IsReady, written};
+ghost use Rattle.tomex_csv_text.specs.Csv.{IsReady, text_written};
 ghost use Rattle.tomex_rows.specs.RowsReport.{is_on_front, row_record, rows_text_of};
 ghost use Rattle.tomex_row_runs.specs.Cycles.{totals_on};
 ghost use Rattle.tomex_row_runs.specs.StudyFront.{front_of_study};
@@ -34,8 +34,8 @@ fn put_row<A: Allocator>(
     requires totals { totals.now ≡ totals_on study.now.programs (slice_index_or study.now.rows row.row plain) }
     requires front { on_front ≡ is_on_front (front_of_study study.now) row.row }
     ensures ready { OnOk result (IsReady writer.new) }
-    ensures text { OnOk result (written (λ v. v.items) writer.new
-        ≡ written (λ v. v.items) writer.old ++ row_record study.now row) }
+    ensures text { OnOk result (text_written (λ v. v.items) writer.new
+        ≡ text_written (λ v. v.items) writer.old ++ row_record study.now row) }
 {
     let mut fields = ByteRecord::new(heap);
     let config = &study.rows()[row.row];
@@ -65,8 +65,8 @@ fn put_rows<A: Allocator>(
     requires flags { flags.now
         ≡ map (is_on_front (front_of_study study.now)) (range_with_len 0 (length study.now.rows)) }
     ensures ready { OnOk result (IsReady writer.new) }
-    ensures text { OnOk result (written (λ v. v.items) writer.new
-        ≡ written (λ v. v.items) writer.old ++ flat_map (row_record study.now) (all_rows study.now)) }
+    ensures text { OnOk result (text_written (λ v. v.items) writer.new
+        ≡ text_written (λ v. v.items) writer.old ++ flat_map (row_record study.now) (all_rows study.now)) }
 {
     study.keeps_limits();
     for (place, row) in survey.rows().iter().enumerate() {

@@ -8,12 +8,12 @@ use Rattle.tomex_config.specs.Configuration.{Configuration, plain}
 use Rattle.tomex_timing.specs.Search.{times_in, times_of}
 use Rattle.tomex_timing.proofs.Programs.{product, two_results, stored_and_loaded, two_alu_stations, with_latency}
 use Rattle.tomex_run_views.specs.Chart.{line_of, picture_of, sign_in}
-use Rattle.tomex_run_views.specs.Excerpt.{shown}
+use Rattle.tomex_run_views.specs.Excerpt.{excerpt}
 
 -- the picture of count steps from a number on
 abbrev picture : ℕ → ℕ → Configuration → List Step → List ℕ
 picture number count config steps =
-    picture_of number (shown number count steps) (shown number count (times_in config steps))
+    picture_of number (excerpt number count steps) (excerpt number count (times_in config steps))
 
 product_picture : picture 1 32 (with_latency units.Mul two_alu_stations 3) product
     ≡ codes "cycles 1 to 8\n"

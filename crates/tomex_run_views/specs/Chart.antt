@@ -11,7 +11,7 @@ use Rattle.tomex_config.specs.Configuration.{Configuration}
 use Rattle.tomex_timing.specs.Search.{times_in, total_of}
 use Rattle.tomex_timing.specs.declared.times.Times.{Times}
 use Rattle.tomex_csv_text.specs.Aligned.{left_aligned, right_aligned}
-use Rattle.tomex_run_views.specs.Excerpt.{shown}
+use Rattle.tomex_run_views.specs.Excerpt.{excerpt}
 use Rattle.tomex_run_views.specs.declared.excerpt_error.ExcerptError.{ExcerptError}
 use Rattle.tomex_run_views.specs.declared.excerpt_error.ExcerptError.TheVariants as excerpts
 use Rattle.tomex_run_views.specs.declared.lines.Frame.{Frame}
@@ -101,13 +101,13 @@ most_signs = 16777216
 
 -- the signs of what is shown of a run on a configuration
 abbrev pub signs_shown : Configuration → List Step → ℕ → ℕ → ℕ
-signs_shown config steps number count = signs_of (shown number count (times_in config steps))
+signs_shown config steps number count = signs_of (excerpt number count (times_in config steps))
 
 -- the text is the picture of the steps that are asked for
 pub record IsPictureOf (config : Configuration) (steps : List Step) (number count : ℕ) (text : List ℕ) : Type 0 where
   pub there : number ≤ length steps
   pub drawn : signs_shown config steps number count ≤ most_signs
-  pub is : text ≡ picture_of number (shown number count steps) (shown number count (times_in config steps))
+  pub is : text ≡ picture_of number (excerpt number count steps) (excerpt number count (times_in config steps))
 
 -- why there is no picture: the step is looked up first, and the size of the picture is tested last
 abbrev pub IsUnpictured : Configuration → List Step → ℕ → ℕ → PictureError → Type 0

@@ -15,15 +15,15 @@ pub record TimedSteps : Type 0 where
   pub times : List Times
 
 -- the part of a list that is shown: at most `count` items, from a number on; the first item is number 1
-abbrev pub shown : {X : Type 0} → ℕ → ℕ → List X → List X
-shown number count xs = take count (drop (number - 1) xs)
+abbrev pub excerpt : {X : Type 0} → ℕ → ℕ → List X → List X
+excerpt number count xs = take count (drop (number - 1) xs)
 
 -- the steps of a run that are shown, and their times on a configuration
 abbrev pub excerpt_of : Configuration → List Step → ℕ → ℕ → TimedSteps
 excerpt_of config steps number count = record {
   number = number;
-  steps = shown number count steps;
-  times = shown number count (times_in config steps);
+  steps = excerpt number count steps;
+  times = excerpt number count (times_in config steps);
 }
 
 -- the limits of each excerpt of a program's run: its numbers are those of a run, and its cycles too

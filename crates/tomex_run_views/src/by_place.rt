@@ -7,7 +7,7 @@ ghost use Rattle.std.specs.List.{flat_map};
 ghost use Rattle.csv.specs.Records.{fields_of};
 ghost use Rattle.tomex_rvexec.specs.Run.{start_of};
 ghost use Rattle.tomex_rvexec.specs.Trace.{steps_from};
-ghost use Rattle.tomex_csv_text.specs.Csv.{IsReady, record_text, written};
+ghost use Rattle.tomex_csv_text.specs.Csv.{IsReady, record_text, text_written};
 ghost use Rattle.tomex_run_views.specs.ByPlace.{IsReportByPlace, pc_of, sum_columns};
 ghost use Rattle.tomex_run_views.specs.Tally.{fields_of_sum, place_fields, report_of_counted};
 
@@ -43,8 +43,8 @@ fn put_place<A: Allocator>(
 ) -> Result<(), AllocError>
     requires ready { IsReady writer.old }
     ensures ready { OnOk result (IsReady writer.new) }
-    ensures text { OnOk result (written (λ v. v.items) writer.new
-        ≡ written (λ v. v.items) writer.old ++ record_text (place_fields place.now)) }
+    ensures text { OnOk result (text_written (λ v. v.items) writer.new
+        ≡ text_written (λ v. v.items) writer.old ++ record_text (place_fields place.now)) }
 {
     fill_place(record, scratch, place)?;
     put_record(writer, record)
@@ -58,8 +58,8 @@ fn put_places<A: Allocator>(
 ) -> Result<(), AllocError>
     requires ready { IsReady writer.old }
     ensures ready { OnOk result (IsReady writer.new) }
-    ensures text { OnOk result (written (λ v. v.items) writer.new
-        ≡ written (λ v. v.items) writer.old
+    ensures text { OnOk result (text_written (λ v. v.items) writer.new
+        ≡ text_written (λ v. v.items) writer.old
         ++ flat_map (λ place. record_text (place_fields place)) (values tally.now.groups)) }
     ensures rising { OnOk result (IsOrdered nat_cmp tally.now.groups) }
 {
@@ -80,8 +80,8 @@ fn put_counted<A: Allocator>(
     requires ready { IsReady writer.old }
     requires drain { counted.now.drain ≤ 2 ^ 62 }
     requires cycles { counted.now.tally.all.cycles ≤ 2 ^ 62 }
-    ensures text { OnOk result (written (λ v. v.items) writer.new
-        ≡ written (λ v. v.items) writer.old ++ report_of_counted counted.now) }
+    ensures text { OnOk result (text_written (λ v. v.items) writer.new
+        ≡ text_written (λ v. v.items) writer.old ++ report_of_counted counted.now) }
     ensures rising { OnOk result (IsOrdered nat_cmp counted.now.tally.groups) }
 {
     put_columns(writer, heap, &["pc", "instr"])?;

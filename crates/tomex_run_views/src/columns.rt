@@ -3,7 +3,7 @@
 ghost use Rattle.std.specs.Prelude.{◌≡◌, ◌++◌, [], OnOk, map};
 ghost use Rattle.std.specs.Fmt.{decimal};
 ghost use Rattle.csv.specs.Records.{fields_of, partial_of};
-ghost use Rattle.tomex_csv_text.specs.Csv.{IsReady, record_text, written};
+ghost use Rattle.tomex_csv_text.specs.Csv.{IsReady, record_text, text_written};
 ghost use Rattle.tomex_run_views.specs.ByPlace.{sum_columns};
 ghost use Rattle.tomex_run_views.specs.Tally.{fields_of_sum};
 
@@ -25,8 +25,8 @@ pub fn put_columns<A: Allocator>(
 ) -> Result<(), AllocError>
     requires ready { IsReady writer.old }
     ensures ready { OnOk result (IsReady writer.new) }
-    ensures text { OnOk result (written (λ v. v.items) writer.new
-        ≡ written (λ v. v.items) writer.old ++ record_text (map (λ n. n.now) names.now ++ sum_columns)) }
+    ensures text { OnOk result (text_written (λ v. v.items) writer.new
+        ≡ text_written (λ v. v.items) writer.old ++ record_text (map (λ n. n.now) names.now ++ sum_columns)) }
 {
     let mut record = ByteRecord::new(heap);
     push_names(&mut record, names)?;
@@ -82,8 +82,8 @@ pub fn put_sum<A: Allocator>(
 ) -> Result<(), AllocError>
     requires ready { IsReady writer.old }
     ensures ready { OnOk result (IsReady writer.new) }
-    ensures text { OnOk result (written (λ v. v.items) writer.new
-        ≡ written (λ v. v.items) writer.old ++ record_text (map (λ n. n.now) names.now ++ fields_of_sum sum.now)) }
+    ensures text { OnOk result (text_written (λ v. v.items) writer.new
+        ≡ text_written (λ v. v.items) writer.old ++ record_text (map (λ n. n.now) names.now ++ fields_of_sum sum.now)) }
 {
     let mut record = ByteRecord::new(heap);
     push_names(&mut record, names)?;

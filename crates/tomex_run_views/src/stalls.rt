@@ -9,7 +9,7 @@ ghost use Rattle.tomex_rvexec.specs.Run.{start_of};
 ghost use Rattle.tomex_rvexec.specs.Trace.{steps_from};
 ghost use Rattle.tomex_timing.specs.Needs.{all_parts};
 ghost use Rattle.tomex_floor.specs.Floor.{floors_by_width, latency_of};
-ghost use Rattle.tomex_csv_text.specs.Csv.{IsReady, record_text, written};
+ghost use Rattle.tomex_csv_text.specs.Csv.{IsReady, record_text, text_written};
 ghost use Rattle.tomex_run_views.specs.StallsReport.{IsStallsReport, floor_record, floor_records, header};
 ghost use Rattle.tomex_run_views.specs.StallsReport.{name_of_part, other_record, other_records};
 ghost use Rattle.tomex_run_views.specs.StallsReport.{part_fields, part_record, report_of_needs};
@@ -28,8 +28,8 @@ use tomex_timing::{Needs, Part};
 fn put_header<A: Allocator>(writer: &mut Writer<Vec<u8, A>>, heap: Global) -> Result<(), AllocError>
     requires ready { IsReady writer.old }
     ensures ready { OnOk result (IsReady writer.new) }
-    ensures text { OnOk result (written (λ v. v.items) writer.new
-        ≡ written (λ v. v.items) writer.old ++ record_text header) }
+    ensures text { OnOk result (text_written (λ v. v.items) writer.new
+        ≡ text_written (λ v. v.items) writer.old ++ record_text header) }
 {
     let mut record = ByteRecord::new(heap);
     push_names(&mut record, &["part", "count", "peak", "stalls"])?;
@@ -91,8 +91,8 @@ fn put_part<A: Allocator>(
 ) -> Result<(), AllocError>
     requires ready { IsReady writer.old }
     ensures ready { OnOk result (IsReady writer.new) }
-    ensures text { OnOk result (written (λ v. v.items) writer.new
-        ≡ written (λ v. v.items) writer.old ++ part_record config.now needs.now part) }
+    ensures text { OnOk result (text_written (λ v. v.items) writer.new
+        ≡ text_written (λ v. v.items) writer.old ++ part_record config.now needs.now part) }
 {
     fill_part(record, scratch, config, needs, part)?;
     put_record(writer, record)
@@ -107,8 +107,8 @@ fn put_parts<A: Allocator>(
 ) -> Result<(), AllocError>
     requires ready { IsReady writer.old }
     ensures ready { OnOk result (IsReady writer.new) }
-    ensures text { OnOk result (written (λ v. v.items) writer.new
-        ≡ written (λ v. v.items) writer.old
+    ensures text { OnOk result (text_written (λ v. v.items) writer.new
+        ≡ text_written (λ v. v.items) writer.old
         ++ flat_map (part_record config.now needs.now) all_parts) }
 {
     let mut record = ByteRecord::new(heap);
@@ -129,8 +129,8 @@ fn put_other<A: Allocator>(
 ) -> Result<(), AllocError>
     requires ready { IsReady writer.old }
     ensures ready { OnOk result (IsReady writer.new) }
-    ensures text { OnOk result (written (λ v. v.items) writer.new
-        ≡ written (λ v. v.items) writer.old ++ other_record name.now cycles) }
+    ensures text { OnOk result (text_written (λ v. v.items) writer.new
+        ≡ text_written (λ v. v.items) writer.old ++ other_record name.now cycles) }
 {
     let mut record = ByteRecord::new(heap);
     push_names(&mut record, &[name, "-", "-"])?;
@@ -146,8 +146,8 @@ fn put_others<A: Allocator>(
 ) -> Result<(), AllocError>
     requires ready { IsReady writer.old }
     ensures ready { OnOk result (IsReady writer.new) }
-    ensures text { OnOk result (written (λ v. v.items) writer.new
-        ≡ written (λ v. v.items) writer.old ++ other_records needs.now) }
+    ensures text { OnOk result (text_written (λ v. v.items) writer.new
+        ≡ text_written (λ v. v.items) writer.old ++ other_records needs.now) }
 {
     put_other(writer, heap, "branch", needs.branch)?;
     put_other(writer, heap, "operand", needs.operand)?;
@@ -167,8 +167,8 @@ fn put_floor<A: Allocator>(
 ) -> Result<(), AllocError>
     requires ready { IsReady writer.old }
     ensures ready { OnOk result (IsReady writer.new) }
-    ensures text { OnOk result (written (λ v. v.items) writer.new
-        ≡ written (λ v. v.items) writer.old ++ floor_record width cycles) }
+    ensures text { OnOk result (text_written (λ v. v.items) writer.new
+        ≡ text_written (λ v. v.items) writer.old ++ floor_record width cycles) }
 {
     let mut record = ByteRecord::new(heap);
     let mut scratch = String::new(heap);
@@ -187,8 +187,8 @@ fn put_floors<A: Allocator>(
 ) -> Result<(), AllocError>
     requires { IsReady writer.old }
     ensures { OnOk result ((latency : UnitId → ℕ) (steps : List Step)
-        → floors.now ≡ floors_by_width latency steps → written (λ v. v.items) writer.new
-        ≡ written (λ v. v.items) writer.old ++ floor_records latency steps) }
+        → floors.now ≡ floors_by_width latency steps → text_written (λ v. v.items) writer.new
+        ≡ text_written (λ v. v.items) writer.old ++ floor_records latency steps) }
 {
     put_floor(writer, heap, 1, floors[0])?;
     put_floor(writer, heap, 2, floors[1])?;
@@ -206,8 +206,8 @@ fn put_needs<A: Allocator>(
 ) -> Result<(), AllocError>
     requires { IsReady writer.old }
     ensures { OnOk result ((steps : List Step) → floors.now ≡ floors_by_width (latency_of config.now) steps
-        → written (λ v. v.items) writer.new
-        ≡ written (λ v. v.items) writer.old ++ report_of_needs config.now needs.now steps) }
+        → text_written (λ v. v.items) writer.new
+        ≡ text_written (λ v. v.items) writer.old ++ report_of_needs config.now needs.now steps) }
 {
     put_header(writer, heap)?;
     put_parts(writer, heap, config, needs)?;

@@ -5,7 +5,7 @@ use Rattle.tomex_rvdec.specs.declared.op.Op.{Op}
 use Rattle.tomex_rvdec.specs.declared.op.Form.{Form}
 use Rattle.tomex_rvdec.specs.declared.op.Form.TheVariants as forms
 use Rattle.tomex_rvdec.specs.Instruction.{Instruction}
-use Rattle.tomex_rvdec.specs.Meaning.{selects, selected, Means, IsMeant, meaning, operands_at, form_of, operations}
+use Rattle.tomex_rvdec.specs.Meaning.{selects, selection, Means, IsMeant, meaning, operands_at, form_of, operations}
 use Rattle.tomex_rvdec.proofs.Selection.{selected_by}
 
 found : (p : Op → Bool) (xs : List Op) (x : Op) → find p xs ≡ Some x → IsTrue (p x)
@@ -17,12 +17,12 @@ found p (y ∷ ys) x h = at_test (p y) refl h (found p ys x)
     at_test true e h later = let same : y ≡ x = cc in subst (λ z. p z ≡ true) same e
     at_test false e h later = later h
 
-pub selected_selects : (op : Op) (w : ℕ) → selected w ≡ Some op → IsTrue (selects op w)
-unfolding selected
+pub selected_selects : (op : Op) (w : ℕ) → selection w ≡ Some op → IsTrue (selects op w)
+unfolding selection
 selected_selects op w h = found (λ o. selects o w) operations op h
 
 pub means_meaning : (w : ℕ) (x : Instruction) → Means w x → meaning w ≡ Some x
-means_meaning w x m = let e : selected w ≡ Some x.op = selected_by x.op w m.1 in rw e (ap Some (sym m.2))
+means_meaning w x m = let e : selection w ≡ Some x.op = selected_by x.op w m.1 in rw e (ap Some (sym m.2))
 
 pub op_of_operands : (f : Form) (w : ℕ) (op : Op) → (operands_at f w op).op ≡ op
 op_of_operands forms.Register w op = refl
@@ -42,9 +42,9 @@ means_operands w op short s =
     (short, subst (λ o. IsTrue (selects o w)) e s, ap (λ o. operands_at (form_of o) w o) e)
 
 pub meaning_means : (w : ℕ) (x : Instruction) → w < 2 ^ 32 → meaning w ≡ Some x → Means w x
-meaning_means w x short h = at_selected w x (selected w) refl short h
+meaning_means w x short h = at_selected w x (selection w) refl short h
   where
-    at_selected : (w : ℕ) (x : Instruction) (o : Option Op) → selected w ≡ o → w < 2 ^ 32 → meaning w ≡ Some x
+    at_selected : (w : ℕ) (x : Instruction) (o : Option Op) → selection w ≡ o → w < 2 ^ 32 → meaning w ≡ Some x
         → Means w x
     at_selected w x None e short h = let g : None ≡ Some x = rw e at h in cc
     at_selected w x (Some op) e short h =

@@ -7,7 +7,7 @@ use Rattle.tomex_rvdec.specs.declared.op.Op.TheVariants.{Slli, Srli, Srai, Add, 
 use Rattle.tomex_rvdec.specs.declared.op.Op.TheVariants.{And, Mul, Mulh, Mulhsu, Mulhu, Div, Divu, Rem, Remu, Fence}
 use Rattle.tomex_rvdec.specs.declared.op.Op.TheVariants.{Ecall, Ebreak}
 use Rattle.tomex_rvdec.specs.Fields.{opcode, funct3, funct7}
-use Rattle.tomex_rvdec.specs.Meaning.{selects, selected, has_opcode, has_funct3, has_funct7}
+use Rattle.tomex_rvdec.specs.Meaning.{selects, selection, has_opcode, has_funct3, has_funct7}
 
 in_funct3 : (code function w : ℕ) → IsTrue (has_funct3 code function w) → (opcode w ≡ code) × (funct3 w ≡ function)
 in_funct3 code function w h = grind arith
@@ -22,8 +22,8 @@ in_opcode code w h = grind arith
 whole : (code w : ℕ) → IsTrue (nat_eq w code) → w ≡ code
 whole code w h = grind arith
 
-pub selected_by : (op : Op) (w : ℕ) → IsTrue (selects op w) → selected w ≡ Some op
-unfolding selected
+pub selected_by : (op : Op) (w : ℕ) → IsTrue (selects op w) → selection w ≡ Some op
+unfolding selection
 selected_by Lui w h = let e = in_opcode 0b0110111 w h in rw e (refl {a = Some Lui})
 selected_by Auipc w h = let e = in_opcode 0b0010111 w h in rw e (refl {a = Some Auipc})
 selected_by Jal w h = let e = in_opcode 0b1101111 w h in rw e (refl {a = Some Jal})

@@ -171,9 +171,9 @@ operations =
     ∷ And ∷ Mul ∷ Mulh ∷ Mulhsu ∷ Mulhu ∷ Div ∷ Divu ∷ Rem ∷ Remu ∷ Fence ∷ Ecall ∷ Ebreak ∷ []
 
 -- the operation that a word selects, if any
-unfoldable pub selected : ℕ → Option Op
-selected w = find (λ op. selects op w) operations
+unfoldable pub selection : ℕ → Option Op
+selection w = find (λ op. selects op w) operations
 
 -- the meaning of a word, if it has one
 abbrev pub meaning : ℕ → Option Instruction
-meaning w = option_map (λ op. operands_at (form_of op) w op) (selected w)
+meaning w = option_map (λ op. operands_at (form_of op) w op) (selection w)

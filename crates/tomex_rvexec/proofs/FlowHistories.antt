@@ -11,7 +11,7 @@ use Rattle.tomex_rvdec.specs.declared.op.Op.TheVariants.{Fence}
 use Rattle.tomex_rvdec.specs.declared.op.Form.{Form}
 use Rattle.tomex_rvdec.specs.declared.op.Form.TheVariants as forms
 use Rattle.tomex_rvdec.specs.Instruction.{Instruction}
-use Rattle.tomex_rvdec.specs.Meaning.{form_of, meaning, operands_at, selected}
+use Rattle.tomex_rvdec.specs.Meaning.{form_of, meaning, operands_at, selection}
 use Rattle.tomex_rvdec.specs.Operands.{pool_of, sources_at, sources_of}
 use Rattle.tomex_rvdec.proofs.Meaning.{op_of_operands}
 use Rattle.tomex_steps.specs.declared.step.Step.{Step}
@@ -72,7 +72,7 @@ UnreadIn op rs1 rs2 = (IsSome (pool_of op) → (sources_at (form_of op) rs1 rs2)
     × ((sources_at (form_of op) rs1 rs2).k ≡ None → rs2 ≡ 0)
 
 unread_in : (w : ℕ) (y : Instruction) → meaning w ≡ Some y → UnreadIn y.op y.rs1 y.rs2
-unread_in w y e = at (selected w) e
+unread_in w y e = at (selection w) e
   where
     waits : (op : Op) → IsSome (pool_of op) → form_of op ≡ forms.Fence → ⊥
     waits op p f = let none = fence_waits_nowhere op f in let q = rw none at p in cc

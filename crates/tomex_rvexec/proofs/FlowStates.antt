@@ -11,7 +11,7 @@ use Rattle.tomex_rvdec.specs.declared.op.Form.{Form}
 use Rattle.tomex_rvdec.specs.declared.op.Form.TheVariants as forms
 use Rattle.tomex_rvdec.specs.declared.pool.PoolId.TheVariants as pools
 use Rattle.tomex_rvdec.specs.Instruction.{Instruction}
-use Rattle.tomex_rvdec.specs.Meaning.{form_of, meaning, operands_at, selected}
+use Rattle.tomex_rvdec.specs.Meaning.{form_of, meaning, operands_at, selection}
 use Rattle.tomex_rvdec.specs.Operands.{dest_at, pool_of}
 use Rattle.tomex_rvexec.specs.declared.outcome.EndKind.{EndKind}
 use Rattle.tomex_rvexec.specs.declared.outcome.FaultKind.{FaultKind}
@@ -90,7 +90,7 @@ operands_small forms.Fence w op = record { rd = omega arith; rs1 = omega arith; 
 operands_small forms.Whole w op = record { rd = omega arith; rs1 = omega arith; rs2 = omega arith }
 
 pub registers_small : (w : ℕ) (y : Instruction) → meaning w ≡ Some y → HasRegisters y
-registers_small w y e = at (selected w) e
+registers_small w y e = at (selection w) e
   where
     at : (m : Option Op) → option_map (λ op. operands_at (form_of op) w op) m ≡ Some y → HasRegisters y
     at None e = cc

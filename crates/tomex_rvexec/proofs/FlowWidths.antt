@@ -14,7 +14,7 @@ use Rattle.tomex_rvdec.specs.declared.op.Form.{Form}
 use Rattle.tomex_rvdec.specs.declared.op.Form.TheVariants as forms
 use Rattle.tomex_rvdec.specs.Fields.{field, sign_extended}
 use Rattle.tomex_rvdec.specs.Instruction.{Instruction}
-use Rattle.tomex_rvdec.specs.Meaning.{form_of, meaning, operands_at, selected}
+use Rattle.tomex_rvdec.specs.Meaning.{form_of, meaning, operands_at, selection}
 use Rattle.tomex_rvexec.specs.Flow.{HasWords, memory_of}
 use Rattle.tomex_steps.specs.Results.{byte_in, result_of}
 use Rattle.tomex_rvexec.specs.Machine.{State, Goes, base_of, fetched_word, step_at, step_of}
@@ -53,7 +53,7 @@ imm_word forms.Fence w op = omega arith
 imm_word forms.Whole w op = omega arith
 
 imm_means : (w : ℕ) (y : Instruction) → meaning w ≡ Some y → y.imm < 2 ^ 32
-imm_means w y e = at (selected w) e
+imm_means w y e = at (selection w) e
   where
     at : (m : Option Op) → option_map (λ op. operands_at (form_of op) w op) m ≡ Some y → y.imm < 2 ^ 32
     at None e = cc

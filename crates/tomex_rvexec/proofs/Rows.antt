@@ -4,7 +4,7 @@ use Rattle.std.specs.Prelude.{replicate, slice_index, length, map}
 use Rattle.tomex_rvdec.specs.declared.op.Op.TheVariants.{Div, Rem, Mulhsu, Mulhu, Mulh, Sra, Sll, Slt, Sub}
 use Rattle.tomex_steps.specs.Words.{alu_of, muldiv_of}
 use Rattle.tomex_image.specs.Image.{Loaded}
-use Rattle.tomex_rvdec.specs.Meaning.{selected}
+use Rattle.tomex_rvdec.specs.Meaning.{selection}
 use Rattle.tomex_steps.specs.declared.step.Step.{Step}
 use Rattle.tomex_rvexec.specs.declared.outcome.EndKind.{EndKind}
 use Rattle.tomex_rvexec.specs.declared.outcome.FaultKind.{FaultKind}
@@ -69,56 +69,56 @@ seen k pc n a b c m = record { kind = k; pc = pc; steps = n; x1 = a; x2 = b; x3 
 
 pub row1 : run_of 4 0 (start_of (image_at 0 (0x00500093 ∷ 0x00700113 ∷ 0x022081b3 ∷ 0x00100073 ∷ [])))
     ≡ seen (ended ends.Ebreak) 12 4 5 7 35 0xb3
-unfolding selected step_of
+unfolding selection step_of
 row1 = refl
 
 pub row1_long : run_of 3 0 (start_of (image_at 0 (0x00500093 ∷ 0x00700113 ∷ 0x022081b3 ∷ 0x00100073 ∷ [])))
     ≡ seen going 12 3 5 7 35 0xb3
-unfolding selected step_of
+unfolding selection step_of
 row1_long = refl
 
 -- beq x0,x0,2
 pub row11a : run_of 9 0 (start_of (image_at 0 (0x00000163 ∷ []))) ≡ seen (faulted MisalignedTarget) 0 1 0 64 0 0
-unfolding selected step_of
+unfolding selection step_of
 row11a = refl
 
 pub row11b : run_of 9 0 (start_of (image_at 0 (0x00001163 ∷ 0x00100073 ∷ []))) ≡ seen (ended ends.Ebreak) 4 2 0 64 0 0
-unfolding selected step_of
+unfolding selection step_of
 row11b = refl
 
 -- sw x0,8(x0); addi x1,x0,1; addi x3,x0,9; ebreak
 pub row12 : run_of 9 0 (start_of (image_at 0 (0x00002423 ∷ 0x00100093 ∷ 0x00900193 ∷ 0x00100073 ∷ [])))
     ≡ seen (ended ends.Ebreak) 12 4 1 64 9 0
-unfolding selected step_of
+unfolding selection step_of
 row12 = refl
 
 -- lw x1,-2(x0) and lw x0,-2(x0) at the top of the addresses; lw x1,-4(x0)
 pub top : run_of 9 0 (start_of (image_at 4294967232 (0xffe02083 ∷ 0x00100073 ∷ []))) ≡ seen (faulted Access) 4294967232
     1 0 0 0 0
-unfolding selected step_of
+unfolding selection step_of
 top = refl
 
 pub top0 : run_of 9 0 (start_of (image_at 4294967232 (0xffe02003 ∷ 0x00100073 ∷ []))) ≡ seen (faulted Access) 4294967232
     1 0 0 0 0
-unfolding selected step_of
+unfolding selection step_of
 top0 = refl
 
 pub top4 : run_of 9 0 (start_of (image_at 4294967232 (0xffc02083 ∷ 0x00100073 ∷ []))) ≡ seen (ended ends.Ebreak)
     4294967236 2 0 0 0 0
-unfolding selected step_of
+unfolding selection step_of
 top4 = refl
 
 -- jalr x0,7(x0): 6 isn't a multiple of 4; jalr x1,5(x0) goes to 4; jal x0,-4 leaves memory
 pub jalr7 : run_of 9 0 (start_of (image_at 0 (0x00700067 ∷ []))) ≡ seen (faulted MisalignedTarget) 0 1 0 64 0 0
-unfolding selected step_of
+unfolding selection step_of
 jalr7 = refl
 
 pub jalr5 : run_of 9 0 (start_of (image_at 0 (0x005000e7 ∷ 0x00100073 ∷ []))) ≡ seen (ended ends.Ebreak) 4 2 4 64 0 0
-unfolding selected step_of
+unfolding selection step_of
 jalr5 = refl
 
 pub away : run_of 9 0 (start_of (image_at 0 (0xffdff06f ∷ []))) ≡ seen (faulted Fetch) 4294967292 2 0 64 0 0
-unfolding selected step_of
+unfolding selection step_of
 away = refl
 
 -- the steps of a run that is too long, and of one that faults
@@ -126,11 +126,11 @@ abbrev pub pcs : List Step → List ℕ
 pcs steps = map (λ (x : Step). x.pc) steps
 
 pub long : pcs (steps_from 3 (start_of (image_at 0 (0x0000006f ∷ [])))) ≡ 0 ∷ 0 ∷ 0 ∷ []
-unfolding selected step_of
+unfolding selection step_of
 long = refl
 
 pub faulty : pcs (steps_from 3 (start_of (image_at 0 (0x00100093 ∷ 0x00000163 ∷ [])))) ≡ 0 ∷ 4 ∷ []
-unfolding selected step_of
+unfolding selection step_of
 faulty = refl
 
 pub div0 : muldiv_of Div 7 0 ≡ 0xffffffff

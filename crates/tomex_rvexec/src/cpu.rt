@@ -155,7 +155,7 @@ impl<'a, A: Allocator> Cpu<'a, A> {
 
     /// One step, with its record.
     #[tactic(auto, unfolding(crate::specs::Machine::step_of))]
-    pub(crate) fn recorded_step(&mut self) -> Result<(Step, Stepped), Fault>
+    pub(crate) fn record_step(&mut self) -> Result<(Step, Stepped), Fault>
         ensures ok { IfOk result
             (λ r. (coming_of self.old ≡ Some r.0) × Answers (step_of self.old) self.old (Ok r.1) self.new) }
         ensures err { IfErr result (λ e. Answers (step_of self.old) self.old (Err e) self.new) }

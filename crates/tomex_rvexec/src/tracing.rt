@@ -26,7 +26,7 @@ fn record<'a, A: Allocator>(
     ensures err { IfErr result (λ e. IsRefusal cpu.old.image limit e) }
 {
     for _done in 0..limit {
-        let (step, stepped) = match cpu.recorded_step() {
+        let (step, stepped) = match cpu.record_step() {
             Ok(done) => done,
             Err(fault) => return Err(RunError::Fault(fault)),
         };

@@ -24,7 +24,7 @@ use Rattle.tomex_timing.specs.declared.times.Done.{Done}
 use Rattle.tomex_snapshots.specs.declared.snapshot.Snapshot.{Snapshot}
 use Rattle.tomex_snapshots.specs.declared.entries.Entry.{Entry}
 use Rattle.tomex_snapshots.specs.Entries.{done_of, history_of}
-use Rattle.tomex_snapshots.specs.Takers.{held}
+use Rattle.tomex_snapshots.specs.Takers.{occupant}
 use Rattle.tomex_snapshots.specs.Kept.{IsSnapshot, snapshot_after, busy_in, field_in, registers_after, set_in}
 use Rattle.tomex_snapshots.specs.Kept.{stations_after, stations_with}
 use Rattle.tomex_snapshots.proofs.Lists.{map_below, set_is}
@@ -129,12 +129,12 @@ busy_is by h producers tag e is low_j low_k =
 
 -- the content of a place
 abbrev in_place : ℕ → ℕ → List Done → ℕ → Option Busy
-in_place by at h x = held by at h (tag_at_place x)
+in_place by at h x = occupant by at h (tag_at_place x)
 
-in_places : (by at : ℕ) (h : List Done) → map (held by at h) all_tags ≡ map (in_place by at h) (range_with_len 0 96)
+in_places : (by at : ℕ) (h : List Done) → map (occupant by at h) all_tags ≡ map (in_place by at h) (range_with_len 0 96)
 in_places by at h =
-    ap (λ (tags : List Tag). map (held by at h) tags) tags_are_places
-    ∙ map-map (held by at h) tag_at_place (range_with_len 0 96)
+    ap (λ (tags : List Tag). map (occupant by at h) tags) tags_are_places
+    ∙ map-map (occupant by at h) tag_at_place (range_with_len 0 96)
 
 -- a step that isn't in this place leaves it as it is
 elsewhere : (by at : ℕ) (d : Done) (h : List Done) (x : ℕ)
@@ -216,8 +216,8 @@ places_more count few by at e h producers made low_j low_k = elim (cases_Bool (i
 -- what stations show
 stations_more : (by at : ℕ) (e : Entry) (h : List Done) (producers : List (Option Tag)) (stations : List (Option Busy))
     → producers ≡ map (producer by h) (range_with_len 0 32) → IfSome (j_of e.step) (λ o. o.register < 32)
-    → IfSome (k_of e.step) (λ o. o.register < 32) → stations ≡ map (held by at h) all_tags
-    → stations_after by at e producers stations ≡ map (held by at (done_of e ∷ h)) all_tags
+    → IfSome (k_of e.step) (λ o. o.register < 32) → stations ≡ map (occupant by at h) all_tags
+    → stations_after by at e producers stations ≡ map (occupant by at (done_of e ∷ h)) all_tags
 stations_more by at e h producers stations made low_j low_k is =
     ap (λ (xs : List (Option Busy)). stations_after by at e producers xs) (is ∙ in_places by at h)
     ∙ (places_more 96 (omega arith) by at e h producers made low_j low_k ∙ sym (in_places by at (done_of e ∷ h)))
@@ -250,7 +250,7 @@ history_more es i e first l is =
     ∙ ap (λ (x : Entry). done_of x ∷ history_of (take i es)) (sym is)))
 
 -- with the same fields it shows the same as tables do
-pub held_is : (t : ℕ) (h : List Done) (tag : Tag) → held t t h tag ≡ shown t h tag
+pub held_is : (t : ℕ) (h : List Done) (tag : Tag) → occupant t t h tag ≡ shown t h tag
 held_is t [] tag = refl
 held_is t (d ∷ older) tag =
     let is_there : Bool = is_under_way t d && is_in tag.pool (step_pool d.step) && is_number d.at.station tag.number in

@@ -10,7 +10,7 @@ use Rattle.tomex_timing.specs.declared.tables.Busy.{Busy}
 use Rattle.tomex_timing.specs.declared.tables.Tag.{Tag}
 use Rattle.tomex_timing.specs.declared.times.Done.{Done}
 use Rattle.tomex_snapshots.specs.Kept.{AreSnapshots, IsSnapshot}
-use Rattle.tomex_snapshots.specs.Takers.{held, operand_takers, register_takers, takers_to}
+use Rattle.tomex_snapshots.specs.Takers.{occupant, operand_takers, register_takers, takers_to}
 use Rattle.tomex_snapshots.specs.declared.snapshot.Snapshot.{Snapshot}
 use Rattle.tomex_snapshots.specs.declared.snapshot.Snapshots.{Snapshots}
 use Rattle.tomex_snapshots.specs.declared.takers.Taker.{Taker}
@@ -30,7 +30,7 @@ pub station_is : (t : ℕ) (h : List Done) (snapshot : Snapshot) (pool : PoolId)
     → slice_index_or snapshot.stations (16 * place_of_pool pool + n) d ≡ shown t h (record { pool = pool; number = n })
 station_is t h snapshot pool n d is low =
     ap (λ (xs : List (Option Busy)). slice_index_or xs (16 * place_of_pool pool + n) d) is.stations
-    ∙ (at_station (held t t h) pool n d low ∙ held_is t h (record { pool = pool; number = n }))
+    ∙ (at_station (occupant t t h) pool n d low ∙ held_is t h (record { pool = pool; number = n }))
 
 pub takers_are : (t : ℕ) (h : List Done) (tag : Tag) (r : ℕ) (snapshots : Snapshots) (none made all : List Taker)
     (was now : Option Tag) → AreSnapshots t h snapshots → none ≡ []
@@ -40,9 +40,9 @@ pub takers_are : (t : ℕ) (h : List Done) (tag : Tag) (r : ℕ) (snapshots : Sn
 unfolding takers_to
 takers_are t h tag r snapshots none made all was now are empty operands registers is_was is_now =
     let stations : flat_map (operand_takers tag) snapshots.taking.stations
-    ≡ flat_map (λ station. operand_takers tag (held (t - 1) t h station)) all_tags =
+    ≡ flat_map (λ station. operand_takers tag (occupant (t - 1) t h station)) all_tags =
     ap (flat_map (operand_takers tag)) are.taking.stations
-    ∙ flat_map-map (operand_takers tag) (held (t - 1) t h) all_tags in
+    ∙ flat_map-map (operand_takers tag) (occupant (t - 1) t h) all_tags in
     registers
     ∙ ap₂ (λ (x y : List Taker). x ++ y) (operands ∙ ap₂ (λ (x y : List Taker). x ++ y) empty stations)
     (ap₂ (λ (x y : Option Tag). register_takers tag r x y) is_was is_now)

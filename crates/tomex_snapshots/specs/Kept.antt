@@ -12,7 +12,7 @@ use Rattle.tomex_timing.specs.declared.tables.Field.TheVariants.{Unread}
 use Rattle.tomex_timing.specs.declared.tables.Tag.{Tag}
 use Rattle.tomex_timing.specs.declared.times.Done.{Done}
 use Rattle.tomex_snapshots.specs.Entries.{done_of, station_of}
-use Rattle.tomex_snapshots.specs.Takers.{held}
+use Rattle.tomex_snapshots.specs.Takers.{occupant}
 use Rattle.tomex_snapshots.specs.declared.snapshot.Snapshot.{Snapshot}
 use Rattle.tomex_snapshots.specs.declared.snapshot.Snapshots.{Snapshots}
 use Rattle.tomex_snapshots.specs.declared.entries.Entry.{Entry}
@@ -65,7 +65,7 @@ snapshot_after by at e snapshot = record {
 
 -- the stations' contents after cycle `at`, with their fields as of cycle `by`, and Qi and the producers as of then
 pub record IsSnapshot (by at : ℕ) (h : List Done) (snapshot : Snapshot) : Type 0 where
-  pub stations : snapshot.stations ≡ map (held by at h) all_tags
+  pub stations : snapshot.stations ≡ map (occupant by at h) all_tags
   pub registers : snapshot.registers ≡ map (qi_of by h) (range_with_len 0 32)
   pub producers : snapshot.producers ≡ map (producer by h) (range_with_len 0 32)
 

@@ -26,12 +26,12 @@ same_name (Some a) (Some b) = same_tag a b
 same_name _ _ = false
 
 -- the step in a station after cycle t, with its fields as of cycle s; `shown t` is `held t t`
-abbrev pub held : ℕ → ℕ → List Done → Tag → Option Busy
-held s t [] tag = None
-held s t (d ∷ older) tag =
+abbrev pub occupant : ℕ → ℕ → List Done → Tag → Option Busy
+occupant s t [] tag = None
+occupant s t (d ∷ older) tag =
     if is_under_way t d && is_in tag.pool (step_pool d.step) && is_number d.at.station tag.number
     then Some (busy_of s tag d older)
-    else held s t older tag
+    else occupant s t older tag
 
 -- the operand waits for this station's result
 abbrev pub awaits : Tag → Field → Bool
@@ -54,7 +54,7 @@ register_takers tag r _ _ = []
 -- it up to the cycle before; one that issues in the cycle takes what it would have waited for. Then the register.
 unfoldable pub takers_to : ℕ → List Done → Tag → ℕ → List Taker
 takers_to t h tag r =
-    flat_map (λ station. operand_takers tag (held (t - 1) t h station)) all_tags
+    flat_map (λ station. operand_takers tag (occupant (t - 1) t h station)) all_tags
     ++ register_takers tag r (qi_of (t - 1) h r) (qi_of t h r)
 
 abbrev pub takers_from : ℕ → List Done → Option Tag → Option ℕ → List Taker

@@ -36,7 +36,7 @@ pub struct Snapshots {
 }
 
 /// The station whose result isn't sent yet after a cycle.
-fn unsent(entry: &Entry, by: u64) -> Option<Tag>
+fn unsent_tag(entry: &Entry, by: u64) -> Option<Tag>
     ensures { result ≡ unsent_tag by (done_of entry.now) }
 {
     if by < entry.at.end {
@@ -155,7 +155,7 @@ impl Snapshot {
         ensures { self.new ≡ snapshot_after by at entry.now self.old }
     {
         self.note_station(entry, by, at);
-        let unsent = unsent(entry, by);
+        let unsent = unsent_tag(entry, by);
         if entry.at.issue <= by {
             set_in(&mut self.registers, entry.step.dest(), unsent);
         }

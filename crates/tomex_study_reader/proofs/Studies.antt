@@ -8,7 +8,7 @@ use Rattle.std.proofs.lemmas.List.{length-map, take_all}
 use Rattle.std.proofs.lemmas.Option.{slice_get_read, slice_get-map}
 use Rattle.tomex_image.specs.Image.{Loaded}
 use Rattle.tomex_image.specs.Window.{Span}
-use Rattle.tomex_image.specs.Loading.{elf_placed, flat_placed, is_elf, placed}
+use Rattle.tomex_image.specs.Loading.{IsPlacedElf, IsPlacedFlat, is_elf, IsPlaced}
 use Rattle.tomex_config.specs.Grid.{grid_of}
 use Rattle.tomex_study.specs.Program.{Workload, refusal_of}
 use Rattle.tomex_study.specs.declared.program.ProgramError.{ProgramError}
@@ -21,14 +21,15 @@ use Rattle.tomex_study_reader.specs.declared.error.StudyError.{StudyError}
 use Rattle.tomex_study_reader.specs.declared.error.StudyError.TheVariants.{Memory}
 use Rattle.tomex_values.specs.declared.error.DocumentError.{DocumentError}
 use Rattle.tomex_values.specs.declared.error.DocumentError.TheVariants as documents
-use Rattle.tomex_study_reader.specs.Refusals.{IsDocumentRefusal, told_as, unfit_as}
+use Rattle.tomex_study_reader.specs.Refusals.{IsDocumentRefusal, study_error_of, unfit_as}
 use Rattle.tomex_document.specs.Document.{Document, document_of}
 
 -- an image of a file has the window that was asked for
-pub in_window : (file : List ℕ) (window : Span) (image : Loaded) → placed file window image → image.window ≡ window
+pub in_window : (file : List ℕ) (window : Span) (image : Loaded) → IsPlaced file window image → image.window ≡ window
 in_window file window image here = at (is_elf file) here
   where
-    at : (b : Bool) → MatchBool b (elf_placed file window image) (flat_placed file window image) → image.window ≡ window
+    at : (b : Bool) → MatchBool b (IsPlacedElf file window image) (IsPlacedFlat file window image) → image.window
+        ≡ window
     at true here = here.0
     at false here = here.0
 
@@ -115,7 +116,7 @@ seen_is seen xs n place x y count within read is =
     slice_get-map seen xs place ∙ rw (item_is xs place x there read) (ap Some (sym is))
 
 -- a refused document: out of memory, or the refusal says which test failed
-pub names_refused : (bytes : List ℕ) (fault : DocumentError) (error : StudyError) → error ≡ told_as fault
+pub names_refused : (bytes : List ℕ) (fault : DocumentError) (error : StudyError) → error ≡ study_error_of fault
     → (fault ≢ documents.Memory → document_of bytes ≡ Err fault) → (error ≡ Memory) ⊎ IsDocumentRefusal bytes error
 names_refused bytes documents.Memory error same given = inl same
 names_refused bytes documents.Syntax error same given = inr (documents.Syntax, given (λ h. cc), same)
@@ -130,7 +131,7 @@ names_refused bytes documents.TooMany error same given = inr (documents.TooMany,
 
 -- so the study is refused
 pub document_refused : (bytes : List ℕ) (files : List (List ℕ)) (fault : DocumentError) (error : StudyError)
-    → error ≡ told_as fault
+    → error ≡ study_error_of fault
     → (fault ≢ documents.Memory → document_of bytes ≡ Err fault) → IsStudyRefusal bytes files error
 document_refused bytes files fault error same given =
     ⊎_elim (λ memory. inl memory) (λ refusal. inr (inl refusal)) (names_refused bytes fault error same given)

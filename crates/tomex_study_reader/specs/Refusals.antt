@@ -12,18 +12,19 @@ use Rattle.tomex_study_reader.specs.declared.error.StudyError.{StudyError}
 use Rattle.tomex_study_reader.specs.declared.error.StudyError.TheVariants.{Syntax, UnknownKey, MissingKey, Kind, Range}
 use Rattle.tomex_study_reader.specs.declared.error.StudyError.TheVariants.{TooMany, Image, Fault, TooLong, Memory}
 
-abbrev pub told_as : DocumentError → StudyError
-told_as documents.Syntax = Syntax
-told_as (documents.UnknownKey place) = UnknownKey place
-told_as (documents.MissingKey place key) = MissingKey place key
-told_as (documents.Kind place key) = Kind place key
-told_as (documents.Range place key) = Range place key
-told_as documents.TooMany = TooMany
-told_as documents.Memory = Memory
+abbrev pub study_error_of : DocumentError → StudyError
+study_error_of documents.Syntax = Syntax
+study_error_of (documents.UnknownKey place) = UnknownKey place
+study_error_of (documents.MissingKey place key) = MissingKey place key
+study_error_of (documents.Kind place key) = Kind place key
+study_error_of (documents.Range place key) = Range place key
+study_error_of documents.TooMany = TooMany
+study_error_of documents.Memory = Memory
 
 -- a test of the document fails, and the refusal says which
 abbrev pub IsDocumentRefusal : List ℕ → StudyError → Type 0
-IsDocumentRefusal bytes error = (fault : DocumentError) × (document_of bytes ≡ Err fault) × (error ≡ told_as fault)
+IsDocumentRefusal bytes error = (fault : DocumentError) × (document_of bytes ≡ Err fault) ×
+    (error ≡ study_error_of fault)
 
 -- the refusal of a file that can't be loaded, with the program's name
 abbrev pub load_error : String Global → ImageError → StudyError

@@ -2,7 +2,7 @@
 use Rattle.std.specs.Prelude.{◌≡◌, ◌≢◌, ◌⊎◌, ℕ, List, [], ◌∷◌, length, take, slice_get}
 use Rattle.std.specs.Prelude.{Some, None, Ok, string_bytes, ⊤}
 use Rattle.tomex_image.specs.Image.{Loaded}
-use Rattle.tomex_image.specs.Loading.{placed, refused}
+use Rattle.tomex_image.specs.Loading.{IsPlaced, refused}
 use Rattle.tomex_image.specs.declared.error.ImageError.TheVariants as images
 use Rattle.tomex_rvexec.specs.Run.{EndsWithin, IsRefusal}
 use Rattle.tomex_rvexec.specs.declared.end.RunError.{RunError}
@@ -46,7 +46,7 @@ pub record IsStudyOf (bytes : List ℕ) (files : List (List ℕ)) (study : Desig
 -- the file is an image of the entry's window, whose run is refused with this error
 abbrev pub FailsToEnd : ProgramEntry → List ℕ → RunError → Type 0
 FailsToEnd entry file error =
-    (i : Loaded) × placed file entry.window i × (refused file entry.window ≡ None) × IsRefusal i entry.limit error
+    (i : Loaded) × IsPlaced file entry.window i × (refused file entry.window ≡ None) × IsRefusal i entry.limit error
 
 -- the file is not what the entry asks for, for this reason
 abbrev pub IsFileRefusal : ProgramEntry → List ℕ → StudyError → Type 0

@@ -1,7 +1,7 @@
 //! Why a study's bytes, or the files that it names, are refused.
 
 ghost use Rattle.std.specs.Prelude.{◌≡◌};
-ghost use Rattle.tomex_study_reader.specs.Refusals.{told_as};
+ghost use Rattle.tomex_study_reader.specs.Refusals.{study_error_of};
 ghost use Rattle.tomex_study_reader.specs.declared.error.StudyError.TheVariants.{Memory};
 
 use std::alloc::{AllocError, AllocFailed};
@@ -51,7 +51,7 @@ pub enum StudyError {
 }
 
 impl From<DocumentError> for StudyError {
-    ghost from_gives = { λ fault e. e ≡ told_as fault };
+    ghost from_gives = { λ fault e. e ≡ study_error_of fault };
 
     fn from(error: DocumentError) -> Self {
         match error {

@@ -1,7 +1,7 @@
 //! Whole studies: the document, and the programs that its files hold.
 
 ghost use Rattle.std.specs.Prelude.{◌≡◌, ◌≢◌, ◌≤◌, ◌⊎◌, length, map, IfOk, IfErr, IsErrOf, OnErr, None, Ok};
-ghost use Rattle.tomex_image.specs.Loading.{placed, refused};
+ghost use Rattle.tomex_image.specs.Loading.{IsPlaced, refused};
 ghost use Rattle.tomex_config.specs.Grid.{grid_of};
 ghost use Rattle.tomex_study.specs.Study.{costs_of};
 ghost use Rattle.tomex_study_reader.specs.Refusals.{unfit_as, load_error};
@@ -37,7 +37,7 @@ fn image_of<A: Allocator + Clone>(
     entry: &Entry<A>,
     file: &[u8],
 ) -> Result<Image<A>, StudyError>
-    ensures ok { IfOk result (λ image. placed file.now entry.now.window image
+    ensures ok { IfOk result (λ image. IsPlaced file.now entry.now.window image
         × (refused file.now entry.now.window ≡ None)) }
     ensures err { IfErr result
         (λ error. (error ≡ StudyError.Memory) ⊎ IsFileRefusal entry.now file.now error) }
@@ -50,7 +50,7 @@ fn image_of<A: Allocator + Clone>(
 
 /// The refusal of a program whose run faults or doesn't end within its limit, with its name. Out of
 /// memory only if the run ran out of it, or if there was none for the name.
-fn unfit(name: Result<String, AllocError>, error: ProgramError) -> StudyError
+fn program_refusal(name: Result<String, AllocError>, error: ProgramError) -> StudyError
     ensures with_name { IfOk name (λ name. result ≡ unfit_as name error) }
     ensures without_name { OnErr name (result ≡ StudyError.Memory) }
 {
@@ -83,7 +83,7 @@ fn program_of<A: Allocator + Clone>(
     watch.extend_from_slice(entry.watch())?;
     match Program::new(alloc, name, image, entry.limit(), watch, entry.weight()) {
         Ok(program) => Ok(program),
-        Err(error) => Err(unfit(String::from_str(heap, entry.name()), error)),
+        Err(error) => Err(program_refusal(String::from_str(heap, entry.name()), error)),
     }
 }
 

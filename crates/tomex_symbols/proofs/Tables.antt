@@ -10,7 +10,7 @@ use Rattle.tomex_symbols.specs.declared.symbol.Kind.{Kind}
 use Rattle.tomex_symbols.specs.declared.symbol.Symbol.{Symbol}
 use Rattle.tomex_symbols.specs.Functions.{AreNumbered}
 use Rattle.tomex_symbols.specs.Sections.{first_symbol_table, is_symbol_table, section, sections_from, tables_of}
-use Rattle.tomex_symbols.specs.Symbols.{counted, counted_at, kind_at, symbols_from, symbols_in, symbols_of}
+use Rattle.tomex_symbols.specs.Symbols.{symbol_of_kind, counted_at, kind_at, symbols_from, symbols_in, symbols_of}
 
 pub sections_next : (bytes : List ℕ) (count k : ℕ) → k < count → sections_from bytes k (count - k)
     ≡ section bytes k ∷ sections_from bytes (k + 1) (count - (k + 1))
@@ -29,12 +29,12 @@ symbols_end bytes t count k h = let e : count - k ≡ 0 = omega arith in rw e re
 -- an entry that counts is a symbol, another one is skipped
 
 some_counted : (bytes : List ℕ) (names : Section) (k i : ℕ) (o : Option Kind) (rest : List Symbol) → is_some o ≡ true
-    → true ≡ nat_lt 0 (length (counted bytes names k i o ++ rest))
+    → true ≡ nat_lt 0 (length (symbol_of_kind bytes names k i o ++ rest))
 some_counted bytes names k i None rest e = absurd (cc)
 some_counted bytes names k i (Some kind) rest e = sym (lt-ltb 0 (suc (length rest)) (omega arith))
 
 none_counted : (bytes : List ℕ) (names : Section) (k i : ℕ) (o : Option Kind) (rest : List Symbol) → is_some o ≡ false
-    → counted bytes names k i o ++ rest ≡ rest
+    → symbol_of_kind bytes names k i o ++ rest ≡ rest
 none_counted bytes names k i None rest e = refl
 none_counted bytes names k i (Some kind) rest e = absurd (cc)
 
@@ -58,7 +58,7 @@ AreFrom k [] = Unit {0}
 AreFrom k (s ∷ ss) = (k ≤ s.number) × AreFrom k ss
 
 from_one : (bytes : List ℕ) (names : Section) (k i j : ℕ) (o : Option Kind) (rest : List Symbol) → j ≤ k
-    → AreFrom j rest → AreFrom j (counted bytes names k i o ++ rest)
+    → AreFrom j rest → AreFrom j (symbol_of_kind bytes names k i o ++ rest)
 from_one bytes names k i j None rest l h = h
 from_one bytes names k i j (Some kind) rest l h = (l, h)
 
@@ -74,7 +74,7 @@ each_apart k (s ∷ ss) h =
     (ne_eqb k s.number (λ f. let l = h.0 in absurd (omega arith)), each_apart k ss h.1)
 
 apart_one : (bytes : List ℕ) (names : Section) (k i : ℕ) (o : Option Kind) (rest : List Symbol) → AreFrom (k + 1) rest
-    → AreNumbered rest → AreNumbered (counted bytes names k i o ++ rest)
+    → AreNumbered rest → AreNumbered (symbol_of_kind bytes names k i o ++ rest)
 unfolding IsDistinct
 apart_one bytes names k i None rest l h = h
 apart_one bytes names k i (Some kind) rest l h = (each_apart k rest l, h)

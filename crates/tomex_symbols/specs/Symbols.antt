@@ -56,9 +56,9 @@ binding_of st_info =
     else Other
 
 -- the symbol of a number, of the entry at an offset of the file, if it counts
-abbrev pub counted : List ℕ → Section → ℕ → ℕ → Option Kind → List Symbol
-counted bytes names number i None = []
-counted bytes names number i (Some kind) = record {
+abbrev pub symbol_of_kind : List ℕ → Section → ℕ → ℕ → Option Kind → List Symbol
+symbol_of_kind bytes names number i None = []
+symbol_of_kind bytes names number i (Some kind) = record {
   number = number;
   address = word_at bytes (i + 4);  -- st_value
   size = word_at bytes (i + 8);  -- st_size
@@ -74,7 +74,7 @@ kind_at bytes names i =
     kind_of bytes names (word_at bytes i) (slice_index bytes (i + 12)) (half_at bytes (i + 14))
 
 abbrev pub counted_at : List ℕ → Section → ℕ → ℕ → List Symbol
-counted_at bytes names number i = counted bytes names number i (kind_at bytes names i)
+counted_at bytes names number i = symbol_of_kind bytes names number i (kind_at bytes names i)
 
 -- the symbols that count of n entries of the table, from number k on
 abbrev pub symbols_from : List ℕ → Tables → ℕ → ℕ → List Symbol

@@ -93,7 +93,7 @@ impl<A: Allocator> Sweep<A> {
     }
 
     /// The last symbol without a size, if no other one begins after it.
-    fn reaching(&self) -> Option<Symbol>
+    fn last_label(&self) -> Option<Symbol>
         ensures { result ≡ if_at self.now.latest self.now.label }
     {
         match self.label {
@@ -115,7 +115,7 @@ impl<A: Allocator> Sweep<A> {
         self.begin_up_to(sorted, pc)?;
         match self.innermost(pc) {
             Some(symbol) => Ok(Some(symbol)),
-            None => Ok(self.reaching()),
+            None => Ok(self.last_label()),
         }
     }
 }

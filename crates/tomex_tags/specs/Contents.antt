@@ -88,8 +88,8 @@ busy_from tag s = record {
 }
 
 -- the tables' entry for a place: none if it is free
-abbrev pub shown_at : List (Option Station) → ℕ → Option Busy
-shown_at slots place = option_map (busy_from (tag_at_place place)) (slot slots place)
+abbrev pub busy_at : List (Option Station) → ℕ → Option Busy
+busy_at slots place = option_map (busy_from (tag_at_place place)) (slot slots place)
 
 -- the station that an instruction's issue fills
 abbrev pub new_station : Instr → ℕ → Field → Field → Station

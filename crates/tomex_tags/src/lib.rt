@@ -21,7 +21,7 @@ mod wait_sets;
 
 pub use broadcasting::broadcast;
 pub use issuing::issue;
-pub use places::{place, served_by, tag, unit};
+pub use places::{place, places_served_by, tag, unit};
 pub use pools::Pools;
 pub use register_status::RegStatus;
 pub use station::Station;

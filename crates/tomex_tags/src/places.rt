@@ -59,7 +59,7 @@ pub const STORES: u128 = 0xffff_0000_0000_0000_0000;
 
 /// The places of the stations whose operations a kind of unit runs.
 #[inline(always)]
-pub fn served_by(unit: UnitId) -> u128
+pub fn places_served_by(unit: UnitId) -> u128
     ensures { (x : ℕ) → x < 128 → has result x ≡ is_served unit x }
 {
     match unit {

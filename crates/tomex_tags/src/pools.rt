@@ -6,14 +6,14 @@ ghost use Rattle.tomex_timing.specs.Recurrence.{IsLeast};
 ghost use Rattle.tomex_sets.specs.Sets.{IsWith, IsWithout, has};
 ghost use Rattle.tomex_rvdec.specs.Operands.{dest_of, pool_of, unit_of, unit_of_pool};
 ghost use Rattle.tomex_tags.specs.Places.{pool_at};
-ghost use Rattle.tomex_tags.specs.Contents.{hears, lacks_address, shown_at, slot, with_start, with_address};
+ghost use Rattle.tomex_tags.specs.Contents.{hears, lacks_address, busy_at, slot, with_start, with_address};
 ghost use Rattle.tomex_tags.specs.Listeners.{awaits};
 ghost use Rattle.tomex_tags.specs.Operands.{only};
 ghost use Rattle.tomex_tags.specs.Pools.{AreBusy, AreOwn, ChangesStation, HaveHeard, is_open};
 ghost use Rattle.tomex_tags.specs.WaitSets.{IsSetOf, has_address, holds_store, waits, waits_for, writes};
 
 use crate::listeners::Listeners;
-use crate::places::{STORES, served_by, tag};
+use crate::places::{STORES, places_served_by, tag};
 use crate::station::Station;
 use crate::stations::Stations;
 use crate::wait_sets::WaitSets;
@@ -123,7 +123,7 @@ impl Pools {
         ensures busy { AreBusy self.now.slots self.now.busy self.now.issue_numbers }
     {
         difference(
-            both(self.busy, served_by(UnitId::Mem)),
+            both(self.busy, places_served_by(UnitId::Mem)),
             self.wait_sets.lacking,
         )
     }
@@ -158,11 +158,11 @@ impl Pools {
 
     /// Of `waiters`, those whose operations this kind of unit runs.
     #[inline(always)]
-    pub fn waiting_for(&self, unit: UnitId) -> u128
+    pub fn waiters_for(&self, unit: UnitId) -> u128
         ensures set { IsSetOf (waits_for unit) self.now.slots result }
         ensures busy { AreBusy self.now.slots self.now.busy self.now.issue_numbers }
     {
-        both(self.waiters(), served_by(unit))
+        both(self.waiters(), places_served_by(unit))
     }
 
     /// For each place, how many instructions had issued before the one there.
@@ -248,17 +248,17 @@ impl Pools {
     /// The tables' entry for each place.
     pub fn busy_entries(&self) -> [Option<Busy>; 96]
         ensures count { length result ≡ 96 }
-        ensures each { (x : ℕ) → x < 96 → slice_index_or result x None ≡ shown_at self.now.slots x }
+        ensures each { (x : ℕ) → x < 96 → slice_index_or result x None ≡ busy_at self.now.slots x }
     {
         let mut busy: [Option<Busy>; 96] = [None; 96];
         for place in 0..96 {
-            busy[place] = self.shown_at(place);
+            busy[place] = self.busy_at(place);
         }
         busy
     }
 
-    fn shown_at(&self, place: usize) -> Option<Busy>
-        ensures { result ≡ shown_at self.now.slots place }
+    fn busy_at(&self, place: usize) -> Option<Busy>
+        ensures { result ≡ busy_at self.now.slots place }
     {
         match self.at(place) {
             Some(station) => Some(station.busy_entry(tag(place))),
@@ -271,7 +271,7 @@ impl Pools {
     pub(crate) fn hear(&mut self, from: usize, value: u32)
         ensures { HaveHeard (only from (Some value)) self.old self.new }
     {
-        let mut rest = self.listening_to(from);
+        let mut rest = self.listeners_to(from);
         'members: while rest != 0 {
             let place = lowest(rest);
             rest = without_lowest(rest);
@@ -295,7 +295,7 @@ impl Pools {
     /// The places of all stations with an operand to come from a place; there may be others among
     /// them.
     #[inline(always)]
-    fn listening_to(&self, from: usize) -> u128
+    fn listeners_to(&self, from: usize) -> u128
         ensures each { (x : ℕ) → x < 96 → awaits from (slot self.now.slots x) ≡ true
             → has result x ≡ true }
         ensures busy { AreBusy self.now.slots self.now.busy self.now.issue_numbers }

@@ -30,7 +30,7 @@ use Rattle.tomex_timing.specs.Search.{history}
 use Rattle.tomex_timing.specs.Waiting.{need_after, needs_after, nothing_needed, stations_after, units_after, taken_from}
 use Rattle.tomex_timing.specs.Waiting.{waits_by}
 use Rattle.tomex_timing.proofs.Needed.{needs_none}
-use Rattle.tomex_timing.proofs.Shown.{IsShown}
+use Rattle.tomex_timing.proofs.Summary.{IsSummary}
 use Rattle.tomex_timing.proofs.Turns.{IsTurn, held_turn, needs_turn}
 
 -- some wait if some waited before, or the step does
@@ -106,7 +106,7 @@ module _ {config : Configuration} {steps : List Step} {i : ℕ} {x : Step} {f : 
   pub asked_turn : {demands : Demands} {after : Held} {noted : Demands}
       → AreDemands config (history config (take i steps)) (with_total held.latest.end demands)
       → IsHeldAfter f next.at held after → noted ≡ demands_after f (waits_by held.latest next.marks next.at)
-      (taken_from held.latest next) demands.total demands → IsShown (history config (take (i + 1) steps)) after
+      (taken_from held.latest next) demands.total demands → IsSummary (history config (take (i + 1) steps)) after
       × AreDemands config (history config (take (i + 1) steps)) (with_total after.latest.end noted)
   asked_turn {demands} are is_after noted =
       (held_turn turn is_after, rw (noted, is_after.latest) (held_demands demands are))

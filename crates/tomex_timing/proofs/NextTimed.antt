@@ -22,7 +22,7 @@ use Rattle.tomex_timing.specs.Search.{least}
 use Rattle.tomex_timing.specs.Station.{is_held, has_station, is_free}
 use Rattle.tomex_timing.specs.Waiting.{operands_from}
 use Rattle.tomex_timing.specs.Window.{HasRegisters, facts_of, ready_from, register_of}
-use Rattle.tomex_timing.proofs.Shown.{source_agree, IsShown}
+use Rattle.tomex_timing.proofs.Summary.{source_agree, IsSummary}
 use Rattle.tomex_timing.proofs.Least.{first_from_le, least_agree}
 use Rattle.tomex_timing.proofs.Limits.{latency_low, stations_high}
 use Rattle.tomex_timing.proofs.Holders.{stations_fit}
@@ -37,7 +37,7 @@ use Rattle.tomex_timing.proofs.Width.{issue_from as issue_after}
 pub record ComesNext (config : Configuration) (h : List Done) (held : Held) (s : Step) (next : Next) : Type 0 where
   pub good : IsWithinLimits config
   pub timed : AreTimed config h
-  pub shown : IsShown h held
+  pub shown : IsSummary h held
   pub registers : HasRegisters (facts_of s)
   pub by : IsNextBy config held (facts_of s) next
 

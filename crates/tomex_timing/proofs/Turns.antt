@@ -34,14 +34,14 @@ use Rattle.tomex_timing.proofs.Needed.{needs_more, taken_is}
 use Rattle.tomex_timing.proofs.NextTimed.{ComesNext, next_timed}
 use Rattle.tomex_timing.proofs.Orders.{reach, start_after}
 use Rattle.tomex_timing.proofs.Search.{times_are, times_same}
-use Rattle.tomex_timing.proofs.Shown.{IsShown, settled_by}
-use Rattle.tomex_timing.proofs.ShownTurns.{shown_turn}
+use Rattle.tomex_timing.proofs.Summary.{IsSummary, settled_by}
+use Rattle.tomex_timing.proofs.SummaryTurns.{shown_turn}
 use Rattle.tomex_timing.proofs.WaitLists.{needs_within, waits_within, waits_more}
 use Rattle.tomex_timing.proofs.Width.{issue_from}
 
 -- what is held before a step is small
 small : (config : Configuration) (steps : List Step) (i : ℕ) (held : Held) → IsWithinLimits config → i ≤ length steps
-    → IsShown (history config (take i steps)) held → (held.latest.end ≤ 67 * i) × (held.latest.issued ≤ i)
+    → IsSummary (history config (take i steps)) held → (held.latest.end ≤ 67 * i) × (held.latest.issued ≤ i)
 small config steps i held good l shown =
     let h = history config (take i steps) in
     let b : greatest_end h ≤ 67 * length (take i steps) = history_bound config (take i steps) good in
@@ -99,11 +99,11 @@ facts_more steps facts i x f l at of registers are = record {
 pub record IsTurn (config : Configuration) (steps : List Step) (i : ℕ) (x : Step) (f : Facts) (held : Held)
     (next : Next) : Type 0 where
   pub step : IsStep config steps i x f
-  pub shown : IsShown (history config (take i steps)) held
+  pub shown : IsSummary (history config (take i steps)) held
   pub by : IsNextBy config held f next
 
 pub turn_of : {config : Configuration} {steps : List Step} {i : ℕ} {x : Step} {f : Facts} {held : Held} {next : Next}
-    → IsStep config steps i x f → IsShown (history config (take i steps)) held → IsNextBy config held f next
+    → IsStep config steps i x f → IsSummary (history config (take i steps)) held → IsNextBy config held f next
     → IsTurn config steps i x f held next
 turn_of step shown by = record { step = step; shown = shown; by = by }
 
@@ -171,7 +171,7 @@ module _ {config : Configuration} {steps : List Step} {i : ℕ} {x : Step} {f : 
   longer = rw (one_more, same_times) (history_more config (take i steps) x)
 
   pub held_turn : {after : Held} → IsHeldAfter f next.at held after
-      → IsShown (history config (take (i + 1) steps)) after
+      → IsSummary (history config (take (i + 1) steps)) after
   held_turn is_after = rw longer (shown_turn comes (rw turn.step.facts at is_after))
 
   pub times_turn : times_in config (take (i + 1) steps) ≡ times_in config (take i steps) ++ (next.at ∷ [])
@@ -224,7 +224,7 @@ module _ {config : Configuration} {steps : List Step} {i : ℕ} {x : Step} {f : 
 
 -- a step can be timed by what shows the steps before it, and kept
 pub ready : {config : Configuration} {steps : List Step} {i : ℕ} {x : Step} {f : Facts} {held : Held}
-    → IsStep config steps i x f → IsShown (history config (take i steps)) held → IsReady config held f
+    → IsStep config steps i x f → IsSummary (history config (take i steps)) held → IsReady config held f
 ready {config} {steps} {i} {x} {f} {held} step shown =
     let place : i < length steps = step.place in
     let most : length steps < 2 ^ 56 = step.few in

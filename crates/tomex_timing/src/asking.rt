@@ -251,7 +251,7 @@ pub(crate) fn ask_operation<A: Allocator>(
     let issued = Issued {
         from,
         cycle: free.cycle,
-        count: latest.issued_in(free.cycle),
+        count: latest.count_issued_in(free.cycle),
         number: free.number,
         address: None,
     };

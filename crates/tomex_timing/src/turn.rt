@@ -6,7 +6,7 @@ ghost use Rattle.tomex_timing.specs.Waiting.{taken_from, waits_by};
 
 use crate::next::{Next, next_step};
 use crate::part::Waits;
-use crate::waiting::{Taken, taken_by, waits_of};
+use crate::waiting::{Taken, parts_taken_by, waits_of};
 use crate::window::{Facts, Window};
 use std::alloc::Allocator;
 use tomex_config::Config;
@@ -33,6 +33,6 @@ pub(crate) fn next_turn<A: Allocator>(config: &Config, window: &Window<A>, facts
     Turn {
         next,
         waits: waits_of(&window.latest, &next),
-        taken: taken_by(&window.latest, &next),
+        taken: parts_taken_by(&window.latest, &next),
     }
 }

@@ -41,7 +41,7 @@ pub(crate) fn waits_of(latest: &Latest, next: &Next) -> Waits
 
 /// The amount of each part that a next step takes.
 #[inline(always)]
-pub(crate) fn taken_by(latest: &Latest, next: &Next) -> Taken
+pub(crate) fn parts_taken_by(latest: &Latest, next: &Next) -> Taken
     requires few { latest.now.issued < 2 ^ 63 }
     ensures { result ≡ taken_from latest.now next.now }
 {

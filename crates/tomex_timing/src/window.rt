@@ -113,7 +113,7 @@ impl Latest {
 
     /// The number of steps that issue in `cycle`, including one that issues in it next.
     #[inline(always)]
-    pub fn issued_in(&self, cycle: u64) -> u64
+    pub fn count_issued_in(&self, cycle: u64) -> u64
         requires { self.now.issued < 2 ^ 63 }
         ensures { result ≡ (if cycle == self.now.issue then self.now.issued + 1 else 1) }
     {
@@ -131,7 +131,7 @@ impl Latest {
         requires few { self.old.issued < 2 ^ 63 }
         ensures { self.new ≡ latest_after facts.now at.now self.old }
     {
-        let issued = self.issued_in(at.issue);
+        let issued = self.count_issued_in(at.issue);
         self.note_issued(facts, at, issued);
     }
 

@@ -2,7 +2,7 @@
 ghost use Rattle.std.specs.Prelude.{IfOk, IfErr};
 ghost use Rattle.tomex_command.specs.AnimateLines.{IsAnimateOf, IsAnimateFailure};
 
-use super::chosen::chosen_in;
+use super::chosen::choose_in;
 use super::study::study_in;
 use crate::failure::Failure;
 use std::alloc::{Allocator, Global};
@@ -22,7 +22,7 @@ pub fn text_of_animate<F: Files, A: Allocator + Clone>(
         (λ failure. IsAnimateFailure (F.file files.now) line.entry failure) }
 {
     let study = study_in(alloc.clone()?, heap, files, line.run.study)?;
-    let chosen = chosen_in(&study, line.run)?;
+    let chosen = choose_in(&study, line.run)?;
     Ok(animation(
         alloc,
         heap,

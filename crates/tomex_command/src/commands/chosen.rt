@@ -19,7 +19,7 @@ pub struct Chosen<'s, A: Allocator> {
 }
 
 /// The configuration and the program of a run. The configuration is looked for first.
-pub fn chosen_in<'s, A: Allocator>(
+pub fn choose_in<'s, A: Allocator>(
     study: &'s Study<A>,
     run: OneRun<'_>,
 ) -> Result<Chosen<'s, A>, Failure>
@@ -51,7 +51,7 @@ fn place_of<A: Allocator>(study: &Study<A>, name: &str) -> Option<usize>
 }
 
 /// The configuration, the program and its file. The configuration is looked for first.
-pub fn chosen_with_file<'s, A: Allocator>(
+pub fn choose_with_file<'s, A: Allocator>(
     studied: &'s Studied<A>,
     run: OneRun<'_>,
 ) -> Result<ChosenFile<'s, A>, Failure>

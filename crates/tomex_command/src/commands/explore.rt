@@ -1,6 +1,6 @@
 //! The commands that explore a study: its front, as a report, as a table or as a picture.
 ghost use Rattle.std.specs.Prelude.{◌≤◌, map, IfOk, IfErr};
-ghost use Rattle.tomex_report.specs.Answer.{IsAnswerRefusal, IsShown};
+ghost use Rattle.tomex_report.specs.Answer.{IsAnswerRefusal, IsAnswerIn};
 ghost use Rattle.tomex_command.specs.FrontLines.{IsFrontOf, IsExploreFailure};
 
 use super::study::{Sources, sources_in};
@@ -15,7 +15,11 @@ use tomex_streams::{Files, Meter};
 use tomex_sweep::Gate;
 
 /// Explores the study with workers and renders its front.
-fn shown<R: Threads + Wait + Sync, A: Allocator + Clone + Send + Sync + Drop, G: Gate + Sync>(
+fn front_in_view<
+    R: Threads + Wait + Sync,
+    A: Allocator + Clone + Send + Sync + Drop,
+    G: Gate + Sync,
+>(
     rt: &R,
     alloc: A,
     heap: Global,
@@ -27,7 +31,7 @@ fn shown<R: Threads + Wait + Sync, A: Allocator + Clone + Send + Sync + Drop, G:
     requires some_workers { 1 ≤ workers }
     requires few_workers { workers ≤ 32 }
     ensures ok { IfOk result (λ text.
-        IsShown view sources.now.study.items (map (λ bytes. bytes.items) sources.now.files.items) text.items) }
+        IsAnswerIn view sources.now.study.items (map (λ bytes. bytes.items) sources.now.files.items) text.items) }
     ensures err { IfErr result (λ e.
         IsAnswerRefusal sources.now.study.items (map (λ bytes. bytes.items) sources.now.files.items) e) }
 {
@@ -61,7 +65,7 @@ pub fn text_of_front<
     let sources = sources_in(alloc.clone()?, heap, files, line.study)?;
     let workers = line.workers as usize;
     let gate = Metered::new(meter, u64::from(line.workers));
-    let text = shown(rt, alloc, heap, &sources, workers, &gate, view);
+    let text = front_in_view(rt, alloc, heap, &sources, workers, &gate, view);
     meter.clear();
     Ok(text?)
 }

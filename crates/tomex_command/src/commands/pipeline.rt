@@ -2,7 +2,7 @@
 ghost use Rattle.std.specs.Prelude.{IfOk, IfErr};
 ghost use Rattle.tomex_command.specs.PipelineLines.{IsPipelineOf, IsPipelineFailure};
 
-use super::chosen::chosen_in;
+use super::chosen::choose_in;
 use super::study::study_in;
 use crate::failure::Failure;
 use std::alloc::{Allocator, Global};
@@ -24,7 +24,7 @@ pub fn text_of_pipeline<F: Files, A: Allocator + Clone>(
         (λ failure. IsPipelineFailure (F.file files.now) line.entry failure) }
 {
     let study = study_in(alloc.clone()?, heap, files, line.run.study)?;
-    let chosen = chosen_in(&study, line.run)?;
+    let chosen = choose_in(&study, line.run)?;
     let (from, steps) = (line.from, line.steps);
     if line.konata {
         Ok(konata_text(alloc, heap, chosen.program, chosen.config, from, steps)?)

@@ -9,7 +9,7 @@ use tomex_streams::{Files, ReadFault};
 
 /// The failure for a file that was not read: out of memory only if there was none for its bytes, or
 /// for its name.
-fn unread(fault: ReadFault, name: Result<String, AllocError>) -> Failure
+fn read_failure(fault: ReadFault, name: Result<String, AllocError>) -> Failure
     ensures named { IfOk name (λ name. result ≡ unread_as fault name) }
     ensures unnamed { OnErr name (result ≡ Failure.Memory) }
 {
@@ -34,7 +34,7 @@ pub fn read<F: Files, A: Allocator>(
 {
     match files.read(alloc, name) {
         Ok(bytes) => Ok(bytes),
-        Err(fault) => Err(unread(fault, String::from_str(heap, name))),
+        Err(fault) => Err(read_failure(fault, String::from_str(heap, name))),
     }
 }
 

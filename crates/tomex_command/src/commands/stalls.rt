@@ -4,8 +4,8 @@ ghost use Rattle.tomex_rvexec.specs.Run.{start_of};
 ghost use Rattle.tomex_rvexec.specs.Trace.{steps_from};
 ghost use Rattle.tomex_command.specs.StallsLines.{IsReportAsked, IsStallsOf, IsStallsFailure, IsUnreported};
 
-use super::chosen::{ChosenFile, chosen_with_file};
-use super::study::studied_in;
+use super::chosen::{ChosenFile, choose_with_file};
+use super::study::study_with_files;
 use crate::failure::Failure;
 use std::alloc::{Allocator, Global};
 use tomex_command_line::StallsLine;
@@ -51,7 +51,7 @@ pub fn text_of_stalls<F: Files, A: Allocator + Clone>(
     ensures failure { IfErr result
         (λ failure. IsStallsFailure (F.file files.now) line.entry failure) }
 {
-    let studied = studied_in(alloc.clone()?, heap, files, line.run.study)?;
-    let chosen = chosen_with_file(&studied, line.run)?;
+    let studied = study_with_files(alloc.clone()?, heap, files, line.run.study)?;
+    let chosen = choose_with_file(&studied, line.run)?;
     report_of(alloc, heap, &chosen, line.by_pc, line.by_function)
 }

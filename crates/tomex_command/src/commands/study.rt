@@ -60,7 +60,7 @@ pub fn study_in<F: Files, A: Allocator + Clone>(
 }
 
 /// The study of a file, and the files that it names.
-pub fn studied_in<F: Files, A: Allocator + Clone>(
+pub fn study_with_files<F: Files, A: Allocator + Clone>(
     alloc: A,
     heap: Global,
     files: &F,

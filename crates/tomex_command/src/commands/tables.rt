@@ -3,7 +3,7 @@ ghost use Rattle.std.specs.Prelude.{◌≡◌, ◌<◌, IfOk, IfErr};
 ghost use Rattle.tomex_cycle.specs.Run.{total};
 ghost use Rattle.tomex_command.specs.TablesLines.{IsTablesOf, IsTablesFailure, IsTextAfter, IsUnshown};
 
-use super::chosen::{Chosen, chosen_in};
+use super::chosen::{Chosen, choose_in};
 use super::study::study_in;
 use crate::failure::Failure;
 use std::alloc::{Allocator, Global};
@@ -46,6 +46,6 @@ pub fn text_of_tables<F: Files, A: Allocator + Clone>(
         (λ failure. IsTablesFailure (F.file files.now) line.entry failure) }
 {
     let study = study_in(alloc.clone()?, heap, files, line.run.study)?;
-    let chosen = chosen_in(&study, line.run)?;
+    let chosen = choose_in(&study, line.run)?;
     text_after(alloc, &chosen, line.cycle)
 }

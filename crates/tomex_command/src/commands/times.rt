@@ -2,7 +2,7 @@
 ghost use Rattle.std.specs.Prelude.{IfOk, IfErr};
 ghost use Rattle.tomex_command.specs.TimesLines.{IsTimesOf, IsTimesFailure};
 
-use super::chosen::chosen_in;
+use super::chosen::choose_in;
 use super::study::study_in;
 use crate::failure::Failure;
 use std::alloc::{Allocator, Global};
@@ -22,6 +22,6 @@ pub fn text_of_times<F: Files, A: Allocator + Clone>(
         (λ failure. IsTimesFailure (F.file files.now) run.entry failure) }
 {
     let study = study_in(alloc.clone()?, heap, files, run.study)?;
-    let chosen = chosen_in(&study, run)?;
+    let chosen = choose_in(&study, run)?;
     Ok(times_report(alloc, heap, chosen.program, chosen.config)?)
 }

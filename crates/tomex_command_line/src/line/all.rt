@@ -7,8 +7,8 @@ ghost use Rattle.clap.specs.Words.{found_of};
 ghost use Rattle.clap.specs.Walk.{rows_of};
 ghost use Rattle.tomex_command_line.specs.Values.{IsAllAsked, IsNoAll};
 
-use super::described::Texts;
-use super::studied::on_study;
+use super::one_run::on_study;
+use super::texts::Texts;
 use clap::{ArgMatches, Command};
 use std::alloc::{AllocError, Global};
 use tomex_arguments::{LineFault, word_of};

@@ -8,8 +8,8 @@ ghost use Rattle.clap.specs.Walk.{rows_of};
 ghost use Rattle.tomex_command_line.specs.Values.{IsAnimateAsked, IsNoAnimate};
 ghost use Rattle.tomex_command_line.specs.Limits.{last_cycle};
 
-use super::described::{Texts, taking};
-use super::studied::{OneRun, on_one_run, one_run_of};
+use super::one_run::{OneRun, on_one_run, one_run_of};
+use super::texts::{Texts, with_argument};
 use super::values::number;
 use clap::{ArgMatches, Command};
 use std::alloc::{AllocError, Global};
@@ -88,8 +88,8 @@ pub(super) fn grammar<'a>(alloc: Global) -> Result<Command<'a>, AllocError>
     ensures { IfOk result (λ c. shape_of c ≡ animate_shape) }
 {
     let command = on_one_run(alloc, "animate", TEXTS);
-    let command = taking(command, number(alloc, "from", CYCLE, "1", FROM_HELP));
-    taking(command, number(alloc, "cycles", CYCLES, "64", CYCLES_HELP))
+    let command = with_argument(command, number(alloc, "from", CYCLE, "1", FROM_HELP));
+    with_argument(command, number(alloc, "cycles", CYCLES, "64", CYCLES_HELP))
 }
 
 pub(super) fn line_of<'a>(

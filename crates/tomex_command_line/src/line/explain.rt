@@ -6,7 +6,7 @@ ghost use Rattle.clap.specs.Words.{found_of};
 ghost use Rattle.clap.specs.Walk.{rows_of};
 ghost use Rattle.tomex_command_line.specs.Values.{IsExplainAsked};
 
-use super::described::{Texts, described, taking};
+use super::texts::{Texts, command_with_texts, with_argument};
 use super::values::words;
 use clap::{ArgMatches, Command};
 use std::alloc::{AllocError, Global};
@@ -50,8 +50,8 @@ const REFUSAL_HELP: &str = "What tomex reported";
 pub(super) fn grammar<'a>(alloc: Global) -> Result<Command<'a>, AllocError>
     ensures { IfOk result (λ c. shape_of c ≡ explain_shape) }
 {
-    let command = Ok(described(alloc, "explain", TEXTS));
-    taking(command, words(alloc, "REFUSAL", REFUSAL_HELP))
+    let command = Ok(command_with_texts(alloc, "explain", TEXTS));
+    with_argument(command, words(alloc, "REFUSAL", REFUSAL_HELP))
 }
 
 pub(super) fn line_of(alloc: Global, matches: &ArgMatches<'_>) -> Result<ExplainLine, AllocError>

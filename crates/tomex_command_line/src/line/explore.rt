@@ -7,8 +7,8 @@ ghost use Rattle.clap.specs.Words.{found_of};
 ghost use Rattle.clap.specs.Walk.{rows_of};
 ghost use Rattle.tomex_command_line.specs.Values.{IsExploreAsked, IsNoExplore};
 
-use super::described::{Texts, taking};
-use super::studied::on_study;
+use super::one_run::on_study;
+use super::texts::{Texts, with_argument};
 use super::values::number;
 use clap::{ArgMatches, Command};
 use std::alloc::{AllocError, Global};
@@ -78,7 +78,7 @@ const WORKERS_HELP: &str = "Workers that share the configurations, 1 to 32";
 pub(super) fn grammar<'a>(alloc: Global) -> Result<Command<'a>, AllocError>
     ensures { IfOk result (λ c. shape_of c ≡ explore_shape) }
 {
-    exploring(alloc, "explore", TEXTS)
+    study_and_workers(alloc, "explore", TEXTS)
 }
 
 /// The command with this name, which takes a study and a number of workers, and may take more.
@@ -90,14 +90,14 @@ pub(super) fn on_rows<'a>(
     ensures { IfOk result (λ c. app_of c ≡ exploring_app name.entry.now) }
 {
     let command = on_study(alloc, name, texts);
-    taking(
+    with_argument(
         command,
         number(alloc, "workers", WORKERS, "1", WORKERS_HELP),
     )
 }
 
 /// The command with this name, which takes only a study and a number of workers.
-pub(super) fn exploring<'a>(
+pub(super) fn study_and_workers<'a>(
     alloc: Global,
     name: &'a str,
     texts: Texts,

@@ -8,8 +8,8 @@ ghost use Rattle.clap.specs.Walk.{rows_of};
 ghost use Rattle.tomex_command_line.specs.Values.{IsPipelineAsked, IsNoPipeline};
 ghost use Rattle.tomex_command_line.specs.Limits.{most_steps};
 
-use super::described::{Texts, taking};
-use super::studied::{OneRun, on_one_run, one_run_of};
+use super::one_run::{OneRun, on_one_run, one_run_of};
+use super::texts::{Texts, with_argument};
 use super::values::{flag, number};
 use clap::{ArgMatches, Command};
 use std::alloc::{AllocError, Global};
@@ -113,9 +113,9 @@ pub(super) fn grammar<'a>(alloc: Global) -> Result<Command<'a>, AllocError>
     ensures { IfOk result (λ c. shape_of c ≡ pipeline_shape) }
 {
     let command = on_one_run(alloc, "pipeline", TEXTS);
-    let command = taking(command, number(alloc, "from", STEP, "1", FROM_HELP));
-    let command = taking(command, number(alloc, "steps", STEP, "32", STEPS_HELP));
-    taking(command, flag(alloc, "konata", KONATA_HELP))
+    let command = with_argument(command, number(alloc, "from", STEP, "1", FROM_HELP));
+    let command = with_argument(command, number(alloc, "steps", STEP, "32", STEPS_HELP));
+    with_argument(command, flag(alloc, "konata", KONATA_HELP))
 }
 
 pub(super) fn line_of<'a>(

@@ -7,8 +7,8 @@ ghost use Rattle.clap.specs.Words.{found_of};
 ghost use Rattle.clap.specs.Walk.{rows_of};
 ghost use Rattle.tomex_command_line.specs.Values.{IsPlotAsked, IsNoPlot};
 
-use super::described::{Texts, taking};
 use super::explore::{ExploreLine, line_of as explore_of, on_rows};
+use super::texts::{Texts, with_argument};
 use super::values::flag;
 use clap::{ArgMatches, Command};
 use std::alloc::{AllocError, Global};
@@ -69,7 +69,7 @@ pub(super) fn grammar<'a>(alloc: Global) -> Result<Command<'a>, AllocError>
     ensures { IfOk result (λ c. shape_of c ≡ plot_shape) }
 {
     let command = on_rows(alloc, "plot", TEXTS);
-    taking(command, flag(alloc, "rows", ROWS_HELP))
+    with_argument(command, flag(alloc, "rows", ROWS_HELP))
 }
 
 pub(super) fn line_of<'a>(

@@ -3,8 +3,8 @@ ghost use Rattle.std.specs.Prelude.{◌≡◌, IfOk};
 ghost use Rattle.clap.specs.Simple.{shape_of};
 ghost use Rattle.tomex_command_line.specs.Grammar.{prices_shape};
 
-use super::described::Texts;
-use super::explore::exploring;
+use super::explore::study_and_workers;
+use super::texts::Texts;
 use clap::Command;
 use std::alloc::{AllocError, Global};
 
@@ -59,5 +59,5 @@ const TEXTS: Texts = Texts {
 pub(super) fn grammar<'a>(alloc: Global) -> Result<Command<'a>, AllocError>
     ensures { IfOk result (λ c. shape_of c ≡ prices_shape) }
 {
-    exploring(alloc, "prices", TEXTS)
+    study_and_workers(alloc, "prices", TEXTS)
 }

@@ -8,7 +8,7 @@ ghost use Rattle.clap.specs.Walk.{rows_of};
 ghost use Rattle.tomex_command_line.specs.Values.{IsRunAsked, IsNoRun};
 ghost use Rattle.tomex_command_line.specs.Limits.{most_steps};
 
-use super::described::{Texts, described, taking};
+use super::texts::{Texts, command_with_texts, with_argument};
 use super::values::{number, word};
 use clap::{ArgMatches, Command};
 use std::alloc::{AllocError, Global};
@@ -95,11 +95,11 @@ const LIMIT_HELP: &str = "The most instructions to run, 1 to 262144";
 pub(super) fn grammar<'a>(alloc: Global) -> Result<Command<'a>, AllocError>
     ensures { IfOk result (λ c. shape_of c ≡ run_shape) }
 {
-    let command = Ok(described(alloc, "run", TEXTS));
-    let command = taking(command, word(alloc, "IMAGE", IMAGE_HELP));
-    let command = taking(command, number(alloc, "base", BASE, "0", BASE_HELP));
-    let command = taking(command, number(alloc, "size", SIZE, "65536", SIZE_HELP));
-    taking(command, number(alloc, "limit", LIMIT, "262144", LIMIT_HELP))
+    let command = Ok(command_with_texts(alloc, "run", TEXTS));
+    let command = with_argument(command, word(alloc, "IMAGE", IMAGE_HELP));
+    let command = with_argument(command, number(alloc, "base", BASE, "0", BASE_HELP));
+    let command = with_argument(command, number(alloc, "size", SIZE, "65536", SIZE_HELP));
+    with_argument(command, number(alloc, "limit", LIMIT, "262144", LIMIT_HELP))
 }
 
 pub(super) fn line_of<'a>(alloc: Global, matches: &ArgMatches<'a>) -> Result<RunLine<'a>, LineFault>

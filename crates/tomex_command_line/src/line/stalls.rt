@@ -7,8 +7,8 @@ ghost use Rattle.clap.specs.Words.{found_of};
 ghost use Rattle.clap.specs.Walk.{rows_of};
 ghost use Rattle.tomex_command_line.specs.Values.{IsStallsAsked, IsNoStalls};
 
-use super::described::{Texts, taking};
-use super::studied::{OneRun, on_one_run, one_run_of};
+use super::one_run::{OneRun, on_one_run, one_run_of};
+use super::texts::{Texts, with_argument};
 use super::values::flag;
 use clap::{ArgMatches, Command};
 use std::alloc::{AllocError, Global};
@@ -100,8 +100,8 @@ pub(super) fn grammar<'a>(alloc: Global) -> Result<Command<'a>, AllocError>
     ensures { IfOk result (λ c. shape_of c ≡ stalls_shape) }
 {
     let command = on_one_run(alloc, "stalls", TEXTS);
-    let command = taking(command, flag(alloc, "by-pc", BY_PC_HELP));
-    taking(command, flag(alloc, "by-function", BY_FUNCTION_HELP))
+    let command = with_argument(command, flag(alloc, "by-pc", BY_PC_HELP));
+    with_argument(command, flag(alloc, "by-function", BY_FUNCTION_HELP))
 }
 
 pub(super) fn line_of<'a>(

@@ -8,8 +8,8 @@ ghost use Rattle.clap.specs.Walk.{rows_of};
 ghost use Rattle.tomex_command_line.specs.Values.{IsTablesAsked, IsNoTables};
 ghost use Rattle.tomex_command_line.specs.Limits.{last_cycle};
 
-use super::described::{Texts, taking};
-use super::studied::{OneRun, on_one_run, one_run_of};
+use super::one_run::{OneRun, on_one_run, one_run_of};
+use super::texts::{Texts, with_argument};
 use super::values::numeral;
 use clap::{ArgMatches, Command};
 use std::alloc::{AllocError, Global};
@@ -85,7 +85,7 @@ pub(super) fn grammar<'a>(alloc: Global) -> Result<Command<'a>, AllocError>
     ensures { IfOk result (λ c. shape_of c ≡ tables_shape) }
 {
     let command = on_one_run(alloc, "tables", TEXTS);
-    taking(command, numeral(alloc, "CYCLE", CYCLE, CYCLE_HELP))
+    with_argument(command, numeral(alloc, "CYCLE", CYCLE, CYCLE_HELP))
 }
 
 pub(super) fn line_of<'a>(

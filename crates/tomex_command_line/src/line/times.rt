@@ -3,8 +3,8 @@ ghost use Rattle.std.specs.Prelude.{◌≡◌, IfOk};
 ghost use Rattle.tomex_command_line.specs.Grammar.{times_shape};
 ghost use Rattle.clap.specs.Simple.{shape_of};
 
-use super::described::Texts;
-use super::studied::on_one_run;
+use super::one_run::on_one_run;
+use super::texts::Texts;
 use clap::Command;
 use std::alloc::{AllocError, Global};
 

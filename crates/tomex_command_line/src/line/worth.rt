@@ -8,9 +8,9 @@ ghost use Rattle.clap.specs.Walk.{rows_of};
 ghost use Rattle.tomex_command_line.specs.Values.{IsWorthAsked, IsNoWorth};
 ghost use Rattle.tomex_command_line.specs.Limits.{last_row};
 
-use super::described::{Texts, taking};
 use super::explore::{ExploreLine, line_of as explore_of, on_rows};
-use super::studied::{CONFIG, CONFIG_HELP};
+use super::one_run::{CONFIG, CONFIG_HELP};
+use super::texts::{Texts, with_argument};
 use super::values::numeral;
 use clap::{ArgMatches, Command};
 use std::alloc::{AllocError, Global};
@@ -76,7 +76,7 @@ pub(super) fn grammar<'a>(alloc: Global) -> Result<Command<'a>, AllocError>
     ensures { IfOk result (λ c. shape_of c ≡ worth_shape) }
 {
     let command = on_rows(alloc, "worth", TEXTS);
-    taking(command, numeral(alloc, "CONFIG", CONFIG, CONFIG_HELP))
+    with_argument(command, numeral(alloc, "CONFIG", CONFIG, CONFIG_HELP))
 }
 
 pub(super) fn line_of<'a>(

@@ -2,7 +2,7 @@
 
 ghost use Rattle.std.specs.Prelude.{◌≡◌, ◌≤◌, ◌++◌, length, None, IfOk, OnOk, string_bytes};
 ghost use Rattle.std.specs.List.{flat_map};
-ghost use Rattle.tomex_front_views.specs.Plot.{circle, circle_at, circle_line, has_room, named_at, number_at};
+ghost use Rattle.tomex_front_views.specs.Plot.{circle, circle_at, circle_line, has_room, named_point, number_at};
 ghost use Rattle.tomex_front_views.specs.Plot.{numbers_of, radius_of, row_title};
 
 use crate::plot::axes::{Axes, Point};
@@ -121,8 +121,8 @@ fn push_number<A: Allocator>(text: &mut String<A>, at: Point, row: usize) -> Res
 }
 
 /// A point with its row's number beside it.
-fn named_at(heap: Global, at: Point, row: usize) -> Result<Named, AllocError>
-    ensures { IfOk result (λ n. n ≡ named_at at row) }
+fn named_point(heap: Global, at: Point, row: usize) -> Result<Named, AllocError>
+    ensures { IfOk result (λ n. n ≡ named_point at row) }
 {
     let number = format!(in heap; "{row}")?;
     Ok(Named {
@@ -146,7 +146,7 @@ pub fn push_numbers<A: Allocator>(
         let at = axes.point_of(*row);
         if has_room(last, at) {
             push_number(text, at, row.row)?;
-            last = Some(named_at(heap, at, row.row)?);
+            last = Some(named_point(heap, at, row.row)?);
         }
     }
     Ok(())

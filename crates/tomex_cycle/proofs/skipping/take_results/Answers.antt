@@ -4,8 +4,9 @@ use Rattle.tomex_cycle.proofs.skipping.take_results.Goals as goal
 
 pub returns-clause-results : goal.returns-clause-results
 returns-clause-results c = λ yes next known.
-    let results = are_results known c.first.ensures (apart_is c.writers.result c.served_by.result c.writers.ensures.set
-    c.served_by.ensures
+    let results = are_results known c.first.ensures
+    (apart_is c.writers.result c.places_served_by.result c.writers.ensures.set
+    c.places_served_by.ensures
     c.difference-results.ensures c.difference-others.ensures) c.if-others-ne0.false in (
       results,
       known_results c.args.pools.now
@@ -15,6 +16,7 @@ returns-clause-results c = λ yes next known.
 
 pub returns-then-others-ne0-clause-others : goal.returns-then-others-ne0-clause-others
 returns-then-others-ne0-clause-others c = λ no next known are. others_finish known c.first.ensures
-    (apart_is c.writers.result c.served_by.result c.writers.ensures.set c.served_by.ensures c.difference-results.ensures
+    (apart_is c.writers.result c.places_served_by.result c.writers.ensures.set c.places_served_by.ensures
+    c.difference-results.ensures
     c.difference-others.ensures)
     c.difference-others.type_inv c.if-others-ne0.true are

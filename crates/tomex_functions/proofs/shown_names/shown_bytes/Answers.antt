@@ -22,9 +22,9 @@ pub returns-in-Err : goal.returns-in-Err
 returns-in-Err c =
     let bytes = c.args.bytes.now in
     subst
-    (λ (b : Bool). IfOk c.escaped.result (λ text. string_bytes text
+    (λ (b : Bool). IfOk c.escape.result (λ text. string_bytes text
     ≡ cond b (shown_name bytes) (flat_map shown_byte bytes)))
     (sym (⊎_elim
     (λ (e : is_utf8 bytes ≡ true). absurd (c.in-Err.ensures.cases.0 (IsUtf8-from_is_utf8 bytes e)))
     (λ (e : is_utf8 bytes ≡ false). e) (cases_Bool (is_utf8 bytes))))
-    c.escaped.ensures
+    c.escape.ensures

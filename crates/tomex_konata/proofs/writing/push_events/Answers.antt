@@ -10,7 +10,8 @@ no_event = record { cycle = 0; kind = Change; id = 0 }
 
 pub loop-event-preserved : goal.loop-event-preserved
 loop-event-preserved g c = record {
-  few = few_gone c.loop-event.gone _ c.loop-event.event-index _ c.gone_after-gone.ensures c.loop-event.invariant.few;
+  few = few_gone c.loop-event.gone _ c.loop-event.event-index _ c.steps_out_after-gone.ensures
+      c.loop-event.invariant.few;
   text = event_more c.args.number c.args.entries.now c.args.events.now c.loop-event.event-index c.loop-event.since
       c.loop-event.gone _ _ _ _
       c.index-entries-event.result _ _ _ _ _ c.loop-event-test.true refl
@@ -18,7 +19,7 @@ loop-event-preserved g c = record {
       c.clear.ensures.bytes c.in_ok-push_event.ensures
       (rw c.as_str.ensures.value at c.in_ok-since.ensures.text)
       (rw c.as_str.ensures.value at c.in_ok-since.ensures.since)
-      c.gone_after-gone.ensures c.loop-event.invariant.text;
+      c.steps_out_after-gone.ensures c.loop-event.invariant.text;
 }
 
 pub returns : goal.returns

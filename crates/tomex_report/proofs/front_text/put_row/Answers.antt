@@ -1,6 +1,6 @@
 -- The row of the front is that of the study.
 use Rattle.std.proofs.Common.{◌∙◌, ◌++◌, ap, List, ℕ}
-use Rattle.tomex_csv_text.specs.Csv.{written}
+use Rattle.tomex_csv_text.specs.Csv.{text_written}
 use Rattle.tomex_texts.proofs.Records.{records_are, same_config}
 use Rattle.tomex_report.proofs.front_text.put_row.Goals as goal
 
@@ -15,6 +15,6 @@ returns-clause-text g c =
     let same = same_config c.args.study.now.rows _ _ c.requires.ends.config _ c.requires.ends.config_is
     c.rows.ensures.value c.index-rows-front.is in
     (rw c.wide.ensures.value at c.in_ok-put_programs.ensures.text)
-    ∙ ap (λ (t : List ℕ). written (λ v. v.items) c.args.writer.now ++ t)
+    ∙ ap (λ (t : List ℕ). text_written (λ v. v.items) c.args.writer.now ++ t)
     (records_are c.args.study.now c.args.front c.requires.ends.config _ _ c.requires.ends.config_is same
     c.programs.ensures.value)

@@ -1,7 +1,7 @@
 -- The text so far: the records of the rows up to here.
 use Rattle.std.proofs.Common.{◌≡◌, ◌++◌, take}
 use Rattle.std.specs.List.{flat_map}
-use Rattle.tomex_csv_text.specs.Csv.{IsReady, written}
+use Rattle.tomex_csv_text.specs.Csv.{IsReady, text_written}
 use Rattle.tomex_rows.specs.RowsReport.{row_record}
 use Rattle.tomex_row_runs.specs.StudyFront.{all_rows}
 use Rattle.tomex_rows.proofs.report.put_rows.Given as goal
@@ -9,6 +9,6 @@ use Rattle.tomex_rows.proofs.report.put_rows.Given as goal
 abbrev pub invariant-loop-place : goal.invariant-loop-place
 invariant-loop-place g l = record {
   ready : IsReady l.writer;
-  text : written (λ v. v.items) l.writer
-      ≡ written (λ v. v.items) l.fn.writer ++ flat_map (row_record l.study) (take l.place (all_rows l.study));
+  text : text_written (λ v. v.items) l.writer
+      ≡ text_written (λ v. v.items) l.fn.writer ++ flat_map (row_record l.study) (take l.place (all_rows l.study));
 }

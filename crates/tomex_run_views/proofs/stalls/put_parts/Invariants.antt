@@ -2,13 +2,14 @@
 use Rattle.std.proofs.Common.{◌≡◌, ◌++◌, take}
 use Rattle.std.specs.List.{flat_map}
 use Rattle.tomex_timing.specs.Needs.{all_parts}
-use Rattle.tomex_csv_text.specs.Csv.{IsReady, written}
+use Rattle.tomex_csv_text.specs.Csv.{IsReady, text_written}
 use Rattle.tomex_run_views.specs.StallsReport.{part_record}
 use Rattle.tomex_run_views.proofs.stalls.put_parts.Given as goal
 
 abbrev pub invariant-loop-part : goal.invariant-loop-part
 invariant-loop-part g l = record {
   ready : IsReady l.writer;
-  text : written (λ v. v.items) l.writer
-      ≡ written (λ v. v.items) l.fn.writer ++ flat_map (part_record l.config l.needs) (take l.part-index all_parts);
+  text : text_written (λ v. v.items) l.writer
+      ≡ text_written (λ v. v.items) l.fn.writer
+          ++ flat_map (part_record l.config l.needs) (take l.part-index all_parts);
 }

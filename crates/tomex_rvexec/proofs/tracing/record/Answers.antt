@@ -9,7 +9,7 @@ use Rattle.tomex_rvexec.proofs.tracing.record.Goals as goal
 pub returns-in-Ended-clause-ok : goal.returns-in-Ended-clause-ok
 returns-in-Ended-clause-ok g c =
     let r = c.in-Ok.ensures.ok in
-    let end = ended_ends _ _ c.recorded_step.new.self _ _ c.in-Ended.is r.1 in
+    let end = ended_ends _ _ c.record_step.new.self _ _ c.in-Ended.is r.1 in
     c.in_ok-push.ensures.items ∙ (ap (λ rest. c.loop-done.steps.items ++ rest)
     (sym (ends_here _ _ _ _ _ c.loop-done-test.true r.0 end)) ∙ c.loop-done.invariant.steps)
 
@@ -27,13 +27,13 @@ returns-in-Ended-clause-ends g c = (
   record {
     leads = subst (λ (s : State). Leads s c.loop-done._done c.loop-done.cpu) c.requires.start
         c.loop-done.invariant.leads;
-    ends = ended_ends _ _ c.recorded_step.new.self _ _ c.in-Ended.is c.in-Ok.ensures.ok.1;
+    ends = ended_ends _ _ c.record_step.new.self _ _ c.in-Ended.is c.in-Ok.ensures.ok.1;
   },
 )
 
 pub returns-in-Err-clause-err : goal.returns-in-Err-clause-err
 returns-in-Err-clause-err g c =
-    let faults = fault_faults _ _ c.recorded_step.new.self _ c.in-Err.ensures.err in (
+    let faults = fault_faults _ _ c.record_step.new.self _ c.in-Err.ensures.err in (
       c.loop-done._done,
       c.loop-done.cpu,
       c.loop-done-test.true,
@@ -56,7 +56,7 @@ returns-clause-err g c =
 pub loop-done-preserved : goal.loop-done-preserved
 loop-done-preserved g c =
     let r = c.in-Ok.ensures.ok in
-    let next : step_of c.loop-done.cpu ≡ Goes c.recorded_step.new.self = next_goes _ _ _ _ c.in_default.is r.1 in
+    let next : step_of c.loop-done.cpu ≡ Goes c.record_step.new.self = next_goes _ _ _ _ c.in_default.is r.1 in
     let p = c.in_ok-push.ensures.items in
     record {
       leads = leads_on _ _ _ _ c.loop-done.invariant.leads next;

@@ -5,8 +5,8 @@ use Rattle.tomex_study_reader.proofs.study.program_of.Goals as goal
 
 pub returns-in-Err-clause-err : goal.returns-in-Err-clause-err
 returns-in-Err-clause-err g c =
-    unfit_refused c.args.entry.now c.args.file.now c.from_str-in-Err.result c.in-Err.error c.unfit.result
-    (search rules) c.unfit.ensures.with_name c.unfit.ensures.without_name (
+    unfit_refused c.args.entry.now c.args.file.now c.from_str-in-Err.result c.in-Err.error c.program_refusal.result
+    (search rules) c.program_refusal.ensures.with_name c.program_refusal.ensures.without_name (
       _,
       c.in_ok-image.ensures.ok.0,
       c.in_ok-image.ensures.ok.1,

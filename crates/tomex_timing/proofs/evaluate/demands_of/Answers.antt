@@ -2,14 +2,14 @@
 use Rattle.std.proofs.Common.{ap, arith}
 use Rattle.tomex_timing.specs.Ahead.{Held}
 use Rattle.tomex_timing.proofs.Demanded.{asked_turn, demands_none}
-use Rattle.tomex_timing.proofs.Shown.{nothing_shown}
+use Rattle.tomex_timing.proofs.Summary.{empty_summary}
 use Rattle.tomex_timing.proofs.Turns.{ready, step_of, turn_of}
 use Rattle.tomex_timing.proofs.evaluate.demands_of.Goals as goal
 use Rattle.tomex_timing.proofs.evaluate.demands_of.Goals.{in-Some-Some+in_ok-ask_operation, in_default+in_ok-ask_rest}
 
 pub loop-step-init : goal.loop-step-init
 loop-step-init g c = λ steps are. record {
-  shown = rw c.new-window.ensures nothing_shown;
+  shown = rw c.new-window.ensures empty_summary;
   demands = rw (c.none-demands.ensures, ap (λ (held : Held). held.latest.end) c.new-window.ensures)
       (demands_none c.args.config.now);
 }

@@ -6,11 +6,11 @@ use Rattle.tomex_timing.specs.Demands.{AreDemands}
 use Rattle.tomex_timing.specs.Search.{history}
 use Rattle.tomex_timing.specs.Window.{AreFacts}
 use Rattle.tomex_timing.proofs.Demanded.{with_total}
-use Rattle.tomex_timing.proofs.Shown.{IsShown}
+use Rattle.tomex_timing.proofs.Summary.{IsSummary}
 use Rattle.tomex_timing.proofs.evaluate.demands_of.Given as goal
 
 abbrev pub invariant-loop-step : goal.invariant-loop-step
 invariant-loop-step g l = (steps : List Step) → AreFacts steps l.facts → record {
-  shown : IsShown (history l.config (take l.step-index steps)) (held_by l.window);
+  shown : IsSummary (history l.config (take l.step-index steps)) (held_by l.window);
   demands : AreDemands l.config (history l.config (take l.step-index steps)) (with_total l.window.latest.end l.demands);
 }

@@ -1,13 +1,13 @@
 -- Each turn of the loop keeps what is held, and adds the step's needs.
 use Rattle.std.proofs.Common.{arith}
 use Rattle.tomex_timing.proofs.Needed.{needs_none}
-use Rattle.tomex_timing.proofs.Shown.{nothing_shown}
+use Rattle.tomex_timing.proofs.Summary.{empty_summary}
 use Rattle.tomex_timing.proofs.Turns.{held_turn, needs_small, needs_turn, ready, step_of, turn_of, waits_small}
 use Rattle.tomex_timing.proofs.evaluate.needs_of.Goals as goal
 
 pub loop-step-init : goal.loop-step-init
 loop-step-init g c = λ steps are. record {
-  shown = rw c.new-window.ensures nothing_shown;
+  shown = rw c.new-window.ensures empty_summary;
   needs = rw c.none-needs.ensures (needs_none c.args.config.now);
 }
 

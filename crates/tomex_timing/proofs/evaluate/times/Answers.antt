@@ -3,13 +3,13 @@ use Rattle.std.proofs.Common.{rules, ◌≡◌, arith, sym}
 use Rattle.std.proofs.lemmas.Grind.{common_steps}
 use Rattle.tomex_timing.specs.Search.{times_in}
 use Rattle.tomex_timing.proofs.Histories.{are_timed, length-times_in, times_bound}
-use Rattle.tomex_timing.proofs.Shown.{nothing_shown}
+use Rattle.tomex_timing.proofs.Summary.{empty_summary}
 use Rattle.tomex_timing.proofs.Turns.{held_turn, ready, step_from, times_turn, turn_of}
 use Rattle.tomex_timing.proofs.evaluate.times.Goals as goal
 
 pub loop-step-init : goal.loop-step-init
 loop-step-init g c = record {
-  shown = rw c.new-window.ensures nothing_shown;
+  shown = rw c.new-window.ensures empty_summary;
   times = c.new-result.ensures.items;
 }
 

@@ -2,14 +2,14 @@
 use Rattle.std.proofs.Common.{rules, ◌≡◌, arith, sym}
 use Rattle.std.proofs.lemmas.Grind.{common_steps}
 use Rattle.tomex_timing.specs.Needs.{waits_in}
-use Rattle.tomex_timing.proofs.Shown.{nothing_shown}
+use Rattle.tomex_timing.proofs.Summary.{empty_summary}
 use Rattle.tomex_timing.proofs.Turns.{held_turn, ready, step_from, turn_of, waits_turn}
 use Rattle.tomex_timing.proofs.WaitLists.{length-waits_in, waits_in_within}
 use Rattle.tomex_timing.proofs.evaluate.waits.Goals as goal
 
 pub loop-step-init : goal.loop-step-init
 loop-step-init g c = record {
-  shown = rw c.new-window.ensures nothing_shown;
+  shown = rw c.new-window.ensures empty_summary;
   waits = c.new-result.ensures.items;
 }
 

@@ -5,8 +5,8 @@ use Rattle.tomex_command.proofs.Placed.{as_many_in}
 use Rattle.tomex_command.proofs.Reported.{unchosen, unreported}
 use Rattle.tomex_command.proofs.commands.stalls.text_of_stalls.Goals as goal
 
-pub chosen_with_file-requires : goal.chosen_with_file-requires
-chosen_with_file-requires g c = as_many_in _ _ _ (λ bytes. bytes.items) _ c.in_ok-studied.ensures.study
+pub choose_with_file-requires : goal.choose_with_file-requires
+choose_with_file-requires g c = as_many_in _ _ _ (λ bytes. bytes.items) _ c.in_ok-studied.ensures.study
 
 pub returns-in_err-chosen-clause-failure : goal.returns-in_err-chosen-clause-failure
 returns-in_err-chosen-clause-failure g c =

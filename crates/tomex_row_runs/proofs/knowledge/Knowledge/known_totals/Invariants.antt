@@ -1,10 +1,10 @@
 -- The known totals so far are looked up, and right.
 use Rattle.std.proofs.Common.{◌≡◌, take}
-use Rattle.tomex_row_runs.specs.Knowledge.{AreTotals, known_on}
+use Rattle.tomex_row_runs.specs.Knowledge.{AreTotals, known_totals_on}
 use Rattle.tomex_row_runs.proofs.knowledge.Knowledge.known_totals.Given as goal
 
 abbrev pub invariant-loop-place : goal.invariant-loop-place
 invariant-loop-place g l = record {
-  known : take l.place l.known ≡ take l.place (known_on l.self.lists l.config);
+  known : take l.place l.known ≡ take l.place (known_totals_on l.self.lists l.config);
   totals : AreTotals l.self.programs l.config l.known;
 }

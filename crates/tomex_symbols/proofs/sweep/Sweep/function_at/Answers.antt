@@ -16,7 +16,7 @@ returns-in-Some-clause-value g c =
 
 pub returns-in-None-clause-value : goal.returns-in-None-clause-value
 returns-in-None-clause-value g c =
-    rw (c.reaching.ensures, c.innermost.ensures.latest, c.innermost.ensures.label)
+    rw (c.last_label.ensures, c.innermost.ensures.latest, c.innermost.ensures.label)
     (ap (λ (o : Option Symbol). or_else o (if_at c.begin_up_to.new.self.latest c.begin_up_to.new.self.label))
     (sym c.in-None.is ∙ c.innermost.ensures.value)
     ∙ swept_function c.args.sorted.now c.begin_up_to.new.self.begun c.begin_up_to.new.self.nested.items

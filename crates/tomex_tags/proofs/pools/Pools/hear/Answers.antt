@@ -4,8 +4,8 @@ use Rattle.tomex_tags.proofs.Hearing.{first_heard, heard_more, heard_past}
 use Rattle.tomex_tags.proofs.pools.Pools.hear.Goals as goal
 
 pub members-init : goal.members-init
-members-init c = first_heard c.args.from c.args.value c.listening_to-rest.result c.args.self.now
-    c.listening_to-rest.ensures.busy c.listening_to-rest.ensures.each
+members-init c = first_heard c.args.from c.args.value c.listeners_to-rest.result c.args.self.now
+    c.listeners_to-rest.ensures.busy c.listeners_to-rest.ensures.each
 
 pub members-preserved-then-place-lt96 : goal.members-preserved-then-place-lt96
 members-preserved-then-place-lt96 c =

@@ -1,8 +1,0 @@
--- The arguments, one after the other.
-use Rattle.tomex_command_line.proofs.Taken.{taken}
-use Rattle.tomex_command_line.proofs.line.studied.on_one_run.Goals as goal
-
-pub returns : goal.returns
-returns c =
-    let two = taken _ _ _ _ _ c.taking-command.ensures c.on_study-command.ensures c.numeral.ensures.rule in
-    taken _ _ _ _ _ c.taking.ensures two c.word.ensures.rule
