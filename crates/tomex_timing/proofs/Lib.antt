@@ -19,11 +19,11 @@ pub mod Bools
 pub mod Splits
 pub mod Bands
 pub mod Accounts
-pub mod Shown
+pub mod Summary
 pub mod NextTimed
 pub mod Charges
 pub mod Needed
-pub mod ShownTurns
+pub mod SummaryTurns
 pub mod WaitLists
 pub mod Turns
 pub mod Demanded
