@@ -2,7 +2,7 @@
 
 use std::alloc::{AllocError, Global};
 use std::test::Fail;
-use tomex_arguments::{LineFault, not_text, unread};
+use tomex_arguments::{LineFault, not_text, reading_fault};
 use tomex_command::{Failure, report_failure, report_line_fault};
 use tomex_tests_fixtures::in_memory::Narrow;
 
@@ -40,9 +40,36 @@ fn faults_of_a_line_are_told(rt: HostRuntime) -> Result<(), Fail> {
     assert!(rt; is_said(alloc, usage, 100, 2, "", "usage"));
     assert!(rt; is_said(alloc, LineFault::Memory, 100, 3, "", NO_MEMORY));
     let said = "error: the command line is not UTF-8\n";
-    assert!(rt; is_said(alloc, unread(false, not_text(alloc)), 100, 2, "", said));
-    assert!(rt; is_said(alloc, unread(false, Err(AllocError)), 100, 3, "", NO_MEMORY));
-    assert!(rt; is_said(alloc, unread(true, not_text(alloc)), 100, 3, "", NO_MEMORY));
+    assert!(rt;
+        is_said(
+            alloc,
+            reading_fault(false, not_text(alloc)),
+            100,
+            2,
+            "",
+            said
+        )
+    );
+    assert!(rt;
+        is_said(
+            alloc,
+            reading_fault(false, Err(AllocError)),
+            100,
+            3,
+            "",
+            NO_MEMORY
+        )
+    );
+    assert!(rt;
+        is_said(
+            alloc,
+            reading_fault(true, not_text(alloc)),
+            100,
+            3,
+            "",
+            NO_MEMORY
+        )
+    );
     Ok(())
 }
 
