@@ -5,7 +5,7 @@ ghost use Rattle.tomex_image.specs.Loading.{IsPlacedElf};
 ghost use Rattle.tomex_image.specs.ElfTests.{elf_tests};
 ghost use Rattle.tomex_image.specs.Tests.{first_failing};
 
-mod bytes;
+pub mod bytes;
 mod executable;
 mod file_header;
 pub mod laws;

@@ -9,6 +9,7 @@ mod image;
 mod loading;
 mod window;
 
+pub use elf::bytes::{read_half, read_word};
 pub use elf::laws::segments_stand_at_their_addresses;
 pub use error::ImageError;
 pub use image::Image;

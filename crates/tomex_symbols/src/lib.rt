@@ -8,7 +8,6 @@ mod reading;
 mod sections;
 mod sweep;
 mod symbol;
-mod words;
 
 pub use functions::functions_at;
 pub use naming::name_of;

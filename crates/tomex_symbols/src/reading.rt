@@ -9,8 +9,8 @@ use crate::sections::{
     SYMBOL_SIZE, Section, Tables, find_tables, read_section, read_section_count,
 };
 use crate::symbol::{Binding, Kind, Symbol};
-use crate::words::{read_half, read_word};
 use std::alloc::{AllocError, Allocator};
+use tomex_image::{read_half, read_word};
 
 // Where the fields of an entry are, in bytes, by the standard's names. `st_name` is the first.
 const ST_VALUE: usize = 4;

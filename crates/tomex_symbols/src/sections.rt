@@ -5,7 +5,7 @@ ghost use Rattle.tomex_symbols.specs.Sections.{can_be_read, first_symbol_table, 
 ghost use Rattle.tomex_symbols.specs.Sections.{is_string_table, is_symbol_table, lies_in_file, section, section_at};
 ghost use Rattle.tomex_symbols.specs.Sections.{section_count, sections_from, tables_of};
 
-use crate::words::{read_half, read_word};
+use tomex_image::{read_half, read_word};
 
 /// The size of the file header, in bytes.
 const FILE_HEADER_SIZE: usize = 52;
