@@ -8,13 +8,25 @@ pub joined : {X : Type 0} (before between after xs ys : List X) → between ≡ 
     → after ≡ before ++ (xs ++ ys)
 joined before between after xs ys d e = e ∙ (ap (λ f. f ++ ys) d ∙ append_assoc before xs ys)
 
--- and six
-pub six_joined : {X : Type 0} (s0 s1 s2 s3 s4 s5 s6 a b c d e f : List X) → s1 ≡ s0 ++ a → s2 ≡ s1 ++ b → s3 ≡ s2 ++ c
-    → s4 ≡ s3 ++ d
-    → s5 ≡ s4 ++ e → s6 ≡ s5 ++ f → s6 ≡ s0 ++ (a ++ (b ++ (c ++ (d ++ (e ++ f)))))
-six_joined s0 s1 s2 s3 s4 s5 s6 a b c d e f e1 e2 e3 e4 e5 e6 =
-    joined s0 s1 s6 a (b ++ (c ++ (d ++ (e ++ f)))) e1 (joined s1 s2 s6 b (c ++ (d ++ (e ++ f))) e2
-    (joined s2 s3 s6 c (d ++ (e ++ f)) e3 (joined s3 s4 s6 d (e ++ f) e4 (joined s4 s5 s6 e f e5 e6))))
+-- a piece, and the ones after it
+abbrev pub all_pieces : {X : Type 0} → List X → List (List X) → List X
+all_pieces piece [] = piece
+all_pieces piece (next ∷ others) = piece ++ all_pieces next others
+
+-- what some pieces were added to, and what it is after the last of them
+pub record IsGrown {X : Type 0} (before piece : List X) (others : List (List X)) (after : List X) : Type 0 where
+  pub is : after ≡ before ++ all_pieces piece others
+
+-- one piece, and then the others
+infixr 10 ◌▸◌
+pub ◌▸◌ : {X : Type 0} {before between after piece next : List X} {others : List (List X)} → between ≡ before ++ piece
+    → IsGrown between next others after → IsGrown before piece (next ∷ others) after
+◌▸◌ {before = before} {between = between} {after = after} {piece = piece} {next = next} {others = others} first rest =
+    record { is = joined before between after piece (all_pieces next others) first rest.is }
+
+-- the last piece
+pub last_piece : {X : Type 0} {before after piece : List X} → after ≡ before ++ piece → IsGrown before piece [] after
+last_piece added = record { is = added }
 
 -- the piece of one more item
 pub next_piece : {X Y : Type 0} (f : X → List Y) (xs : List X) (i : ℕ) (x d : X) (s0 s1 s2 : List Y) → i < length xs

@@ -32,13 +32,13 @@ station_is t h snapshot pool n d is low =
     ap (λ (xs : List (Option Busy)). slice_index_or xs (16 * place_of_pool pool + n) d) is.stations
     ∙ (at_station (occupant t t h) pool n d low ∙ held_is t h (record { pool = pool; number = n }))
 
-pub takers_are : (t : ℕ) (h : List Done) (tag : Tag) (r : ℕ) (snapshots : Snapshots) (none made all : List Taker)
-    (was now : Option Tag) → AreSnapshots t h snapshots → none ≡ []
+pub takers_are : {t : ℕ} {h : List Done} (tag : Tag) (r : ℕ) {snapshots : Snapshots} {none made all : List Taker}
+    {was now : Option Tag} → AreSnapshots t h snapshots → none ≡ []
     → made ≡ none ++ flat_map (operand_takers tag) snapshots.taking.stations
     → all ≡ made ++ register_takers tag r was now → was ≡ qi_of (t - 1) h r → now ≡ qi_of t h r
     → all ≡ takers_to t h tag r
 unfolding takers_to
-takers_are t h tag r snapshots none made all was now are empty operands registers is_was is_now =
+takers_are {t = t} {h = h} tag r {snapshots = snapshots} are empty operands registers is_was is_now =
     let stations : flat_map (operand_takers tag) snapshots.taking.stations
     ≡ flat_map (λ station. operand_takers tag (occupant (t - 1) t h station)) all_tags =
     ap (flat_map (operand_takers tag)) are.taking.stations
