@@ -6,7 +6,7 @@ use Rattle.tomex_steps.specs.declared.step.Step.{Step}
 use Rattle.tomex_config.specs.Configuration.{Configuration, stations_of}
 use Rattle.tomex_timing.specs.Recurrence.{AreTimed}
 use Rattle.tomex_timing.specs.Search.{history}
-use Rattle.tomex_timing.specs.Tables.{shown}
+use Rattle.tomex_timing.specs.Tables.{station_fields}
 use Rattle.tomex_timing.specs.declared.tables.Busy.{Busy}
 use Rattle.tomex_timing.specs.declared.tables.Tag.{Tag}
 use Rattle.tomex_timing.specs.declared.times.Done.{Done}
@@ -25,7 +25,7 @@ EntriesAreTheHistory = (config : Configuration) (steps : List Step)
 -- each station that tables show as busy is one that the machine has, so a view has a row for it
 abbrev pub BusyStationsHaveRows : Type 0
 BusyStationsHaveRows = (config : Configuration) (h : List Done) (t : ℕ) (tag : Tag) (busy : Busy)
-    → AreTimed config h → shown t h tag ≡ Some busy → tag.number < stations_of config tag.pool
+    → AreTimed config h → station_fields t h tag ≡ Some busy → tag.number < stations_of config tag.pool
 
 -- the views of a page are those of its cycles
 abbrev pub ViewsAreOfCycles : Type 0

@@ -15,14 +15,14 @@ use Rattle.tomex_animate.specs.declared.animation_error.AnimationError.{Animatio
 use Rattle.tomex_animate.specs.declared.animation_error.AnimationError.TheVariants as animations
 use Rattle.tomex_command_line.specs.declared.line.animate.AnimateLine.{AnimateLine}
 use Rattle.tomex_command_line.specs.declared.line.pipeline.PipelineLine.{PipelineLine}
-use Rattle.tomex_streams.specs.Files.{Told}
+use Rattle.tomex_streams.specs.Files.{Known}
 use Rattle.tomex_command.specs.AnimateLines.{IsAnimateFailure}
 use Rattle.tomex_command.specs.Chosen.{IsChosenIn}
 use Rattle.tomex_command.specs.PipelineLines.{IsPipelineFailure}
 use Rattle.tomex_command.specs.Statuses.{failure_of_animation, failure_of_excerpt, failure_of_picture}
 use Rattle.tomex_command.specs.declared.failure.Failure.{Failure}
 
-pub undrawn : (file : List ℕ → Told) (line : PipelineLine) (config : Configuration) (program : Workload)
+pub undrawn : (file : List ℕ → Known) (line : PipelineLine) (config : Configuration) (program : Workload)
     (error : PictureError) (failure : Failure)
     → IsChosenIn file line.run.study.now line.run.config line.run.program.now config program
     → IsUnpictured config (steps_from program.limit (start_of program.image)) line.from line.steps error
@@ -36,7 +36,7 @@ undrawn file line config program TooLarge failure chosen why drawn is =
 undrawn file line config program Memory failure chosen why drawn is =
     subst (λ (f : Failure). IsPipelineFailure file line f) (sym is) tt
 
-pub unlogged : (file : List ℕ → Told) (line : PipelineLine) (config : Configuration) (program : Workload)
+pub unlogged : (file : List ℕ → Known) (line : PipelineLine) (config : Configuration) (program : Workload)
     (error : ExcerptError) (failure : Failure)
     → IsChosenIn file line.run.study.now line.run.config line.run.program.now config program
     → HasNoExcerpt (steps_from program.limit (start_of program.image)) line.from error
@@ -47,7 +47,7 @@ unlogged file line config program excerpts.NoSuchStep failure chosen why is =
 unlogged file line config program excerpts.Memory failure chosen why is =
     subst (λ (f : Failure). IsPipelineFailure file line f) (sym is) tt
 
-pub unanimated : (file : List ℕ → Told) (line : AnimateLine) (config : Configuration) (program : Workload)
+pub unanimated : (file : List ℕ → Known) (line : AnimateLine) (config : Configuration) (program : Workload)
     (error : AnimationError) (failure : Failure)
     → IsChosenIn file line.run.study.now line.run.config line.run.program.now config program
     → IsUnanimated config (steps_from program.limit (start_of program.image)) line.from error

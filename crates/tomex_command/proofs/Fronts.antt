@@ -5,12 +5,12 @@ use Rattle.tomex_report.specs.Answer.{IsAnswerRefusal}
 use Rattle.tomex_report.specs.declared.answer_error.AnswerError.{AnswerError}
 use Rattle.tomex_report.specs.declared.answer_error.AnswerError.TheVariants as answers
 use Rattle.tomex_command.specs.declared.failure.Failure.{Failure}
-use Rattle.tomex_streams.specs.Files.{Told}
+use Rattle.tomex_streams.specs.Files.{Known}
 use Rattle.tomex_command.specs.FrontLines.{IsAllFailure, IsExploreFailure}
 use Rattle.tomex_command.specs.Statuses.{failure_of_answer}
 use Rattle.tomex_command.specs.StudyFiles.{AreSources}
 
-explored : (file : List ℕ → Told) (name bytes : List ℕ) (contents : List (List ℕ)) (error : AnswerError)
+explored : (file : List ℕ → Known) (name bytes : List ℕ) (contents : List (List ℕ)) (error : AnswerError)
     → AreSources file name bytes contents → IsAnswerRefusal bytes contents error
     → IsExploreFailure file name (failure_of_answer error)
 explored file name bytes contents (answers.Study error) sources refusal =
@@ -19,7 +19,7 @@ explored file name bytes contents (answers.Sweep sweeps.Memory) sources refusal 
 explored file name bytes contents (answers.Sweep sweeps.Worker) sources refusal =
     (refusal.0, record { bytes = bytes; contents = contents; sources = sources; stands = refusal.1 })
 
-pub explore_refused : (file : List ℕ → Told) (name bytes : List ℕ) (contents : List (List ℕ)) (error : AnswerError)
+pub explore_refused : (file : List ℕ → Known) (name bytes : List ℕ) (contents : List (List ℕ)) (error : AnswerError)
     (failure : Failure)
     → AreSources file name bytes contents → IsAnswerRefusal bytes contents error → failure ≡ failure_of_answer error
     → IsExploreFailure file name failure
@@ -27,7 +27,7 @@ explore_refused file name bytes contents error failure sources refusal is =
     subst (λ (f : Failure). IsExploreFailure file name f) (sym is)
     (explored file name bytes contents error sources refusal)
 
-ran : (file : List ℕ → Told) (name bytes : List ℕ) (contents : List (List ℕ)) (error : AnswerError)
+ran : (file : List ℕ → Known) (name bytes : List ℕ) (contents : List (List ℕ)) (error : AnswerError)
     → AreSources file name bytes contents → IsAnswerRefusal bytes contents error
     → (error ≡ answers.Sweep sweeps.Worker → ⊥) → IsAllFailure file name (failure_of_answer error)
 ran file name bytes contents (answers.Study error) sources refusal no_worker =
@@ -35,7 +35,7 @@ ran file name bytes contents (answers.Study error) sources refusal no_worker =
 ran file name bytes contents (answers.Sweep sweeps.Memory) sources refusal no_worker = tt
 ran file name bytes contents (answers.Sweep sweeps.Worker) sources refusal no_worker = absurd (no_worker refl)
 
-pub all_refused : (file : List ℕ → Told) (name bytes : List ℕ) (contents : List (List ℕ)) (error : AnswerError)
+pub all_refused : (file : List ℕ → Known) (name bytes : List ℕ) (contents : List (List ℕ)) (error : AnswerError)
     (failure : Failure)
     → AreSources file name bytes contents → IsAnswerRefusal bytes contents error
     → (error ≡ answers.Sweep sweeps.Worker → ⊥) → failure ≡ failure_of_answer error → IsAllFailure file name failure

@@ -4,18 +4,18 @@ use Rattle.tomex_command_line.specs.declared.line.Line.{Line}
 use Rattle.tomex_command_line.specs.declared.line.Line.TheVariants.{Run, Times, Stalls, Pipeline, Tables, Animate}
 use Rattle.tomex_command_line.specs.declared.line.Line.TheVariants.{All, Explore, Front, Plot, Rows, Worth, Prices}
 use Rattle.tomex_command_line.specs.declared.line.Line.TheVariants.{Page, Explain}
-use Rattle.tomex_streams.specs.Files.{Told}
+use Rattle.tomex_streams.specs.Files.{Known}
 use Rattle.tomex_streams.specs.Sinks.{Seen}
 use Rattle.tomex_command.specs.Commands.{IsFailure, IsLeft}
 use Rattle.tomex_command.specs.SurveyLines.{IsPlotFailure}
 use Rattle.tomex_command.specs.declared.failure.Failure.{Failure}
 use Rattle.tomex_command.specs.declared.failure.Failure.TheVariants as failures
 
-not_drawn : (file : List ℕ → Told) (all : Bool) (name : List ℕ) → IsPlotFailure all file name failures.CannotWrite → ⊥
+not_drawn : (file : List ℕ → Known) (all : Bool) (name : List ℕ) → IsPlotFailure all file name failures.CannotWrite → ⊥
 not_drawn file true name is = is
 not_drawn file false name is = is
 
-not_written : (file : List ℕ → Told) (line : Line) → IsFailure file line failures.CannotWrite → ⊥
+not_written : (file : List ℕ → Known) (line : Line) → IsFailure file line failures.CannotWrite → ⊥
 not_written file (Run line) is = is
 not_written file (Times line) is = is
 not_written file (Stalls line) is = is
@@ -32,7 +32,7 @@ not_written file (Prices line) is = is
 not_written file (Page line) is = is
 not_written file (Explain line) is = is
 
-left : (file : List ℕ → Told) (line : Line) (failure : Failure) (seen : Seen) → IsFailure file line failure
+left : (file : List ℕ → Known) (line : Line) (failure : Failure) (seen : Seen) → IsFailure file line failure
     → IsLeft file line failure seen seen
 left file line failures.BadWindow seen is = (is, refl)
 left file line (failures.Run refusal) seen is = (is, refl)
@@ -50,7 +50,7 @@ left file line failures.CannotWrite seen is = absurd (not_written file line is)
 left file line failures.Memory seen is = (is, refl)
 left file line failures.Worker seen is = (is, refl)
 
-pub nothing_left : (file : List ℕ → Told) (line : Line) (failure same : Failure) (seen : Seen)
+pub nothing_left : (file : List ℕ → Known) (line : Line) (failure same : Failure) (seen : Seen)
     → IsFailure file line failure → same ≡ failure → IsLeft file line same seen seen
 nothing_left file line failure same seen is e =
     left file line same seen (subst (λ (f : Failure). IsFailure file line f) (sym e) is)

@@ -13,7 +13,7 @@ use Rattle.tomex_study.specs.Program.{Workload}
 use Rattle.tomex_study.specs.Study.{DesignSpace}
 use Rattle.tomex_study_reader.specs.Study.{AreProgramsOf}
 use Rattle.tomex_document.specs.Program.{ProgramEntry}
-use Rattle.tomex_streams.specs.Files.{Told}
+use Rattle.tomex_streams.specs.Files.{Known}
 use Rattle.tomex_command.specs.Chosen.{IsUnchosen}
 use Rattle.tomex_command.specs.StudyFiles.{IsStudyWith}
 use Rattle.tomex_command.specs.declared.failure.Failure.{Failure}
@@ -78,7 +78,7 @@ without_program study number name config failure same config_is none is err =
     })
 
 -- so it is of a study that was read with its files
-pub as_many_in : {Y : Type 0} (file : List ℕ → Told) (name : List ℕ) (study : DesignSpace) (f : Y → List ℕ)
+pub as_many_in : {Y : Type 0} (file : List ℕ → Known) (name : List ℕ) (study : DesignSpace) (f : Y → List ℕ)
     (files : List Y) → IsStudyWith file name study (map f files) → length files ≡ length study.programs
 as_many_in file name study f files is =
     sym (length-map files f) ∙ as_many_files is.stands.document.programs (map f files) study.programs

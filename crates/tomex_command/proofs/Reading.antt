@@ -3,9 +3,9 @@ use Rattle.std.proofs.Common.{◌≡◌, ◌<◌, ◌+◌, ◌∙◌, ap, sym, �
 use Rattle.std.proofs.Common.{add-one, subst, arith}
 use Rattle.std.proofs.lemmas.List.{length-map, get_or-map, map_push}
 use Rattle.tomex_command.specs.Reading.{AreRead}
-use Rattle.tomex_streams.specs.Files.{Told, IsRead}
+use Rattle.tomex_streams.specs.Files.{Known, IsRead}
 
-one_more_suc : (file : List ℕ → Told) (names : List (List ℕ)) (k : ℕ) (name : List ℕ) (contents : List (List ℕ))
+one_more_suc : (file : List ℕ → Known) (names : List (List ℕ)) (k : ℕ) (name : List ℕ) (contents : List (List ℕ))
     (bytes : List ℕ)
     → k < length names → name ≡ get_or names k name → AreRead file (take k names) contents → IsRead (file name) bytes
     → AreRead file (take (suc k) names) (contents ++ bytes ∷ [])
@@ -18,7 +18,7 @@ one_more_suc file (n ∷ ns) (suc k) name (c ∷ cs) bytes inside is older read 
     (older.0, one_more_suc file ns k name cs bytes (omega (arith, inside)) is older.1 read)
 
 -- the current file is one more
-pub one_more : (file : List ℕ → Told) (names : List (List ℕ)) (k : ℕ) (name : List ℕ) (contents : List (List ℕ))
+pub one_more : (file : List ℕ → Known) (names : List (List ℕ)) (k : ℕ) (name : List ℕ) (contents : List (List ℕ))
     (bytes : List ℕ)
     → k < length names → name ≡ get_or names k name → AreRead file (take k names) contents → IsRead (file name) bytes
     → AreRead file (take (k + 1) names) (contents ++ bytes ∷ [])
@@ -26,7 +26,7 @@ one_more file names k name contents bytes inside is older read =
     rw (add-one) (one_more_suc file names k name contents bytes inside is older read)
 
 -- the same for lists that are seen by f and g
-pub one_more_of : {X Y : Type 0} (f : X → List ℕ) (g : Y → List ℕ) (file : List ℕ → Told) (names : List X) (k : ℕ)
+pub one_more_of : {X Y : Type 0} (f : X → List ℕ) (g : Y → List ℕ) (file : List ℕ → Known) (names : List X) (k : ℕ)
     (name : X) (shown : List ℕ) (contents : List Y) (value : Y) (grown : List Y)
     → k < length names → name ≡ get_or names k name → shown ≡ f name
     → AreRead file (take k (map f names)) (map g contents) → IsRead (file shown) (g value)

@@ -7,9 +7,9 @@ use Rattle.tomex_command.specs.StallsLines.{IsStallsFailure, IsUnreported}
 use Rattle.tomex_command.specs.declared.failure.Failure.{Failure}
 use Rattle.tomex_command.specs.declared.failure.Failure.TheVariants as failures
 use Rattle.tomex_command_line.specs.declared.line.stalls.StallsLine.{StallsLine}
-use Rattle.tomex_streams.specs.Files.{Told}
+use Rattle.tomex_streams.specs.Files.{Known}
 
-pub unreported : (file : List ℕ → Told) (line : StallsLine) (failure : Failure)
+pub unreported : (file : List ℕ → Known) (line : StallsLine) (failure : Failure)
     → IsOfFile file line.run (λ config program bytes. IsUnreported line.by_function bytes failure)
     → IsStallsFailure file line failure
 unreported file line failures.NoSymbols of = (
@@ -41,7 +41,7 @@ unreported file line (failures.CannotRead name) of = absurd of.holds
 unreported file line failures.CannotWrite of = absurd of.holds
 unreported file line failures.Worker of = absurd of.holds
 
-module _ (file : List ℕ → Told) (line : StallsLine) (study : DesignSpace) (contents : List (List ℕ))
+module _ (file : List ℕ → Known) (line : StallsLine) (study : DesignSpace) (contents : List (List ℕ))
     (with_files : IsStudyWith file line.run.study.now study contents) where
   study_in : IsStudyIn file line.run.study.now study
   study_in = record {

@@ -5,12 +5,12 @@ use Rattle.tomex_report.specs.declared.survey_error.SurveyError.{SurveyError}
 use Rattle.tomex_report.specs.declared.survey_error.SurveyError.TheVariants.{Study, NoSuchRow, TooLarge, Memory}
 use Rattle.tomex_report.specs.declared.surveying.SurveyView.{SurveyView}
 use Rattle.tomex_command.specs.declared.failure.Failure.{Failure}
-use Rattle.tomex_streams.specs.Files.{Told}
+use Rattle.tomex_streams.specs.Files.{Known}
 use Rattle.tomex_command.specs.Statuses.{failure_of_survey}
 use Rattle.tomex_command.specs.StudyFiles.{AreSources}
 use Rattle.tomex_command.specs.SurveyLines.{IsSurveyFailure}
 
-surveyed : (view : SurveyView) (file : List ℕ → Told) (name bytes : List ℕ) (contents : List (List ℕ))
+surveyed : (view : SurveyView) (file : List ℕ → Known) (name bytes : List ℕ) (contents : List (List ℕ))
     (error : SurveyError) → AreSources file name bytes contents → IsSurveyRefusal view bytes contents error
     → IsSurveyFailure view file name (failure_of_survey error)
 surveyed view file name bytes contents (Study error) sources refusal =
@@ -21,7 +21,7 @@ surveyed view file name bytes contents TooLarge sources refusal =
     record { bytes = bytes; contents = contents; sources = sources; unsurveyed = refusal }
 surveyed view file name bytes contents Memory sources refusal = tt
 
-pub survey_refused : (view : SurveyView) (file : List ℕ → Told) (name bytes : List ℕ) (contents : List (List ℕ))
+pub survey_refused : (view : SurveyView) (file : List ℕ → Known) (name bytes : List ℕ) (contents : List (List ℕ))
     (error : SurveyError) (failure : Failure) → AreSources file name bytes contents
     → IsSurveyRefusal view bytes contents error → failure ≡ failure_of_survey error
     → IsSurveyFailure view file name failure

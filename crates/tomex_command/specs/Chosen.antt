@@ -8,7 +8,7 @@ use Rattle.tomex_study.specs.Study.{DesignSpace, program_named}
 use Rattle.tomex_command.specs.declared.failure.Failure.{Failure}
 use Rattle.tomex_command.specs.declared.failure.Failure.TheVariants.{NoSuchRow, NoSuchProgram}
 use Rattle.tomex_command_line.specs.declared.line.studied.OneRun.{OneRun}
-use Rattle.tomex_streams.specs.Files.{Told}
+use Rattle.tomex_streams.specs.Files.{Known}
 use Rattle.tomex_command.specs.StudyFiles.{IsStudyIn, IsStudyFailure, IsStudyWith}
 
 -- the configuration of that number, and the program of that name
@@ -30,19 +30,19 @@ IsUnchosen study number name NoSuchProgram = IsWithoutProgram study number name
 IsUnchosen study number name _ = ⊥
 
 -- the configuration and the program of the study of a file
-pub record IsChosenIn (file : List ℕ → Told) (study : List ℕ) (number : ℕ) (name : List ℕ) (config : Configuration)
+pub record IsChosenIn (file : List ℕ → Known) (study : List ℕ) (number : ℕ) (name : List ℕ) (config : Configuration)
     (program : Workload) : Type 0 where
   pub space : DesignSpace
   pub of_files : IsStudyIn file study space
   pub chosen : IsChosen space number name config program
 
 -- the study of a file has not both, for this reason
-abbrev pub IsUnchosenIn : (List ℕ → Told) → List ℕ → ℕ → List ℕ → Failure → Type 0
+abbrev pub IsUnchosenIn : (List ℕ → Known) → List ℕ → ℕ → List ℕ → Failure → Type 0
 IsUnchosenIn file study number name failure =
     (space : DesignSpace) × IsStudyIn file study space × IsUnchosen space number name failure
 
 -- when each failure comes: the whole study first, then the configuration, then the program
-abbrev pub IsChoiceFailure : (List ℕ → Told) → List ℕ → ℕ → List ℕ → Failure → Type 0
+abbrev pub IsChoiceFailure : (List ℕ → Known) → List ℕ → ℕ → List ℕ → Failure → Type 0
 IsChoiceFailure file study number name NoSuchRow = IsUnchosenIn file study number name NoSuchRow
 IsChoiceFailure file study number name NoSuchProgram = IsUnchosenIn file study number name NoSuchProgram
 IsChoiceFailure file study number name failure = IsStudyFailure file study failure
@@ -54,14 +54,14 @@ pub record IsFileOf (study : DesignSpace) (contents : List (List ℕ)) (name : L
   pub bytes_are : slice_get contents place ≡ Some bytes
 
 -- the study of the run's file has its configuration and its program, and this holds of them
-pub record IsOfRun (file : List ℕ → Told) (run : OneRun) (Holds : Configuration → Workload → Type 0) : Type 0 where
+pub record IsOfRun (file : List ℕ → Known) (run : OneRun) (Holds : Configuration → Workload → Type 0) : Type 0 where
   pub config : Configuration
   pub program : Workload
   pub chosen : IsChosenIn file run.study.now run.config run.program.now config program
   pub holds : Holds config program
 
 -- the same, and it holds of the bytes of the program's file too
-pub record IsOfFile (file : List ℕ → Told) (run : OneRun) (Holds : Configuration → Workload → List ℕ → Type 0)
+pub record IsOfFile (file : List ℕ → Known) (run : OneRun) (Holds : Configuration → Workload → List ℕ → Type 0)
     : Type 0 where
   pub space : DesignSpace
   pub contents : List (List ℕ)
@@ -74,5 +74,5 @@ pub record IsOfFile (file : List ℕ → Told) (run : OneRun) (Holds : Configura
   pub holds : Holds config program bytes
 
 -- when each failure comes before anything is asked of the run
-abbrev pub IsRunFailure : (List ℕ → Told) → OneRun → Failure → Type 0
+abbrev pub IsRunFailure : (List ℕ → Known) → OneRun → Failure → Type 0
 IsRunFailure file run failure = IsChoiceFailure file run.study.now run.config run.program.now failure

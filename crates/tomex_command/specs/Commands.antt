@@ -10,7 +10,7 @@ use Rattle.tomex_arguments.specs.declared.fault.LineFault.{LineFault}
 use Rattle.tomex_command_line.specs.Asked.{IsAsked, IsNoCommand}
 use Rattle.tomex_report.specs.declared.front_view.FrontView.TheVariants.{Report, Table}
 use Rattle.tomex_report.specs.declared.surveying.SurveyView.TheVariants as views
-use Rattle.tomex_streams.specs.Files.{Told}
+use Rattle.tomex_streams.specs.Files.{Known}
 use Rattle.tomex_command.specs.AnimateLines.{IsAnimateOf, IsAnimateFailure}
 use Rattle.tomex_command.specs.ExplainLines.{IsExplanation, IsExplainFailure}
 use Rattle.tomex_command.specs.FrontLines.{IsFrontOf, IsAllFailure, IsExploreFailure}
@@ -24,7 +24,7 @@ use Rattle.tomex_command.specs.Reporting.{IsFailureReported, IsSaid, IsFaultRepo
 use Rattle.tomex_command.specs.TimesLines.{IsTimesOf, IsTimesFailure}
 
 -- this text is what the line asks for, given the files by their names
-abbrev pub IsDone : (List ℕ → Told) → Line → List ℕ → Type 0
+abbrev pub IsDone : (List ℕ → Known) → Line → List ℕ → Type 0
 IsDone file (Run line) text = IsRunOf file line text
 IsDone file (Times line) text = IsTimesOf file line text
 IsDone file (Stalls line) text = IsStallsOf file line text
@@ -42,7 +42,7 @@ IsDone file (Page line) text = IsSurveyOf (views.Page line.study) file line.stud
 IsDone file (Explain line) text = IsExplanation (option_map string_bytes line.refusal) text
 
 -- the line has no text, for this reason
-abbrev pub IsFailure : (List ℕ → Told) → Line → Failure → Type 0
+abbrev pub IsFailure : (List ℕ → Known) → Line → Failure → Type 0
 IsFailure file (Run line) failure = IsRunFailure file line failure
 IsFailure file (Times line) failure = IsTimesFailure file line failure
 IsFailure file (Stalls line) failure = IsStallsFailure file line failure
@@ -60,19 +60,19 @@ IsFailure file (Page line) failure = IsSurveyFailure (views.Page line.study) fil
 IsFailure file (Explain line) failure = IsExplainFailure (option_map string_bytes line.refusal) failure
 
 -- a line was carried out: its text is on the output
-pub record IsCarriedOut (file : List ℕ → Told) (line : Line) (old new : Seen) : Type 0 where
+pub record IsCarriedOut (file : List ℕ → Known) (line : Line) (old new : Seen) : Type 0 where
   pub text : List ℕ
   pub is_done : IsDone file line text
   pub written : IsWhole text old new
 
 -- its text was made, and the output took only a first part of it
-pub record IsCutShort (file : List ℕ → Told) (line : Line) (old new : Seen) : Type 0 where
+pub record IsCutShort (file : List ℕ → Known) (line : Line) (old new : Seen) : Type 0 where
   pub text : List ℕ
   pub is_done : IsDone file line text
   pub cut : IsCut text old new
 
 -- a line was not carried out: the output failed, or it took nothing, and the line has no text
-abbrev pub IsLeft : (List ℕ → Told) → Line → Failure → Seen → Seen → Type 0
+abbrev pub IsLeft : (List ℕ → Known) → Line → Failure → Seen → Seen → Type 0
 IsLeft file line CannotWrite old new = IsCutShort file line old new
 IsLeft file line failure old new = IsFailure file line failure × (new ≡ old)
 
@@ -84,16 +84,16 @@ pub record IsToldOnly (words : List (List ℕ)) (status : ℕ) (out-old out err-
   pub said : IsSaid fault status err-old err
 
 -- the line that the words ask for was carried out
-pub record HasDone (words : List (List ℕ)) (file : List ℕ → Told) (status : ℕ)
+pub record HasDone (words : List (List ℕ)) (file : List ℕ → Known) (status : ℕ)
     (out-old out err-old err : Seen) : Type 0 where
   pub line : Line
   pub asked : IsAsked words line
   pub carried_out : IsCarriedOut file line out-old out
   pub status_is : status ≡ 0
-  pub nothing_told : err ≡ err-old
+  pub nothing_said : err ≡ err-old
 
 -- the line that the words ask for failed, and that was reported
-pub record HasFailed (words : List (List ℕ)) (file : List ℕ → Told) (status : ℕ)
+pub record HasFailed (words : List (List ℕ)) (file : List ℕ → Known) (status : ℕ)
     (out-old out err-old err : Seen) : Type 0 where
   pub line : Line
   pub asked : IsAsked words line
@@ -102,7 +102,7 @@ pub record HasFailed (words : List (List ℕ)) (file : List ℕ → Told) (statu
   pub reported : IsFailureReported failure status err-old err
 
 -- the end of a run of the program
-abbrev pub IsEnd : List (List ℕ) → (List ℕ → Told) → ℕ → Seen → Seen → Seen → Seen → Type 0
+abbrev pub IsEnd : List (List ℕ) → (List ℕ → Known) → ℕ → Seen → Seen → Seen → Seen → Type 0
 IsEnd words file status out-old out err-old err =
     IsToldOnly words status out-old out err-old err
     ⊎ (HasDone words file status out-old out err-old err

@@ -13,7 +13,7 @@ use Rattle.tomex_command.specs.declared.failure.Failure.{Failure}
 use Rattle.tomex_command.specs.declared.failure.Failure.TheVariants.{NoSymbols, Memory}
 use Rattle.tomex_command_line.specs.declared.line.stalls.StallsLine.{StallsLine}
 use Rattle.tomex_command.specs.Chosen.{IsOfFile, IsRunFailure}
-use Rattle.tomex_streams.specs.Files.{Told}
+use Rattle.tomex_streams.specs.Files.{Known}
 
 -- the report that is asked for, by place or not, and by function or not, of a program's steps and its file's bytes; by
 -- function only of a file with symbols
@@ -32,16 +32,16 @@ IsUnreported by_function bytes Memory = Unit {0}
 IsUnreported by_function bytes _ = ⊥
 
 -- the study of the line's files has the configuration and the program, and the text is their report
-abbrev pub IsStallsOf : (List ℕ → Told) → StallsLine → List ℕ → Type 0
+abbrev pub IsStallsOf : (List ℕ → Known) → StallsLine → List ℕ → Type 0
 IsStallsOf file line text =
     IsOfFile file line.run (λ config program bytes.
     IsReportAsked line.by_pc line.by_function config (steps_from program.limit (start_of program.image)) bytes text)
 
 -- it has them, and there are no symbols in the program's file
-abbrev pub HasNoSymbols : (List ℕ → Told) → StallsLine → Type 0
+abbrev pub HasNoSymbols : (List ℕ → Known) → StallsLine → Type 0
 HasNoSymbols file line = IsOfFile file line.run (λ config program bytes. symbols_of bytes ≡ [])
 
 -- when each failure comes: those of the study, then of the configuration, then of the program, then of its symbols
-abbrev pub IsStallsFailure : (List ℕ → Told) → StallsLine → Failure → Type 0
+abbrev pub IsStallsFailure : (List ℕ → Known) → StallsLine → Failure → Type 0
 IsStallsFailure file line NoSymbols = (line.by_function ≡ true) × HasNoSymbols file line
 IsStallsFailure file line failure = IsRunFailure file line.run failure

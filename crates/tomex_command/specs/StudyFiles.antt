@@ -9,55 +9,56 @@ use Rattle.tomex_study_reader.specs.declared.error.StudyError.TheVariants as stu
 use Rattle.tomex_command.specs.declared.failure.Failure.{Failure}
 use Rattle.tomex_command.specs.declared.failure.Failure.TheVariants.{CannotRead, Study, Memory}
 use Rattle.tomex_command.specs.Reading.{IsUnread, AreRead, IsFirstMissing}
-use Rattle.tomex_streams.specs.Files.{Told, IsRead}
+use Rattle.tomex_streams.specs.Files.{Known, IsRead}
 
 -- the study's file was read, and names these files
-pub record Names (file : List ℕ → Told) (study : List ℕ) (bytes : List ℕ) (names : List (List ℕ)) : Type 0 where
+pub record Names (file : List ℕ → Known) (study : List ℕ) (bytes : List ℕ) (names : List (List ℕ)) : Type 0 where
   pub read : IsRead (file study) bytes
   pub named : file_names_of bytes ≡ Ok names
 
 -- a study's bytes, and those of the files that it names, in order
-pub record AreSources (file : List ℕ → Told) (study : List ℕ) (bytes : List ℕ) (contents : List (List ℕ)) : Type 0 where
+pub record AreSources (file : List ℕ → Known) (study : List ℕ) (bytes : List ℕ) (contents : List (List ℕ)) : Type
+    0 where
   pub names : List (List ℕ)
   pub named : Names file study bytes names
   pub read : AreRead file names contents
 
 -- the study of a file, and the contents of the files that it names
-pub record IsStudyWith (file : List ℕ → Told) (name : List ℕ) (study : DesignSpace) (contents : List (List ℕ))
+pub record IsStudyWith (file : List ℕ → Known) (name : List ℕ) (study : DesignSpace) (contents : List (List ℕ))
     : Type 0 where
   pub bytes : List ℕ
   pub sources : AreSources file name bytes contents
   pub stands : IsStudyOf bytes contents study
 
 -- the study of these files
-pub record IsStudyIn (file : List ℕ → Told) (name : List ℕ) (study : DesignSpace) : Type 0 where
+pub record IsStudyIn (file : List ℕ → Known) (name : List ℕ) (study : DesignSpace) : Type 0 where
   pub bytes : List ℕ
   pub contents : List (List ℕ)
   pub sources : AreSources file name bytes contents
   pub stands : IsStudyOf bytes contents study
 
 -- the study's bytes are refused before they name any file
-pub record IsRefusedDocument (file : List ℕ → Told) (name : List ℕ) (error : StudyError) : Type 0 where
+pub record IsRefusedDocument (file : List ℕ → Known) (name : List ℕ) (error : StudyError) : Type 0 where
   pub bytes : List ℕ
   pub read : IsRead (file name) bytes
   pub refused : IsDocumentRefusal bytes error
 
 -- the study's bytes or the files are refused once all files are read
-pub record IsRefusedStudy (file : List ℕ → Told) (name : List ℕ) (error : StudyError) : Type 0 where
+pub record IsRefusedStudy (file : List ℕ → Known) (name : List ℕ) (error : StudyError) : Type 0 where
   pub bytes : List ℕ
   pub contents : List (List ℕ)
   pub sources : AreSources file name bytes contents
   pub refused : IsStudyRefusal bytes contents error
 
 -- a file that the study names is the first that can't be read
-pub record IsWithoutFile (file : List ℕ → Told) (name : List ℕ) (missing : List ℕ) : Type 0 where
+pub record IsWithoutFile (file : List ℕ → Known) (name : List ℕ) (missing : List ℕ) : Type 0 where
   pub bytes : List ℕ
   pub names : List (List ℕ)
   pub named : Names file name bytes names
   pub first : IsFirstMissing file names missing
 
 -- when each failure comes; memory may run out at any time
-abbrev pub IsStudyFailure : (List ℕ → Told) → List ℕ → Failure → Type 0
+abbrev pub IsStudyFailure : (List ℕ → Known) → List ℕ → Failure → Type 0
 IsStudyFailure file name (CannotRead missing) =
     IsUnread file name (CannotRead missing) ⊎ IsWithoutFile file name (string_bytes missing)
 IsStudyFailure file name (Study error) =

@@ -4,7 +4,8 @@ use Rattle.tomex_cycle.proofs.Words.{Configuration, EndsWithin, greatest_end, In
 use Rattle.tomex_cycle.proofs.Words.{RunEndsAfter, first_timed, Seen, seen_after, IsSound, IsNextCycle, slice_index}
 use Rattle.tomex_cycle.proofs.Words.{map, filter_map, range_with_len, cases_order, lt-ltb, lt-leb, le-leb}
 use Rattle.tomex_cycle.proofs.Words.{get_or-replicate, IsWithinLimits, EndKind, byte_after, register_after, Bytes}
-use Rattle.tomex_cycle.proofs.Words.{is_number, step_dest, is_store, Tag, Done, Tables, tables_of, shown, qi_of}
+use Rattle.tomex_cycle.proofs.Words.{is_number, step_dest, is_store, Tag, Done, Tables, tables_of}
+use Rattle.tomex_cycle.proofs.Words.{station_fields, qi_of}
 use Rattle.tomex_cycle.proofs.Words.{all_tags, producer, At, Stopped, run_of, steps_in, byte_at, clocks, ShowsRegisters}
 use Rattle.tomex_cycle.proofs.Words.{ShowsStations, IsSnapshot, IsYetToIssue, overwrites, step_ends_it, step_follows}
 use Rattle.tomex_cycle.proofs.Words.{step_joins, timed_by, Pools, Core, Front, IsUpTo, core, core_of, slot, ℕ, ◌+◌, ◌<◌}
@@ -177,7 +178,8 @@ sound_start {i} {config} {inner} good loaded fresh = record {
 }
 
 -- what issues later isn't in the tables
-shown_later : (t : ℕ) (newer h : List Done) (tag : Tag) → AreLater t newer → shown t (newer ++ h) tag ≡ shown t h tag
+shown_later : (t : ℕ) (newer h : List Done) (tag : Tag) → AreLater t newer → station_fields t (newer ++ h) tag
+    ≡ station_fields t h tag
 shown_later t [] h tag later = refl
 shown_later t (d ∷ newer) h tag later = rw (lt-leb d.at.issue t later.0) (shown_later t newer h tag later.1)
 
@@ -195,9 +197,9 @@ map_same f g same [] = refl
 map_same f g same (x ∷ xs) = rw (same x, map_same f g same xs) refl
 
 tables_later : (t : ℕ) (newer h : List Done) → AreLater t newer → tables_of t (newer ++ h) ≡ tables_of t h
-tables_later t newer h later = same_tables (tables_of t (newer ++ h)) t (filter_map (shown t h) all_tags)
+tables_later t newer h later = same_tables (tables_of t (newer ++ h)) t (filter_map (station_fields t h) all_tags)
     (map (qi_of t h) (range_with_len 0 32)) refl
-    (filter_same (shown t (newer ++ h)) (shown t h) (λ tag. shown_later t newer h tag later) all_tags)
+    (filter_same (station_fields t (newer ++ h)) (station_fields t h) (λ tag. shown_later t newer h tag later) all_tags)
     (map_same (qi_of t (newer ++ h)) (qi_of t h) (λ r. qi_later t newer h r later) (range_with_len 0 32))
 
 -- the tables of the whole run are those of what has issued

@@ -1,7 +1,8 @@
 -- The tables of what the state shows.
 use Rattle.tomex_cycle.proofs.Words.{nat_lt, nat_le, if◌then◌else◌, ◌&&◌, map, filter_map, range_with_len, cases_Bool}
 use Rattle.tomex_cycle.proofs.Words.{nat_tests, le-leb, Loaded, Configuration, is_in, is_number, step_pool, step_dest}
-use Rattle.tomex_cycle.proofs.Words.{address_of, Busy, Tag, Done, cycle_of, is_memory, Tables, tables_of, shown, qi_of}
+use Rattle.tomex_cycle.proofs.Words.{address_of, Busy, Tag, Done, cycle_of, is_memory, Tables, tables_of}
+use Rattle.tomex_cycle.proofs.Words.{station_fields, qi_of}
 use Rattle.tomex_cycle.proofs.Words.{producer, all_tags, place_of_pool, AreIssuedBy, clocks, holds_place, station_at}
 use Rattle.tomex_cycle.proofs.Words.{station_of, ShowsStations, ShowsRegisters, place_of_tag, Pools, RegStatus, IsUpTo}
 use Rattle.tomex_cycle.proofs.Words.{slot, ℕ, ◌+◌, ◌*◌, ◌/◌, ◌%◌, ◌<◌, ◌≤◌, ◌≡◌, ◌∙◌, Bool, arith, refl, List, [], ◌∷◌}
@@ -35,7 +36,7 @@ holds_test t tag d small few issued =
 
 -- what a station shows is the content of its place
 pub shown_is : (i : Loaded) (t : ℕ) (tag : Tag) (h : List Done) → tag.number < 16 → AreLow h → AreIssuedBy t h
-    → shown t h tag ≡ option_map (busy_from tag) (station_at i (clocks t t t) h (place_of_tag tag))
+    → station_fields t h tag ≡ option_map (busy_from tag) (station_at i (clocks t t t) h (place_of_tag tag))
 shown_is i t tag [] small few issued = refl
 shown_is i t tag (d ∷ older) small few issued =
     let e = holds_test t tag d small few.0 issued.0 in
@@ -85,16 +86,16 @@ pub tables_is : {i : Loaded} {config : Configuration} {t : ℕ} {h : List Done} 
     x)) → ◌≡◌ {A = Tables} (record { cycle = t; busy = filter_map (λ b. b) busy; registers = rg.tags })
     (tables_of t h)
 tables_is {i} {t = t} {h} {rg = rg} busy up slots status count each =
-    let f : ℕ → Option Busy = λ x. shown t h (tag_at_place x) in
+    let f : ℕ → Option Busy = λ x. station_fields t h (tag_at_place x) in
     let a : busy ≡ map f (range_with_len 0 96) = list_by 96 busy f count (λ x l.
     let p : place_of_tag (tag_at_place x) ≡ x = place_back x l in
     let s = shown_is i t (tag_at_place x) h (omega arith) (low h up) up.issued in
     each x l ∙ (ap (option_map (busy_from (tag_at_place x))) (slots.slots x l) ∙ sym (rw p at s))) in
     let b = ap (filter_map (λ (x : Option Busy). x)) a ∙ (filter_map-map f (λ x. x) (range_with_len 0 96) ∙ sym
-    (filter_map-map tag_at_place (shown t h) (range_with_len 0 96))) in
+    (filter_map-map tag_at_place (station_fields t h) (range_with_len 0 96))) in
     let c : rg.tags ≡ map (qi_of t h) (range_with_len 0 32) = list_by 32 rg.tags (qi_of t h) status.status
     (λ r l. status.tags r l ∙ sym (qi_is t h r up.issued)) in
-    same_tables _ t (filter_map (shown t h) all_tags) (map (qi_of t h) (range_with_len 0 32)) refl b c
+    same_tables _ t (filter_map (station_fields t h) all_tags) (map (qi_of t h) (range_with_len 0 32)) refl b c
 
 -- What a state shows after a cycle it shows after a later one, if only results finish in between.
 

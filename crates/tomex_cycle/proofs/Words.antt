@@ -55,7 +55,8 @@ pub use Rattle.tomex_timing.specs.Recurrence.{can_address, can_end, can_issue, c
 pub use Rattle.tomex_timing.specs.Recurrence.{has_operands, has_unit, shares_byte}
 pub use Rattle.tomex_timing.specs.Search.{least, times_of, timed_of, history}
 pub use Rattle.tomex_timing.specs.Station.{has_station, is_free, is_held}
-pub use Rattle.tomex_timing.specs.Tables.{Tables, all_tags, field_from, field_of, producer, qi_of, shown, tables_of}
+pub use Rattle.tomex_timing.specs.Tables.{Tables, all_tags, field_from, field_of, producer, qi_of}
+pub use Rattle.tomex_timing.specs.Tables.{station_fields, tables_of}
 pub use Rattle.tomex_timing.specs.Tables.{tag_at, tag_of, unsent_tag, busy_of, is_under_way}
 pub use Rattle.tomex_timing.specs.declared.tables.Busy.{Busy}
 pub use Rattle.tomex_timing.specs.declared.tables.Field.{Field}

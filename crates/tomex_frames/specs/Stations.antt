@@ -7,7 +7,7 @@ use Rattle.tomex_rvdec.specs.declared.pool.PoolId.{PoolId}
 use Rattle.tomex_rvdec.specs.declared.pool.PoolId.TheVariants as pools
 use Rattle.tomex_rvexec.specs.Texts.{hex8}
 use Rattle.tomex_config.specs.Configuration.{Configuration, stations_of}
-use Rattle.tomex_timing.specs.Tables.{qi_of, shown}
+use Rattle.tomex_timing.specs.Tables.{qi_of, station_fields}
 use Rattle.tomex_timing.specs.declared.tables.Busy.{Busy}
 use Rattle.tomex_timing.specs.declared.tables.Field.{Field}
 use Rattle.tomex_timing.specs.declared.tables.Field.TheVariants.{Value, Waits, Unread}
@@ -69,7 +69,7 @@ station_row tag was now =
 unfoldable pub row_in : ℕ → List Done → PoolId → ℕ → List ℕ
 row_in t h pool number =
     let tag : Tag = record { pool = pool; number = number } in
-    station_row tag (shown (t - 1) h tag) (shown t h tag)
+    station_row tag (station_fields (t - 1) h tag) (station_fields t h tag)
 
 -- all stations that the machine has of a pool
 unfoldable pub pool_rows : Configuration → ℕ → List Done → PoolId → List ℕ

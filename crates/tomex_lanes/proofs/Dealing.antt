@@ -246,11 +246,11 @@ pub set_same : (xs : List Dealt) (i : ℕ) (x y : Dealt) → slice_get xs i ≡ 
 set_same xs i x y here same = ap (slice_set xs i) (same ∙ sym (get_or_from_slice_get xs i x x here)) ∙ set-get_or xs i x
 
 -- one more list is added to a lane
-pub told_more : (workers count to step from : ℕ) (thief victim : Dealt) → 1 ≤ step → from ≡ (to + step) % workers
+pub dealt_more : (workers count to step from : ℕ) (thief victim : Dealt) → 1 ≤ step → from ≡ (to + step) % workers
     → thief ≡ lane_of workers to count (step - 1) → victim.rows ≡ rows_of workers from count
     → with_other thief victim.rows ≡ lane_of workers to count step
-told_more workers count to zero from thief victim some at is list = absurd (omega arith)
-told_more workers count to (suc k) from thief victim some at is list =
+dealt_more workers count to zero from thief victim some at is list = absurd (omega arith)
+dealt_more workers count to (suc k) from thief victim some at is list =
     let one : suc k - 1 ≡ k = omega arith in
     let mine : thief ≡ lane_of workers to count k = is ∙ ap (lane_of workers to count) one in
     let theirs : victim.rows ≡ rows_of workers ((to + suc k) % workers) count =

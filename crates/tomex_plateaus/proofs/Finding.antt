@@ -59,11 +59,11 @@ total_is : (config : Configuration) (steps : List Step) (found : List Plateau) (
 total_is config steps found n good all is =
     total_in config steps found (find (lies_on config) (reverse found)) n good all refl is
 
-pub total_told : (config : Configuration) (steps : List Step) (found : List Plateau) (o : Option ℕ)
+pub total_found : (config : Configuration) (steps : List Step) (found : List Plateau) (o : Option ℕ)
     → IsWithinLimits config → All (IsPlateauOf steps) found → o ≡ total_known config found
     → IfSome o (λ n. total_of (times_in config steps) ≡ n)
-total_told config steps found None good all is = tt
-total_told config steps found (Some n) good all is = total_is config steps found n good all (sym is)
+total_found config steps found None good all is = tt
+total_found config steps found (Some n) good all is = total_is config steps found n good all (sym is)
 
 known_in : (config : Configuration) (steps : List Step) (found : List Plateau) (o : Option Plateau) (k : ℕ)
     (d : Plateau) → IsWithinLimits config → All (IsPlateauOf steps) found → k < length found

@@ -15,7 +15,7 @@ use Rattle.tomex_rvdec.specs.declared.pool.PoolId.TheVariants as pools
 use Rattle.tomex_steps.specs.Steps.{is_in, is_number, j_of, k_of, step_dest, step_pool}
 use Rattle.tomex_steps.specs.declared.step.Operand.{Operand}
 use Rattle.tomex_timing.specs.Tables.{a_of, all_tags, busy_of, field_from, field_of, is_under_way, producer}
-use Rattle.tomex_timing.specs.Tables.{qi_of, shown}
+use Rattle.tomex_timing.specs.Tables.{qi_of, station_fields}
 use Rattle.tomex_timing.specs.Tables.{tag_at, unsent_tag}
 use Rattle.tomex_timing.specs.declared.tables.Busy.{Busy}
 use Rattle.tomex_timing.specs.declared.tables.Field.{Field}
@@ -250,7 +250,7 @@ history_more es i e first l is =
     ∙ ap (λ (x : Entry). done_of x ∷ history_of (take i es)) (sym is)))
 
 -- with the same fields it shows the same as tables do
-pub held_is : (t : ℕ) (h : List Done) (tag : Tag) → occupant t t h tag ≡ shown t h tag
+pub held_is : (t : ℕ) (h : List Done) (tag : Tag) → occupant t t h tag ≡ station_fields t h tag
 held_is t [] tag = refl
 held_is t (d ∷ older) tag =
     let is_there : Bool = is_under_way t d && is_in tag.pool (step_pool d.step) && is_number d.at.station tag.number in

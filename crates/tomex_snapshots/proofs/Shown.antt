@@ -5,7 +5,7 @@ use Rattle.std.specs.List.{flat_map}
 use Rattle.std.proofs.lemmas.List.Folds.{flat_map-map}
 use Rattle.tomex_rvdec.specs.Parts.{place_of_pool}
 use Rattle.tomex_rvdec.specs.declared.pool.PoolId.{PoolId}
-use Rattle.tomex_timing.specs.Tables.{all_tags, qi_of, shown}
+use Rattle.tomex_timing.specs.Tables.{all_tags, qi_of, station_fields}
 use Rattle.tomex_timing.specs.declared.tables.Busy.{Busy}
 use Rattle.tomex_timing.specs.declared.tables.Tag.{Tag}
 use Rattle.tomex_timing.specs.declared.times.Done.{Done}
@@ -27,7 +27,8 @@ register_is by at h snapshot r d is low =
 pub station_is : (t : ℕ) (h : List Done) (snapshot : Snapshot) (pool : PoolId) (n : ℕ) (d : Option Busy) → IsSnapshot
     t t h snapshot
     → n < 16
-    → slice_index_or snapshot.stations (16 * place_of_pool pool + n) d ≡ shown t h (record { pool = pool; number = n })
+    → slice_index_or snapshot.stations (16 * place_of_pool pool + n) d
+    ≡ station_fields t h (record { pool = pool; number = n })
 station_is t h snapshot pool n d is low =
     ap (λ (xs : List (Option Busy)). slice_index_or xs (16 * place_of_pool pool + n) d) is.stations
     ∙ (at_station (occupant t t h) pool n d low ∙ held_is t h (record { pool = pool; number = n }))

@@ -25,7 +25,7 @@ same_name None None = true
 same_name (Some a) (Some b) = same_tag a b
 same_name _ _ = false
 
--- the step in a station after cycle t, with its fields as of cycle s; `shown t` is `held t t`
+-- the step in a station after cycle t, with its fields as of cycle s; `station_fields t` is `occupant t t`
 abbrev pub occupant : ℕ → ℕ → List Done → Tag → Option Busy
 occupant s t [] tag = None
 occupant s t (d ∷ older) tag =

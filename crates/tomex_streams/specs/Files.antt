@@ -7,24 +7,24 @@ abbrev pub most_bytes : ℕ
 most_bytes = 268435456
 
 -- nothing is known; or no file of the name can be read; or the bytes of the file
-pub data Told : Type 0 where
-  Nothing : Told
-  NoFile : Told
-  Bytes : List ℕ → Told
+pub data Known : Type 0 where
+  Nothing : Known
+  NoFile : Known
+  Bytes : List ℕ → Known
 
 -- what is known about a name, by the entry that holds its bytes, if there is one
-abbrev pub told_of : Option (Bor (List ℕ) × Bor (List ℕ)) → Told
-told_of None = NoFile
-told_of (Some entry) = Bytes entry.1.now
+abbrev pub known_of : Option (Bor (List ℕ) × Bor (List ℕ)) → Known
+known_of None = NoFile
+known_of (Some entry) = Bytes entry.1.now
 
 -- these bytes may be read if that is known
-abbrev pub IsRead : Told → List ℕ → Type 0
+abbrev pub IsRead : Known → List ℕ → Type 0
 IsRead Nothing bytes = Unit {0}
 IsRead NoFile bytes = ⊥
 IsRead (Bytes held) bytes = bytes ≡ held
 
 -- reading may fail if that is known
-abbrev pub IsMissing : Told → Type 0
+abbrev pub IsMissing : Known → Type 0
 IsMissing Nothing = Unit {0}
 IsMissing NoFile = Unit {0}
 IsMissing (Bytes held) = ⊥

@@ -1,6 +1,6 @@
 //! The files from which images and studies are read.
 ghost use Rattle.std.specs.Prelude.{◌≡◌, ℕ, ◌≤◌, List, length, IfOk, IfSome, IsErrOf};
-ghost use Rattle.tomex_streams.specs.Files.{Told, Nothing, IsRead, IsMissing, most_bytes};
+ghost use Rattle.tomex_streams.specs.Files.{Known, Nothing, IsRead, IsMissing, most_bytes};
 
 use std::alloc::Allocator;
 use std::fs::File;
@@ -18,7 +18,7 @@ pub enum ReadFault {
 /// A place to read files by their names, as written.
 pub trait Files {
     /// What is known about the file with a name.
-    ghost file: { Self → List ℕ → Told };
+    ghost file: { Self → List ℕ → Known };
 
     /// All bytes of a file.
     fn read<A: Allocator>(&self, alloc: A, name: &str) -> Result<Vec<u8, A>, ReadFault>

@@ -32,7 +32,7 @@ fn help(alloc: Global) -> Result<LineFault, AllocError> {
 const NO_MEMORY: &str = "tomex: out of memory\n";
 
 #[test]
-fn faults_of_a_line_are_told(rt: HostRuntime) -> Result<(), Fail> {
+fn faults_of_a_line_are_reported(rt: HostRuntime) -> Result<(), Fail> {
     let alloc = rt.alloc();
     assert!(rt; is_said(alloc, help(alloc)?, 100, 0, "help", ""));
     assert!(rt; is_said(alloc, help(alloc)?, 2, 3, "he", "tomex: cannot write\n"));

@@ -1,7 +1,7 @@
 //! A sink and files in memory, for tests of what the program reads and writes.
 ghost use Rattle.std.specs.Prelude.{◌≡◌, Some, find, option_copied};
 ghost use Rattle.std.specs.Str.{bytes_eq};
-ghost use Rattle.tomex_streams.specs.Files.{told_of};
+ghost use Rattle.tomex_streams.specs.Files.{known_of};
 
 use std::alloc::{Allocator, Global};
 use tomex_streams::{Files, PutFault, ReadFault, Sink};
@@ -64,7 +64,7 @@ impl<'a> Shelf<'a> {
 }
 
 impl<'a> Files for Shelf<'a> {
-    ghost file = { λ shelf name. told_of (find (λ f. bytes_eq f.0.now name) shelf.files.now) };
+    ghost file = { λ shelf name. known_of (find (λ f. bytes_eq f.0.now name) shelf.files.now) };
 
     fn read<A: Allocator>(&self, alloc: A, name: &str) -> Result<Vec<u8, A>, ReadFault> {
         match self.entry(name) {

@@ -30,12 +30,12 @@ fn line_text(alloc: Global, line: &Line) -> Result<String, AllocError> {
             format!(in alloc; "explore {} {}", explore.study, explore.workers)
         }
         Line::Front(front) => format!(in alloc; "front {} {}", front.study, front.workers),
-        other => told_of_all_rows(alloc, other),
+        other => line_on_all_rows(alloc, other),
     }
 }
 
 /// The same for a line on all rows of a study.
-fn told_of_all_rows(alloc: Global, line: &Line) -> Result<String, AllocError> {
+fn line_on_all_rows(alloc: Global, line: &Line) -> Result<String, AllocError> {
     match line {
         Line::Plot(plot) => {
             let (study, workers) = (plot.explore.study, plot.explore.workers);
@@ -48,12 +48,12 @@ fn told_of_all_rows(alloc: Global, line: &Line) -> Result<String, AllocError> {
         }
         Line::Prices(prices) => format!(in alloc; "prices {} {}", prices.study, prices.workers),
         Line::Page(page) => format!(in alloc; "page {} {}", page.study, page.workers),
-        other => told_of_a_program(alloc, other),
+        other => line_on_a_program(alloc, other),
     }
 }
 
 /// The same for a line on one program on one row.
-fn told_of_a_program(alloc: Global, line: &Line) -> Result<String, AllocError> {
+fn line_on_a_program(alloc: Global, line: &Line) -> Result<String, AllocError> {
     match line {
         Line::Stalls(stalls) => {
             let OneRun {

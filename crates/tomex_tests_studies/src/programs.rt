@@ -89,7 +89,7 @@ fn is_shown(alloc: Global, error: ProgramError, text: &str) -> Result<bool, Allo
 }
 
 #[test]
-fn a_fault_is_told(rt: HostRuntime) -> Result<(), Fail> {
+fn a_fault_is_reported(rt: HostRuntime) -> Result<(), Fail> {
     // addi x1,x0,5, then a word that isn't an instruction
     let words = [0x00500093, 0x00000000];
     assert!(rt;

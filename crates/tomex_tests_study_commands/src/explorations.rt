@@ -187,7 +187,7 @@ fn is_said<R: AllocGlobal + Threads + Wait + Sync>(rt: &R, line: &str) -> Result
 }
 
 #[test]
-fn a_meter_is_told_how_far_it_is(rt: HostRuntime) -> Result<(), Fail> {
+fn a_meter_hears_how_far_it_is(rt: HostRuntime) -> Result<(), Fail> {
     for line in &LINES {
         assert!(rt; is_said(&rt, line)?);
     }

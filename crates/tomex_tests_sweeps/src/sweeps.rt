@@ -165,7 +165,7 @@ fn equal_rows_are_finished(rt: HostRuntime) -> Result<(), Fail> {
 /// The slow row makes 2,500 cycles. At 2,048 of them, weighted 4,096, it has more than the fast
 /// row's 4,000.
 #[test]
-fn a_look_is_told_by_the_weight(rt: HostRuntime) -> Result<(), Fail> {
+fn a_look_knows_the_weight(rt: HostRuntime) -> Result<(), Fail> {
     let study = weighed_study(rt.alloc(), [(1, 5), (2, 9)].as_slice(), 2)?;
     let marks = [Mark::Finished(4000), Mark::Dropped(0)];
     assert!(rt; gives_marks(&rt, &study, 1, marks.as_slice())?);

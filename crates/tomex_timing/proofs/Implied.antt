@@ -15,12 +15,12 @@ use Rattle.tomex_timing.specs.Laws.{NeedsTell}
 use Rattle.tomex_timing.specs.Needs.{AreNeeds, all_parts, all_units, allows, allows_latency, count_of, peak, need_of}
 use Rattle.tomex_timing.specs.Needs.{stalls}
 
-part_told : (config other : Configuration) (h : List Done) (needs : Needs) (part : Part) → AreNeeds config h needs
+part_allowed : (config other : Configuration) (h : List Done) (needs : Needs) (part : Part) → AreNeeds config h needs
     → allows needs config other part ≡ true → (count_of other part ≡ count_of config part)
     ⊎ ((stalls config part h ≡ 0) × (peak part h ≤ count_of other part))
-part_told config other h needs part are told_so =
+part_allowed config other h needs part are allowed_so =
     elim (or_cases (count_of config part == count_of other part)
-    ((need_of needs part).stalls == 0 && nat_le (need_of needs part).peak (count_of other part)) told_so) [
+    ((need_of needs part).stalls == 0 && nat_le (need_of needs part).peak (count_of other part)) allowed_so) [
       | inl e ↦ inl (sym (eqb-true (count_of config part) (count_of other part) e))
       | inr e ↦
           let both = and_parts ((need_of needs part).stalls == 0)
@@ -33,12 +33,13 @@ part_told config other h needs part are told_so =
           inr (none, top)
     ]
 
-latency_told : (config other : Configuration) (h : List Done) (needs : Needs) (unit : UnitId) → AreNeeds config h needs
+latency_allowed : (config other : Configuration) (h : List Done) (needs : Needs) (unit : UnitId)
+    → AreNeeds config h needs
     → allows_latency needs config other unit ≡ true → ((option_of other unit).latency ≡ (option_of config unit).latency)
     ⊎ (peak (Units unit) h ≡ 0)
-latency_told config other h needs unit are told_so =
+latency_allowed config other h needs unit are allowed_so =
     elim (or_cases ((option_of config unit).latency == (option_of other unit).latency)
-    ((need_of needs (Units unit)).peak == 0) told_so) [
+    ((need_of needs (Units unit)).peak == 0) allowed_so) [
       | inl e ↦ inl (sym (eqb-true (option_of config unit).latency (option_of other unit).latency e))
       | inr e ↦ inr (rw (are.parts (Units unit)) at (eqb-true (need_of needs (Units unit)).peak 0 e))
     ]
@@ -73,11 +74,12 @@ unit_listed p units.Mem all = at_place p all_units 3 _ all refl
 unit_listed p units.Bru all = at_place p all_units 4 _ all refl
 
 pub needs_tell : NeedsTell
-needs_tell config other h needs are told_so =
-    let told = and_parts (list_all (allows needs config other) all_parts)
-    (list_all (allows_latency needs config other) all_units) told_so in
+needs_tell config other h needs are allowed_so =
+    let allowed = and_parts (list_all (allows needs config other) all_parts)
+    (list_all (allows_latency needs config other) all_units) allowed_so in
     record {
-      parts = λ part. part_told config other h needs part are (part_listed (allows needs config other) part told.0);
-      latencies = λ unit. latency_told config other h needs unit are
-          (unit_listed (allows_latency needs config other) unit told.1);
+      parts = λ part. part_allowed config other h needs part are
+          (part_listed (allows needs config other) part allowed.0);
+      latencies = λ unit. latency_allowed config other h needs unit are
+          (unit_listed (allows_latency needs config other) unit allowed.1);
     }

@@ -200,26 +200,26 @@ module _ {config : Configuration} {steps : List Step} {i : ℕ} {x : Step} {f : 
 
   pub waits_turn : {waits : Waits} → waits ≡ waits_by held.latest next.marks next.at
       → waits_in config (take (i + 1) steps) ≡ waits_in config (take i steps) ++ (waits ∷ [])
-  waits_turn told = rw (one_more, told ∙ waits_are comes, same_times) (waits_more config (take i steps) x)
+  waits_turn waited = rw (one_more, waited ∙ waits_are comes, same_times) (waits_more config (take i steps) x)
 
   pub waits_small : {facts : List Facts} {waits : Waits} → AreFacts steps facts → length facts < 2 ^ 28
       → waits ≡ waits_by held.latest next.marks next.at → AreWithin (2 ^ 62) waits
-  waits_small {facts} are few told =
+  waits_small {facts} are few waited =
       let n : length facts ≡ length steps = length_facts steps facts are in
       let place : i < length steps = turn.step.place in
       let b : greatest_end (history config (take i steps)) ≤ 67 * length (take i steps) =
       history_bound config (take i steps) turn.step.good in
       let e : length (take i steps) ≡ i = length-take-le i steps (omega arith) in
       let end : next.at.end ≤ greatest_end (history config (take i steps)) + 67 = reaches.end in
-      rw (told ∙ waits_are comes) (waits_within config (history config (take i steps))
+      rw (waited ∙ waits_are comes) (waits_within config (history config (take i steps))
       (record { step = x; at = next.at }) (2 ^ 62) reaches (omega arith))
 
   pub needs_turn : {needs : Needs} {waits : Waits} {takes : Taken} → waits ≡ waits_by held.latest next.marks next.at
       → takes ≡ taken_from held.latest next → AreNeeds config (history config (take i steps)) needs
       → AreNeeds config (history config (take (i + 1) steps)) (needs_after f waits takes next.at needs)
-  needs_turn {needs} {waits} {takes} told took are =
+  needs_turn {needs} {waits} {takes} waited took are =
       rw (longer, turn.step.facts) (needs_more config (history config (take i steps))
-      (record { step = x; at = next.at }) needs waits takes are (told ∙ waits_are comes)
+      (record { step = x; at = next.at }) needs waits takes are (waited ∙ waits_are comes)
       (λ part. rw took (taken_is comes part)))
 
 -- a step can be timed by what shows the steps before it, and kept

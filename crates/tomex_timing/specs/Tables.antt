@@ -65,12 +65,12 @@ busy_of t tag d older = record {
 }
 
 -- the fields of a station, if it is busy
-abbrev pub shown : ℕ → List Done → Tag → Option Busy
-shown t [] tag = None
-shown t (d ∷ older) tag =
+abbrev pub station_fields : ℕ → List Done → Tag → Option Busy
+station_fields t [] tag = None
+station_fields t (d ∷ older) tag =
     if is_under_way t d && is_in tag.pool (step_pool d.step) && is_number d.at.station tag.number
     then Some (busy_of t tag d older)
-    else shown t older tag
+    else station_fields t older tag
 
 -- Qi: the station of the register's youngest issued writer, if that one hasn't ended
 abbrev pub qi_of : ℕ → List Done → ℕ → Option Tag
@@ -89,6 +89,6 @@ all_tags = tags_of Alu ++ tags_of Mul ++ tags_of Div ++ tags_of Load ++ tags_of 
 abbrev pub tables_of : ℕ → List Done → Tables
 tables_of t h = record {
   cycle = t;
-  busy = filter_map (shown t h) all_tags;
+  busy = filter_map (station_fields t h) all_tags;
   registers = map (qi_of t h) (range_with_len 0 32);
 }

@@ -48,7 +48,7 @@ fn is_said(rt: &HostRuntime, config: &Config, words: &[u32], wanted: Fault) -> R
 }
 
 /// Fails unless the machine of this configuration reports the faults of the in-order runs.
-fn are_told(rt: &HostRuntime, config: &Config) -> Result<(), Fail> {
+fn are_reported(rt: &HostRuntime, config: &Config) -> Result<(), Fail> {
     for (words, kind, pc) in &FAULTY {
         let wanted = Fault {
             kind: *kind,
@@ -62,6 +62,6 @@ fn are_told(rt: &HostRuntime, config: &Config) -> Result<(), Fail> {
 /// On a wide machine, a fault of a cycle's second instruction is reported too.
 #[test]
 fn of_each_kind(rt: HostRuntime) -> Result<(), Fail> {
-    are_told(&rt, &machine_config([1; 6], [1; 4], 1)?)?;
-    are_told(&rt, &machine_config([2; 6], [2, 1, 1, 1], 4)?)
+    are_reported(&rt, &machine_config([1; 6], [1; 4], 1)?)?;
+    are_reported(&rt, &machine_config([2; 6], [2, 1, 1, 1], 4)?)
 }

@@ -43,7 +43,7 @@ fn is_said<R: AllocGlobal + Threads + Wait + Sync>(
 }
 
 #[test]
-fn a_refused_thread_is_told(rt: HostRuntime) -> Result<(), Fail> {
+fn a_refused_thread_is_an_error(rt: HostRuntime) -> Result<(), Fail> {
     let study = study_of(rt.alloc(), [(1, 5), (10, 9), (1, 9)].as_slice())?;
     for (worker, workers) in [(0, 1), (0, 3), (1, 2), (2, 3)] {
         assert!(rt; is_said(&rt, &study, worker, workers));

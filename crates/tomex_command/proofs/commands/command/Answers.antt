@@ -9,7 +9,7 @@ returns-in-Ok-carry_out-clause-end g c =
       asked = c.in-Ok.ensures.asked;
       carried_out = c.in-Ok-carry_out.ensures.done;
       status_is = refl;
-      nothing_told = refl;
+      nothing_said = refl;
     }))
 
 pub returns-in-Err-carry_out-clause-end : goal.returns-in-Err-carry_out-clause-end

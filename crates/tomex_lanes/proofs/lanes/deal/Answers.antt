@@ -4,7 +4,7 @@ use Rattle.std.proofs.Common.{arith, refl}
 use Rattle.std.specs.Prelude.{slice_get, slice_set}
 use Rattle.tomex_lanes.specs.Lanes.{Dealt, lane_of, with_other}
 use Rattle.tomex_lanes.proofs.Dealing.{all_connected, connected, lane-at, lanes-counts, lanes_with, length-lanes}
-use Rattle.tomex_lanes.proofs.Dealing.{next_connected, none_connected, one_connected, thief-at, told_more}
+use Rattle.tomex_lanes.proofs.Dealing.{next_connected, none_connected, one_connected, thief-at, dealt_more}
 use Rattle.tomex_lanes.proofs.lanes.deal.Goals as goal
 
 pub loop-worker-preserved : goal.loop-worker-preserved
@@ -53,7 +53,7 @@ loop-step-preserved g c =
     ap (λ xs. slice_get xs from) items ∙ lane-at workers c.args.count known workers from rest in
     let told : with_other (lane_of workers to c.args.count k) (lane_of workers from c.args.count (known from)).rows
     ≡ lane_of workers to c.args.count c.loop-step.step =
-    told_more workers c.args.count to c.loop-step.step from (lane_of workers to c.args.count k)
+    dealt_more workers c.args.count to c.loop-step.step from (lane_of workers to c.args.count k)
     (lane_of workers from c.args.count (known from)) c.loop-step.auto.step refl refl refl in
     let one : suc k ≡ c.loop-step.step = let some = c.loop-step.auto.step in omega arith in
     let after : suc k ≡ c.loop-step.step + 1 - 1 = omega arith in
