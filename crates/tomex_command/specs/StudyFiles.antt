@@ -17,8 +17,8 @@ pub record Names (file : List ℕ → Known) (study : List ℕ) (bytes : List �
   pub named : file_names_of bytes ≡ Ok names
 
 -- a study's bytes, and those of the files that it names, in order
-pub record AreSources (file : List ℕ → Known) (study : List ℕ) (bytes : List ℕ) (contents : List (List ℕ)) : Type
-    0 where
+pub record AreSources (file : List ℕ → Known) (study : List ℕ) (bytes : List ℕ) (contents : List (List ℕ))
+    : Type 0 where
   pub names : List (List ℕ)
   pub named : Names file study bytes names
   pub read : AreRead file names contents
