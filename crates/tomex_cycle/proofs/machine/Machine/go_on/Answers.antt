@@ -37,8 +37,8 @@ pub invariant_of-self-in_default : goal.invariant_of-self-in_default
 invariant_of-self-in_default g c =
     let running : c.self.inside.status ≡ Running = ap (λ x. x.status) c.self.view_is ∙ c.requires.running in
     let at : c.self.inside.cycle ≡ c.args.self.now.cycle = ap (λ x. x.cycle) c.self.view_is in
-    let known : progress_of c.make_cycle.result
-    ≡ c.progress-self-inside.result = sym c.progress-self-inside.ensures in (
+    let known : progress_of c.make_cycle.result ≡ c.progress-self-inside.result =
+    sym c.progress-self-inside.ensures in (
       rw c.make_cycle.ensures.same (rw known at (sound_made
           (has_made c.make_cycle.new.self running c.self.invariant.0 (c.make_cycle.ensures.makes refl))
           (omega (arith, c.requires.ahead, c.requires.low)))),
