@@ -1,8 +1,8 @@
 -- The picked operations start one after the other, each over the same memory.
 use Rattle.tomex_cycle.proofs.Words.{nat_lt, ◌&&◌, ◌==◌, ◌≢◌, is_some, both_ways, cases_Bool, lt-ltb, le-ltb, nat_tests}
 use Rattle.tomex_cycle.proofs.Words.{eqb-true, eqb-false, get_or-set_same, get_or-set_other, length-set, Configuration}
-use Rattle.tomex_cycle.proofs.Words.{Bytes, Fault, AllCanBegin, CanBegin, HaveBegun, with_start}
-use Rattle.tomex_cycle.proofs.Words.{with_start_if, AreLow, Pools}
+use Rattle.tomex_cycle.proofs.Words.{Bytes, Fault, AllCanBegin, CanBegin, HaveBegun, station_after_start}
+use Rattle.tomex_cycle.proofs.Words.{station_after_start_if, AreLow, Pools}
 use Rattle.tomex_cycle.proofs.Words.{Station, has, IsWithout, AreFrom, all_left, none_after, skip_to, slot}
 use Rattle.tomex_cycle.proofs.Words.{if◌then◌else◌, IfSome, and_parts, ByteRange, IsInside, byte_in, covers, overwrites}
 use Rattle.tomex_cycle.proofs.Words.{stored_byte, bytes_of, AllInside, HaveStored, stored_at, written_by, step_in}
@@ -33,7 +33,7 @@ skip_begun : {config : Configuration} {next k : ℕ} {m : Bytes} {picked : ℕ} 
     → HaveBegun config next m picked k old now → HaveBegun config next m picked (k + 1) old now
 skip_begun {config} {next} {k} {m} {picked} {old} none before = record {
   places = before.places;
-  slots = λ x f. before.slots x f ∙ sym (ap (λ b. with_start_if config next m b (slot old.slots x))
+  slots = λ x f. before.slots x f ∙ sym (ap (λ b. station_after_start_if config next m b (slot old.slots x))
       (below_more x k (has picked x) (λ e. rw e none)));
   issue_numbers = before.issue_numbers;
 }
@@ -41,12 +41,13 @@ skip_begun {config} {next} {k} {m} {picked} {old} none before = record {
 pub begun_here : {config : Configuration} {next k : ℕ} {m : Bytes} {picked : ℕ} {old now : Pools} (new : Pools) → k < 96
     → has picked k ≡ true
     → ((s : Station) → slot now.slots k ≡ Some s → CanBegin m s
-    → new.slots ≡ slice_set now.slots k (Some (with_start config next m s))) → new.issue_numbers ≡ now.issue_numbers
+    → new.slots ≡ slice_set now.slots k (Some (station_after_start config next m s))) → new.issue_numbers
+    ≡ now.issue_numbers
     → AllCanBegin m picked old.slots → HaveBegun config next m picked k old now
     → HaveBegun config next m picked (k + 1) old new
 begun_here {config} {next} {k} {m} {picked} {old} {now} new l pick set issue_numbers can before =
     let (s, here, begins) = can k l pick in
-    let made : Station = with_start config next m s in
+    let made : Station = station_after_start config next m s in
     let slots : new.slots ≡ slice_set now.slots k (Some made) = set s (still_old l before ∙ here) begins in
     record {
       places = ap length slots ∙ (length-set now.slots k (Some made) ∙ before.places);
@@ -57,7 +58,7 @@ begun_here {config} {next} {k} {m} {picked} {old} {now} new l pick set issue_num
             rw (same, here, pick, lt-ltb k (k + 1) (omega arith))
             (get_or-set_same now.slots k (Some made) None (omega arith))
         | inr e ↦ get_or-set_other now.slots k x (Some made) None (eqb-false _ _ e)
-            ∙ (before.slots x f ∙ sym (ap (λ b. with_start_if config next m b (slot old.slots x))
+            ∙ (before.slots x f ∙ sym (ap (λ b. station_after_start_if config next m b (slot old.slots x))
             (below_other x k (has picked x) (eqb-false _ _ e))))
       ];
       issue_numbers = issue_numbers ∙ before.issue_numbers;
@@ -114,7 +115,8 @@ no_fault_at {x = x} fault out good so =
 pub member_begun : {config : Configuration} {next x : ℕ} {m : Bytes} {picked rest left : ℕ} {old now : Pools}
     (new : Pools) → IsTaken rest x left
     → ((s : Station) → slot now.slots x ≡ Some s → CanBegin m s
-    → new.slots ≡ slice_set now.slots x (Some (with_start config next m s))) → new.issue_numbers ≡ now.issue_numbers
+    → new.slots ≡ slice_set now.slots x (Some (station_after_start config next m s))) → new.issue_numbers
+    ≡ now.issue_numbers
     → IsBegun config next m picked rest old now → IsBegun config next m picked left old new
 member_begun {x = x} new out set issue_numbers so =
     let turn = turn_at so.from out in

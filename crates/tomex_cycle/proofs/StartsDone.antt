@@ -7,7 +7,7 @@ use Rattle.tomex_cycle.proofs.Words.{Loaded, Configuration, Step, covers, overwr
 use Rattle.tomex_cycle.proofs.Words.{step_pool, step_unit, Done, are_conflicts_finished, conflicts, byte_at, stored_at}
 use Rattle.tomex_cycle.proofs.Words.{written_by, clocks, holds_place, place_of, station_at, step_in, Station, has, ◌||◌}
 use Rattle.tomex_cycle.proofs.Words.{IsTimed, IsUpTo, slot, both_ways, byte_in, Bytes, Fault, MakesStarts, IsInside}
-use Rattle.tomex_cycle.proofs.Words.{AllCanBegin, AllInside, CanBegin, HaveBegun, HaveStored, with_start}
+use Rattle.tomex_cycle.proofs.Words.{AllCanBegin, AllInside, CanBegin, HaveBegun, HaveStored, station_after_start}
 use Rattle.tomex_cycle.proofs.Words.{IsStarting, AreLow}
 use Rattle.tomex_cycle.proofs.Words.{ShowsMemory, station_of, Pools, AreBusy, place_of_unit, UnitId, suc, zero, ℕ, ◌+◌}
 use Rattle.tomex_cycle.proofs.Words.{◌<◌, ◌≤◌, ◌≡◌, ◌∙◌, Bool, true, false, arith, refl, List, [], ◌∷◌, Option, Some}
@@ -216,9 +216,10 @@ can_begin {i} {t = t} u x (d ∷ older) m up e shown starts = elim (cases_Bool (
       )
 ]
 
-inside_begun : (config : Configuration) (u : ℕ) (m : Bytes) (s0 s : Station) → Some (with_start config u m s0) ≡ Some s
+inside_begun : (config : Configuration) (u : ℕ) (m : Bytes) (s0 s : Station)
+    → Some (station_after_start config u m s0) ≡ Some s
     → IsInside m (step_in s0) → IsInside m (step_in s)
-inside_begun config u m s0 s e inside = let f : with_start config u m s0 ≡ s = cc in rw (← f) inside
+inside_begun config u m s0 s e inside = let f : station_after_start config u m s0 ≡ s = cc in rw (← f) inside
 
 all_inside : {config : Configuration} {u : ℕ} {m : Bytes} {picked : ℕ} {old new : Pools}
     → AllCanBegin m picked old.slots → HaveBegun config u m picked 96 old new → AllInside m picked new.slots

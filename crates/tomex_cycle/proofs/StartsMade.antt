@@ -7,8 +7,8 @@ use Rattle.tomex_cycle.proofs.Words.{step_unit, unit_with_pool, Done, cycle_of, 
 use Rattle.tomex_cycle.proofs.Words.{conflicts, are_conflicts_finished, byte_at, steps_in, ◌||◌, IsUpTo, nat_le, ◌&&◌}
 use Rattle.tomex_cycle.proofs.Words.{◌==◌, option_map, IfSome, IsSome, eqb-true, eqb-false, option_of, Op, sources_of}
 use Rattle.tomex_cycle.proofs.Words.{unit_of, IsAllowed, byte_in, result_of, Bytes, j_of, k_of, operand, unread_j}
-use Rattle.tomex_cycle.proofs.Words.{unread_k, source_end, field_of, producer, ArePast, IsInside, with_start}
-use Rattle.tomex_cycle.proofs.Words.{with_start_if}
+use Rattle.tomex_cycle.proofs.Words.{unread_k, source_end, field_of, producer, ArePast, IsInside, station_after_start}
+use Rattle.tomex_cycle.proofs.Words.{station_after_start_if}
 use Rattle.tomex_cycle.proofs.Words.{ShowsMemory, clocks, holds_place, station_at, station_of, step_in, is_there}
 use Rattle.tomex_cycle.proofs.Words.{value_in, Station, lt-ltb, ℕ, ◌+◌, ◌<◌, ◌≤◌, ◌≡◌, ◌∙◌, true, arith, refl, List, []}
 use Rattle.tomex_cycle.proofs.Words.{◌∷◌, ◌++◌, Option, Some, None, inl, inr, length, append_assoc, ◌-◌, false, ap, sym}
@@ -175,7 +175,7 @@ finish_at config finish start issue u (Some unit) some timed e =
 pub begun_is : {i : Loaded} {config : Configuration} (t u : ℕ) (d : Done) (newer older : List Done) (m : Bytes)
     → IsUpTo i config t (newer ++ (d ∷ older)) → u ≡ t + 1 → starts_in u d ≡ true
     → ShowsMemory i t (newer ++ (d ∷ older)) m
-    → station_of i (clocks u t t) d older ≡ with_start config u m (station_of i (clocks t t t) d older)
+    → station_of i (clocks u t t) d older ≡ station_after_start config u m (station_of i (clocks t t t) d older)
 begun_is {i} {config} t u d newer older m up e starts shown =
     let two = and_parts (is_some (step_unit d.step)) (d.at.start == u) starts in
     let at : d.at.start ≡ u = eqb-true _ _ two.1 in
@@ -213,7 +213,7 @@ kept_is {config = config} t u d older up e starts =
 -- so each place has its next station
 pub begins_at : {i : Loaded} {config : Configuration} (t u x : ℕ) (newer part : List Done) (m : Bytes)
     → IsUpTo i config t (newer ++ part) → u ≡ t + 1 → ShowsMemory i t (newer ++ part) m
-    → station_at i (clocks u t t) part x ≡ with_start_if config u m (starts_at t u part x)
+    → station_at i (clocks u t t) part x ≡ station_after_start_if config u m (starts_at t u part x)
     (station_at i (clocks t t t) part x)
 begins_at t u x newer [] m up e shown = refl
 begins_at {i} {config} t u x newer (d ∷ older) m up e shown = elim (cases_Bool (holds_place t x d)) [

@@ -102,7 +102,8 @@ pub use Rattle.tomex_cycle.specs.Seen.{Seen, seen, seen_after, is_end, Machine}
 pub use Rattle.tomex_cycle.specs.Settled.{AllSettled, IsSettled}
 pub use Rattle.tomex_cycle.specs.Sound.{IsSound}
 pub use Rattle.tomex_cycle.specs.Starts.{AllCanBegin, AllInside, AreLow, AreStartable, CanBegin, HaveBegun, HaveStored}
-pub use Rattle.tomex_cycle.specs.Starts.{IsStarting, NoneWaits, with_start, with_start_if, is_clear, kind_if}
+pub use Rattle.tomex_cycle.specs.Starts.{IsStarting, NoneWaits, station_after_start, station_after_start_if}
+pub use Rattle.tomex_cycle.specs.Starts.{is_clear, kind_if}
 pub use Rattle.tomex_cycle.specs.Starts.{kind_of, stored_at}
 pub use Rattle.tomex_cycle.specs.Starts.{unit_needed, written_by, AreStartableFor, IsWanted}
 pub use Rattle.tomex_cycle.specs.Views.{Clocks, Core, Front, ShowsFront, ShowsMemory, ShowsRegisters, ShowsStations}

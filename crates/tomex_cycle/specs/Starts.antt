@@ -82,8 +82,8 @@ finish_from config cycle None = None
 finish_from config cycle (Some unit) = Some (cycle + (option_of config unit).latency - 1)
 
 -- a station whose operation starts in the cycle, over a memory
-abbrev pub with_start : Configuration → ℕ → Bytes → Station → Station
-with_start config cycle m s =
+abbrev pub station_after_start : Configuration → ℕ → Bytes → Station → Station
+station_after_start config cycle m s =
     record s { finish = finish_from config cycle (unit_of s.instr.op); value = result_of (step_in s) (byte_in m) }
 
 -- the fault of a station whose access is outside memory
@@ -110,14 +110,14 @@ abbrev pub AllCanBegin : Bytes → ℕ → List (Option Station) → Type 0
 AllCanBegin m picked slots =
     (x : ℕ) → x < 96 → has picked x ≡ true → (s : Station) × (slot slots x ≡ Some s) × CanBegin m s
 
-abbrev pub with_start_if : Configuration → ℕ → Bytes → Bool → Option Station → Option Station
-with_start_if config cycle m picked o = if picked then option_map (with_start config cycle m) o else o
+abbrev pub station_after_start_if : Configuration → ℕ → Bytes → Bool → Option Station → Option Station
+station_after_start_if config cycle m picked o = if picked then option_map (station_after_start config cycle m) o else o
 
 -- the operations of the picked places below k have started
 pub record HaveBegun (config : Configuration) (cycle : ℕ) (m : Bytes) (picked k : ℕ) (old new : Pools) : Type 0 where
   pub places : length new.slots ≡ 96
   pub slots : (x : ℕ) → x < 96
-      → slot new.slots x ≡ with_start_if config cycle m (nat_lt x k && has picked x) (slot old.slots x)
+      → slot new.slots x ≡ station_after_start_if config cycle m (nat_lt x k && has picked x) (slot old.slots x)
   pub issue_numbers : new.issue_numbers ≡ old.issue_numbers
 
 -- the byte at an address after the store of a place, if it is picked

@@ -13,7 +13,7 @@ ghost use Rattle.tomex_steps.specs.Results.{byte_in, result_of};
 ghost use Rattle.tomex_cycle.specs.Finishes.{IsTimetableOf};
 ghost use Rattle.tomex_cycle.specs.Starts.{AllCanBegin, AllInside, AllWaitFor, AreLow, AreStartableFor, CanBegin};
 ghost use Rattle.tomex_cycle.specs.Starts.{HaveBegun, HaveStored, IsAccessFault, IsStarting, IsWanted};
-ghost use Rattle.tomex_cycle.specs.Starts.{access_fault, with_start};
+ghost use Rattle.tomex_cycle.specs.Starts.{access_fault, station_after_start};
 
 use crate::finishes::Finishes;
 use std::alloc::Allocator;
@@ -166,7 +166,7 @@ fn outcome<A: Allocator>(
     requires own { unit_of station.now.instr.op ≡ Some (unit_of_pool (pool_at (place / 16))) }
     requires pool { pool_of station.now.instr.op ≡ Some (pool_at (place / 16)) }
     ensures value { (cycle : ℕ) → IfSome result (λ o. with_start (cycle + o.0 - 1) o.1 station.now
-        ≡ with_start config.now cycle memory.now station.now) }
+        ≡ station_after_start config.now cycle memory.now station.now) }
     ensures range { IfSome result (λ o. (1 ≤ o.0) × (o.0 ≤ 64)) }
     ensures outside { IfSome result (λ o. IsInside memory.now (step_in station.now)) }
     ensures inside { CanBegin memory.now station.now → IsSome result }
@@ -188,7 +188,7 @@ fn begin_at<A: Allocator>(
     requires timetable { IsTimetableOf pools.old.slots cycle finishes.old }
     ensures slots { (s : Station) → slot pools.old.slots place ≡ Some s → CanBegin memory.now s
         → pools.new.slots
-        ≡ slice_set pools.old.slots place (Some (with_start config.now cycle memory.now s)) }
+        ≡ slice_set pools.old.slots place (Some (station_after_start config.now cycle memory.now s)) }
     ensures good { (s : Station) → slot pools.old.slots place ≡ Some s → CanBegin memory.now s
         → result ≡ None }
     ensures only { IfSome result (IsAccessFault pools.old memory.now place) }
