@@ -13,7 +13,7 @@ use Rattle.tomex_timing.specs.declared.times.Times.{Times}
 use Rattle.tomex_konata.specs.declared.entries.Entry.{Entry}
 use Rattle.tomex_konata.specs.declared.entries.Producer.{Producer}
 use Rattle.tomex_konata.specs.Konata.{entries_from, entry_of, producer}
-use Rattle.tomex_konata.specs.Kept.{writers_after, writer_of}
+use Rattle.tomex_konata.specs.Kept.{writers_after, writer_in}
 
 -- the youngest writer of a register among some older steps
 abbrev writer_of : List Done → ℕ → Option Producer
@@ -44,7 +44,7 @@ no_operand [] = refl
 no_operand (d ∷ older) = refl
 
 pub read : (older : List Done) (writers : List (Option Producer)) (o : Option Operand) → AreWriters older writers
-    → ForSome o (λ o. o.register < 32) → writer_of writers o ≡ producer older o
+    → ForSome o (λ o. o.register < 32) → writer_in writers o ≡ producer older o
 read older writers None are low = sym (no_operand older)
 read older writers (Some o) are low = are.each o.register (low o refl) ∙ sym (by_register older o)
 
@@ -95,7 +95,7 @@ pub one_gathered : (steps : List Step) (times : List Times) (i : ℕ) (before af
     (writers behind : List (Option Producer))
     (step s : Step) (at t : Times) (j k : Option Producer) → (g : AreGathered steps times i before writers)
     → i < length steps → length times ≡ length steps → step ≡ get_or steps i s → at ≡ get_or times i t
-    → j ≡ writer_of writers (j_of step) → k ≡ writer_of writers (k_of step)
+    → j ≡ writer_in writers (j_of step) → k ≡ writer_in writers (k_of step)
     → ForSome (j_of step) (λ o. o.register < 32) → ForSome (k_of step) (λ o. o.register < 32)
     → behind ≡ writers_after writers (step_dest step) (record { id = i; end = at.end })
     → after ≡ before ++ record { id = i; step = step; at = at; j = j; k = k } ∷ []

@@ -81,7 +81,7 @@ module _ (number last : ℕ) (all : List Entry) where
   lines_more gone [] ws = refl
   lines_more gone (v ∷ vs) ws =
       ap (λ (z : List ℕ). lines_at number gone v (slice_get all v.id) ++ z)
-          (lines_more (steps_out_after gone v.kind) vs ws)
+      (lines_more (steps_out_after gone v.kind) vs ws)
       ∙ sym (append_assoc (lines_at number gone v (slice_get all v.id)) (lines_of (steps_out_after gone v.kind) vs)
       (lines_of (gone_of (steps_out_after gone v.kind) vs) ws))
 
@@ -113,7 +113,7 @@ module _ (number last : ℕ) (all : List Entry) where
       ap (λ (c : ℕ). with_cycle (c - since) lines
       ++ events_text number all (next_since since c lines) (steps_out_after gone v.kind) (vs ++ ws)) at.0
       ∙ (ap (λ (z : List ℕ). with_cycle (t - since) lines ++ z)
-          (one_cycle t then (steps_out_after gone v.kind) vs ws at.1)
+      (one_cycle t then (steps_out_after gone v.kind) vs ws at.1)
       ∙ (sym (append_assoc (with_cycle (t - since) lines) (with_cycle (t - then) more) rest)
       ∙ ap₂ (λ (y : List ℕ) (s : ℕ). y ++ events_text number all s (gone_of (steps_out_after gone v.kind) vs) ws)
       (sym (with_more t since lines more)) (sym (since_more t since lines more))))

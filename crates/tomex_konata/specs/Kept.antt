@@ -14,9 +14,9 @@ use Rattle.tomex_konata.specs.declared.events.Kind.TheVariants.{Change, Out}
 use Rattle.tomex_konata.specs.Konata.{next_since, out_lines, step_lines, with_cycle}
 
 -- the youngest writer of an operand, by a table of those of all registers
-abbrev pub writer_of : List (Option Producer) → Option Operand → Option Producer
-writer_of writers None = None
-writer_of writers (Some o) = slice_index_or writers o.register None
+abbrev pub writer_in : List (Option Producer) → Option Operand → Option Producer
+writer_in writers None = None
+writer_in writers (Some o) = slice_index_or writers o.register None
 
 -- the table after a step that writes this register
 abbrev pub writers_after : List (Option Producer) → Option ℕ → Producer → List (Option Producer)

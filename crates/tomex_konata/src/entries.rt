@@ -4,7 +4,7 @@ ghost use Rattle.std.specs.Prelude.{◌≡◌, ◌<◌, length, IfOk, None, [], 
 ghost use Rattle.std.specs.Option.{ForSome};
 ghost use Rattle.tomex_steps.specs.Steps.{step_dest};
 ghost use Rattle.tomex_konata.specs.Konata.{entries_from};
-ghost use Rattle.tomex_konata.specs.Kept.{writers_after, writer_of};
+ghost use Rattle.tomex_konata.specs.Kept.{writers_after, writer_in};
 
 use std::alloc::{AllocError, Allocator};
 use tomex_rvexec::{Operand, Step};
@@ -47,7 +47,7 @@ impl Writers {
     /// The producer of an operand.
     fn producer(&self, operand: Option<Operand>) -> Option<Producer>
         requires register { ForSome operand (λ o. o.register < 32) }
-        ensures { result ≡ writer_of self.now.of operand }
+        ensures { result ≡ writer_in self.now.of operand }
     {
         match operand {
             Some(operand) => self.of[operand.register as usize],

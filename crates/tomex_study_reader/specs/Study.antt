@@ -19,7 +19,7 @@ use Rattle.tomex_study_reader.specs.Refusals.{IsDocumentRefusal}
 -- the file is what the entry asks for: it is an image of its window, which ends within its limit
 pub record IsProgramOf (entry : ProgramEntry) (file : List ℕ) (program : Workload) : Type 0 where
   pub name : program.name ≡ entry.name
-  pub placed : placed file entry.window program.image
+  pub placed : IsPlaced file entry.window program.image
   pub accepted : refused file entry.window ≡ None
   pub limit : program.limit ≡ entry.limit
   pub ends : EndsWithin program.image entry.limit

@@ -1,7 +1,7 @@
 -- One more step is gathered.
 use Rattle.std.proofs.Common.{None, refl, rules, ◌<◌, ap, ◌∙◌}
 use Rattle.std.specs.Option.{ForSome}
-use Rattle.tomex_konata.specs.Kept.{writer_of}
+use Rattle.tomex_konata.specs.Kept.{writer_in}
 use Rattle.tomex_konata.proofs.Steps.{all_gathered, none_gathered, one_gathered}
 use Rattle.tomex_konata.proofs.entries.entries_of.Goals as goal
 
@@ -17,8 +17,8 @@ loop-id-preserved g c =
     c.index-steps-id.result
     _ (record { issue = 0; address = None; start = 0; finish = 0; end = 0; station = None }) _ _ c.loop-id.invariant
     c.loop-id-test.true c.requires.pairs c.index-steps-id.is refl
-    (c.producer-j.ensures ∙ ap (writer_of c.loop-id.writers.of) c.j.ensures.value)
-    (c.producer-k.ensures ∙ ap (writer_of c.loop-id.writers.of) c.k.ensures.value)
+    (c.producer-j.ensures ∙ ap (writer_in c.loop-id.writers.of) c.j.ensures.value)
+    (c.producer-k.ensures ∙ ap (writer_in c.loop-id.writers.of) c.k.ensures.value)
     (rw c.j.ensures.value at j_low) (rw c.k.ensures.value at k_low) c.note.ensures c.in_ok-push.ensures.items
 
 pub returns : goal.returns
