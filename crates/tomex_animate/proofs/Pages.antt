@@ -14,7 +14,7 @@ use Rattle.tomex_animate.specs.Machine.{cycles_of}
 use Rattle.tomex_animate.specs.Page.{IsAnimationOf, animate_page, frame, page_foot, page_head, page_of}
 use Rattle.tomex_snapshots.specs.declared.entries.Entry.{Entry}
 use Rattle.tomex_snapshots.specs.declared.entries.Span.{Span}
-use Rattle.tomex_snapshots.proofs.Lists.{three_pieces}
+use Rattle.tomex_csv_text.proofs.Pieces.{◌▸◌, last_piece}
 use Rattle.tomex_animate.proofs.Whole.{frames_same}
 
 -- the steps between the first and the last ones
@@ -32,24 +32,24 @@ stretch_is page all rest some behind count past rest_is later some_is = record {
 
 -- the page's text
 pub page_is : (study program : List ℕ) (number : ℕ) (config : Configuration) (page : Span) (total : ℕ)
-    (es : List Entry) (none head views foot bytes : List ℕ) → none ≡ [] → head ≡ none ++ page_head study program
-    number page
+    (es : List Entry) {none head views foot bytes : List ℕ} → none ≡ []
+    → head ≡ none ++ page_head study program number page
     → views ≡ head ++ flat_map (frame config page total es) (cycles_of page) → foot ≡ views ++ page_foot config page
     → bytes ≡ foot → bytes ≡ animate_page study program number config page total es
-page_is study program number config page total es none head views foot bytes empty begun shown ended made =
-    made ∙ (three_pieces none head views foot _ _ _ begun shown ended
+page_is study program number config page total es empty begun shown ended made =
+    made ∙ ((begun ▸ shown ▸ last_piece ended).is
     ∙ ap (λ (z : List ℕ). z ++ animate_page study program number config page total es) empty)
 
-pub animated : (study program : List ℕ) (number : ℕ) (config : Configuration) (run made : List Step)
-    (kept slice : List Times) (first count total : ℕ) (page : Span) (entries all some : List Entry) (text : List ℕ)
+pub animated : {study program : List ℕ} {number : ℕ} {config : Configuration} {run made : List Step}
+    {kept slice : List Times} {first count total : ℕ} {page : Span} {entries all some : List Entry} {text : List ℕ}
     → made ≡ run → kept ≡ times_in config made → slice ≡ kept → total ≡ total_of slice
     → (first ≤ total) × (page ≡ page_of first count total) → 0 < first → 0 < count
     → entries ≡ entries_of config made → all ≡ entries → IsStretch page all some
     → text ≡ animate_page study program number config page total some
     → IsAnimationOf study program number config run first count text
-animated study program number config run made kept slice first count total page entries all some text run_is kept_is
-    same
-    total_is page_is some_first some_count entries_are all_is stretch text_is =
+animated {study = study} {program = program} {number = number} {config = config} {run = run} {first = first}
+    {count = count} {total = total} {page = page} {all = all} {some = some} {text = text} run_is kept_is same total_is
+    page_is some_first some_count entries_are all_is stretch text_is =
     let low : first ≤ total = page_is.0 in
     let total_of_run : total ≡ total_of (times_in config run) =
     total_is ∙ ap total_of (same ∙ (kept_is ∙ ap (times_in config) run_is)) in

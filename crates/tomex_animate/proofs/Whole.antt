@@ -28,7 +28,7 @@ use Rattle.tomex_animate.specs.Page.{frame}
 use Rattle.tomex_animate.specs.Stretch.{IsStretch}
 use Rattle.tomex_frames.specs.Stations.{pool_rows, register_at, register_cell, register_status, registers_text, row_in}
 use Rattle.tomex_frames.specs.Stations.{station_row, station_table, all_pools}
-use Rattle.tomex_frames.specs.Status.{listed, row_if, status_table}
+use Rattle.tomex_frames.specs.Status.{listed_cycles, row_if, status_table}
 use Rattle.tomex_frames.specs.declared.events.Event.{Event}
 use Rattle.tomex_frames.specs.declared.events.Event.TheVariants.{Issue, Address, Start, Finish, Write}
 use Rattle.tomex_snapshots.specs.declared.takers.Taker.{Taker}
@@ -398,9 +398,9 @@ module _ (first last t : ℕ) (front some rest : List Entry) (low : first ≤ t)
       let counted : count_by (is_there page) (front ++ (some ++ rest)) ≡ count_by (is_there page) some =
       count_mid (is_there page) (Past first) (Later last) (λ e p. gone first page e (omega (arith, is_first)) p)
       (λ e q. to_come last page e (omega (arith, is_last)) q) front some rest past later in
-      let spans : listed page (front ++ (some ++ rest)) t ≡ listed page some t = rw counted refl in
-      let within : flat_map (row_if (listed page some t) t) (front ++ (some ++ rest))
-      ≡ flat_map (row_if (listed page some t) t) some =
+      let spans : listed_cycles page (front ++ (some ++ rest)) t ≡ listed_cycles page some t = rw counted refl in
+      let within : flat_map (row_if (listed_cycles page some t) t) (front ++ (some ++ rest))
+      ≡ flat_map (row_if (listed_cycles page some t) t) some =
       elim (cases_Bool (nat_le (count_by (is_there page) some) 16)) [
         | inl e ↦ rw e (rows_same page (omega (arith, is_first)) (omega (arith, is_last)))
         | inr e ↦ rw e (rows_same (record { from = t - 2; to = t }) (omega (arith, low)) high)

@@ -136,8 +136,8 @@ rows_kept : (words : List ℕ) (page : ℕ → Span) (last : ℕ) (es : List Ent
 rows_kept words page last es some on placed [] = refl
 rows_kept words page last es some on placed (t ∷ ts) =
     let kept : count_by (says words t) (rows_of (page t) es t) ≡ count_by (says words t) es =
-    count_kept (says words t) (is_there (listed (page t) es t)) es
-    (All-weaker (IsPlaced last) (λ e. says words t e ≡ true → is_there (listed (page t) es t) e ≡ true)
+    count_kept (says words t) (is_there (listed_cycles (page t) es t)) es
+    (All-weaker (IsPlaced last) (λ e. says words t e ≡ true → is_there (listed_cycles (page t) es t) e ≡ true)
     (λ e is said. let there = there_if_said words last t e some is said in
     is_listed (page t) es e t (on t) there.0 there.1) es placed) in
     sum_by-cons (λ t. count_by (says words t) (rows_of (page t) es t)) t ts

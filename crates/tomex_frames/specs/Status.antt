@@ -33,7 +33,7 @@ step_row t e =
 -- All steps of the page's cycles if these are at most 16: then the table keeps its rows, and fills in. Otherwise those
 -- of a cycle and the two before it.
 abbrev pub listed_cycles : Span → List Entry → ℕ → Span
-listed page es t =
+listed_cycles page es t =
     if nat_le (count_by (is_there page) es) 16 then page else record { from = t - 2; to = t }
 
 abbrev pub row_if : Span → ℕ → Entry → List ℕ

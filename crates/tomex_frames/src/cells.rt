@@ -2,7 +2,7 @@
 
 ghost use Rattle.std.specs.Prelude.{◌≡◌};
 ghost use Rattle.tomex_frames.specs.Cells.{address_cell, cycle_by, execute_cell, issue_cell, station_cell, took};
-ghost use Rattle.tomex_frames.specs.Cells.{unused, write_cell};
+ghost use Rattle.tomex_frames.specs.Cells.{unused_cell, write_cell};
 
 use std::fmt;
 use tomex_html::cell_start;

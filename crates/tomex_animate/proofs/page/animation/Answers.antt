@@ -4,9 +4,7 @@ use Rattle.tomex_animate.proofs.page.animation.Goals as goal
 
 pub returns : goal.returns
 returns g c = record {
-  text = animated c.args.study.now c.args.program.now.name c.args.number c.args.config.now _ c.steps-steps.result.now _
-      c.as_slice.result.now c.args.first c.args.count c.total-total.result c.in_ok-page.page _ c.as_slice-3.result.now
-      c.stretch.result.now _ c.steps-steps.ensures.steps c.in_ok-times.ensures.exact c.as_slice.ensures.value
+  text = animated c.steps-steps.ensures.steps c.in_ok-times.ensures.exact c.as_slice.ensures.value
       c.total-total.ensures c.in_ok-page.ensures.page c.requires.first c.requires.count c.in_ok-entries.ensures
       c.as_slice-3.ensures.value c.stretch.ensures (rw c.name.ensures.value at c.in_ok-page_text.ensures);
   refused = tt;

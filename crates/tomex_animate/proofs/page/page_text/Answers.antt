@@ -7,5 +7,5 @@ pub returns : goal.returns
 returns g c =
     let views = c.args.views.now in
     page_is c.args.study.now c.args.program.now c.args.number views.config.now views.page views.total views.entries.now
-    _ _ _ _ _ c.new-text.ensures.bytes c.in_ok-push_page_head.ensures c.in_ok-push_views.ensures
+    c.new-text.ensures.bytes c.in_ok-push_page_head.ensures c.in_ok-push_views.ensures
     c.in_ok-push_page_foot.ensures (ap (λ v. v.items) c.into_bytes.ensures.value)

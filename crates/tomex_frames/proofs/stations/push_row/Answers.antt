@@ -1,11 +1,12 @@
 -- One piece after the other.
 use Rattle.std.proofs.lemmas.Result.{on_ok_weaker}
 use Rattle.tomex_frames.specs.Stations.{station_row}
-use Rattle.tomex_snapshots.proofs.Lists.{three_pieces}
+use Rattle.tomex_csv_text.proofs.Pieces.{◌▸◌, last_piece}
 use Rattle.tomex_frames.proofs.stations.push_row.Goals as goal
 
 pub returns : goal.returns
 unfolding station_row
 returns g c =
-    on_ok_weaker c.write-2.result (λ last. three_pieces _ _ _ _ _ _ _ c.in_ok-write.ensures.bytes
-    (rw c.all_columns.ensures at c.in_ok-push_fields.ensures) last) c.write-2.ensures.bytes
+    on_ok_weaker c.write-2.result (λ last.
+    (c.in_ok-write.ensures.bytes ▸ (rw c.all_columns.ensures at c.in_ok-push_fields.ensures) ▸ last_piece last).is)
+    c.write-2.ensures.bytes
