@@ -163,14 +163,14 @@ module _ (symbols : List Symbol) (ss : List Step) (fs : List (Option Symbol)) (i
   turn_same call = calls_same symbols ss i s below (sym (is s) ∙ call)
 
 -- the code's test is the definition's: the step comes after another one
-pub call_is : (symbols : List Symbol) (ss : List Step) (fs : List (Option Symbol)) (i : ℕ) (d s t : Step)
-    (f g : Option Symbol)
+pub call_is : (symbols : List Symbol) (ss : List Step) {fs : List (Option Symbol)} (i : ℕ) (d : Step) {s t : Step}
+    {f g : Option Symbol}
     → fs ≡ map (function_of symbols) ss → i < length ss → 0 < i
     → s ≡ get_or ss i s → t ≡ get_or ss (i - 1) t → f ≡ get_or fs i None → g ≡ get_or fs (i - 1) None
     → begins s.pc f ≡ true
     → (is_jump t.instr.op && (is_some (step_dest t) || not (key_of g == key_of f)))
     ≡ is_call symbols (before_at None i ss) (get_or ss i d)
-call_is symbols ss fs i d s t f g are l some step before own earlier begun =
+call_is symbols ss i d {s = s} {t = t} {f = f} {g = g} are l some step before own earlier begun =
     let a : get_or ss i d ≡ s = get_or_default ss i d s l ∙ sym step in
     let b : before_at None i ss ≡ Some t =
     before_is ss i t some l ∙ ap (λ (x : Step). Some x) (sym before) in

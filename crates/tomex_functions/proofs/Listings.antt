@@ -97,10 +97,10 @@ rows_are symbols calls visits tally made sorted is ordered are moved order =
 pub first_of : (P : Group → Type 0) (x : Group) (left rest : List Group) → left ≡ x ∷ rest → All P left → P x
 first_of P x left rest is all = All-head P x rest (subst (λ (xs : List Group). All P xs) is all)
 
-pub rows_next : (f : Group → Row) (P : Group → Type 0) (x : Group) (left rest : List Group) (old new whole : List Row)
-    (row : Row) → left ≡ x ∷ rest → All P left → old ++ map f left ≡ whole → row ≡ f x → new ≡ old ++ row ∷ []
-    → All P rest × (new ++ map f rest ≡ whole)
-rows_next f P x left rest old new whole row is all so_far own grown = (
+pub rows_next : (f : Group → Row) (P : Group → Type 0) {x : Group} {left rest : List Group} (old : List Row)
+    {new whole : List Row} {row : Row} → left ≡ x ∷ rest → All P left → old ++ map f left ≡ whole → row ≡ f x
+    → new ≡ old ++ row ∷ [] → All P rest × (new ++ map f rest ≡ whole)
+rows_next f P {x = x} {left = left} {rest = rest} old {row = row} is all so_far own grown = (
   All-tail P x rest (subst (λ (xs : List Group). All P xs) is all),
   ap (λ (rs : List Row). rs ++ map f rest) grown
       ∙ (append_assoc old (row ∷ []) (map f rest)

@@ -88,10 +88,10 @@ report_by_place file symbols config made steps counted text are same is ordered 
     ordered (subst (λ (ss : List Symbol). text ≡ report_of_counted file ss counted) are written)
 
 -- of the places to come, one more is written
-pub places_next : (f : Group → List ℕ) (P : Group → Type 0) (x : Group) (left rest : List Group)
-    (before after whole piece : List ℕ) → left ≡ x ∷ rest → All P left → before ++ flat_map f left ≡ whole
+pub places_next : (f : Group → List ℕ) (P : Group → Type 0) {x : Group} {left rest : List Group}
+    (before : List ℕ) {after whole piece : List ℕ} → left ≡ x ∷ rest → All P left → before ++ flat_map f left ≡ whole
     → piece ≡ f x → after ≡ before ++ piece → All P rest × (after ++ flat_map f rest ≡ whole)
-places_next f P x left rest before after whole piece is all so_far own put = (
+places_next f P {x = x} {left = left} {rest = rest} before {after = after} {whole = whole} is all so_far own put = (
   All-tail P x rest (subst (λ (xs : List Group). All P xs) is all),
   one_put f x left rest before after whole is so_far (put ∙ ap (λ (p : List ℕ). before ++ p) own),
 )

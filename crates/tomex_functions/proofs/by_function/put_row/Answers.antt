@@ -1,6 +1,5 @@
 -- The record's fields are those of the row.
-use Rattle.tomex_run_views.proofs.Written.{record_put}
 use Rattle.tomex_functions.proofs.by_function.put_row.Goals as goal
 
 pub returns-clause-text : goal.returns-clause-text
-returns-clause-text g c = record_put _ _ _ _ _ c.in_ok-fill_row.ensures c.put_record.ensures.text
+returns-clause-text g c = rw c.in_ok-fill_row.ensures at c.put_record.ensures.text

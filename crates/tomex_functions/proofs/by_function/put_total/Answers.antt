@@ -2,7 +2,6 @@
 use Rattle.std.proofs.Common.{◌∙◌, ap, ℕ, List, [], ◌∷◌, ◌++◌, codes}
 use Rattle.std.specs.Fmt.{decimal}
 use Rattle.tomex_run_views.specs.Tally.{fields_of_sum}
-use Rattle.tomex_run_views.proofs.Written.{record_put}
 use Rattle.tomex_functions.proofs.by_function.put_total.Goals as goal
 
 pub returns : goal.returns
@@ -13,4 +12,4 @@ returns g c =
     ∙ ap (λ (f : List (List ℕ)). f ++ decimal c.args.listing.now.calls ∷ []) names in
     let all = c.in_ok-push_sum.ensures.fields
     ∙ ap (λ (f : List (List ℕ)). f ++ fields_of_sum c.args.listing.now.total) calls in
-    record_put _ _ _ _ _ all c.put_record.ensures.text
+    rw all at c.put_record.ensures.text

@@ -28,7 +28,7 @@ loop-place-preserved g c = record {
       let own = first_of (λ place. HasAddress place.first.pc steps) c.in-Some.place.now _ _ c.in-Some.ensures.steps
       before.0 in
       places_next (λ place. record_text (place_fields c.args.file.now symbols place))
-      (λ place. HasAddress place.first.pc steps) c.in-Some.place.now _ _ _ _ _ _ c.in-Some.ensures.steps before.0
+      (λ place. HasAddress place.first.pc steps) _ c.in-Some.ensures.steps before.0
       before.1
       (ap (λ (f : Option Symbol). record_text (with_function c.args.file.now c.in-Some.place.now f))
       (c.function_at-function.ensures symbols steps is own)) c.in_ok-put_place.ensures.text;

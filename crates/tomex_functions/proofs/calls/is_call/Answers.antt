@@ -6,6 +6,5 @@ use Rattle.tomex_functions.proofs.calls.is_call.Goals as goal
 pub returns : goal.returns
 returns c = λ symbols d are.
     c.leads_to_call.ensures
-    ∙ call_is symbols c.args.steps.now c.args.functions.now c.args.index d c.index-steps-index.result
-    c.index-steps-index-2.result _ _ are c.requires.place (omega arith) c.index-steps-index.is
+    ∙ call_is symbols c.args.steps.now c.args.index d are c.requires.place (omega arith) c.index-steps-index.is
     c.index-steps-index-2.is refl refl (search rules)

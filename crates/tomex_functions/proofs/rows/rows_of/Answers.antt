@@ -24,6 +24,6 @@ loop-group-preserved g c = record {
       let own = first_of (λ group. HasAddress group.first.pc steps) c.in-Some.group.now _ _ c.in-Some.ensures.steps
       before.0 in
       rows_next (row_of_group symbols (calls_in symbols steps)) (λ group. HasAddress group.first.pc steps)
-      c.in-Some.group.now _ _ _ _ _ c.row_of.result c.in-Some.ensures.steps before.0 before.1
+      _ c.in-Some.ensures.steps before.0 before.1
       (c.row_of.ensures symbols steps is calls own) c.in_ok-push.ensures.items;
 }
