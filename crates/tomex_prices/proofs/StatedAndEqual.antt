@@ -113,8 +113,8 @@ interval_any : (s : DesignSpace) (price : Price) (t : ℕ) (r : PricedRow) → r
     × (most (amount price s.prices) r (rows_with s price) ≡ GREATEST_PRICE)
 interval_any s price t r own each =
     let paid = is_paid price s.prices t 0 s.rows (cycles_of s) each in (
-      least_any (amount price s.prices) t r (rows_with s price) own payments,
-      most_any (amount price s.prices) t r (rows_with s price) own payments,
+      least_any (amount price s.prices) t r (rows_with s price) own paid,
+      most_any (amount price s.prices) t r (rows_with s price) own paid,
     )
 
 equally_often : (price : Price) (cs : List Configuration) → is_relevant cs price ≡ false → (t : ℕ) × EachPays price t cs
