@@ -40,10 +40,10 @@ unfolding IsFirstIn
 none_is_in text refusals i past so_far = so_far None (rw (drop_all i refusals past) refl)
 
 -- the line of one more item
-pub line_more : {X : Type 0} (f : X → List ℕ) (xs : List X) (i : ℕ) (x d : X) (before after whole : List ℕ)
-    → i < length xs → x ≡ get_or xs i d → after ≡ before ++ f x → before ++ flat_map f (drop i xs) ≡ whole
-    → after ++ flat_map f (drop (i + 1) xs) ≡ whole
-line_more f xs i x d before after whole within is grown so_far =
+pub line_more : {X : Type 0} (f : X → List ℕ) (xs : List X) (i : ℕ) {x : X} (d : X) (before : List ℕ)
+    {after whole : List ℕ} → i < length xs → x ≡ get_or xs i d → after ≡ before ++ f x
+    → before ++ flat_map f (drop i xs) ≡ whole → after ++ flat_map f (drop (i + 1) xs) ≡ whole
+line_more f xs i {x} d before within is grown so_far =
     rw (add-one, grown) (append_assoc before (f x) (flat_map f (drop (suc i) xs))
     ∙ (ap (λ ys. before ++ flat_map f ys) (sym (next_item xs i x d within is)) ∙ so_far))
 

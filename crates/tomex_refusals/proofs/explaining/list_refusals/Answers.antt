@@ -11,5 +11,5 @@ loop-refusal-init g c = ap (λ (text : List ℕ). text ++ flat_map line_of all_r
 
 pub loop-refusal-preserved : goal.loop-refusal-preserved
 loop-refusal-preserved g c =
-    line_more line_of all_refusals c.loop-refusal.refusal-index _ _ _ _ _ c.loop-refusal-test.true refl
+    line_more line_of all_refusals c.loop-refusal.refusal-index _ _ c.loop-refusal-test.true refl
     c.in_ok-push_line.ensures c.loop-refusal.invariant
