@@ -91,9 +91,9 @@ swept_first sorted pc = record {
   last_begins = refl;
 }
 
-pub swept_later : (sorted : List Symbol) (k : ℕ) (nested : List Symbol) (label : Option Symbol) (latest p q : ℕ)
+pub swept_later : {sorted : List Symbol} {k : ℕ} {nested : List Symbol} {label : Option Symbol} {latest p : ℕ} (q : ℕ)
     → IsSwept sorted k nested label latest p → p ≤ q → IsSwept sorted k nested label latest q
-swept_later sorted k nested label latest p q h l = record {
+swept_later {p} q h l = record {
   within = h.within;
   begins = All-weaker (λ s. s.address ≤ p) (λ s. s.address ≤ q) (λ s m. omega arith) _ h.begins;
   nested_begins = All-weaker (λ s. s.address ≤ p) (λ s. s.address ≤ q) (λ s m. omega arith) _ h.nested_begins;

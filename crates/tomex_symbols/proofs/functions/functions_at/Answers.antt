@@ -12,7 +12,7 @@ function_at-requires-clause-numbered g c =
 
 pub loop-pc-preserved : goal.loop-pc-preserved
 loop-pc-preserved g c = record {
-  swept = λ l. swept_later _ _ _ _ _ _ (get_or c.args.addresses.now (c.loop-pc.pc-index + 1) 0)
+  swept = λ l. swept_later (get_or c.args.addresses.now (c.loop-pc.pc-index + 1) 0)
       (rw c.as_slice.ensures.value at c.in_ok-function_at.ensures.swept)
       (c.requires.rise c.loop-pc.pc-index (c.loop-pc.pc-index + 1) 0 (omega arith) l);
   items = c.in_ok-push.ensures.items
