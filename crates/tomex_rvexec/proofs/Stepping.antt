@@ -14,13 +14,14 @@ pub goes_on : (n k : ℕ) (s t : State) (x : Step) → k < n → coming_of s ≡
     → steps_from (n - k) s ≡ x ∷ steps_from (n - (k + 1)) t
 goes_on n k s t x h c g = let e : n - k ≡ suc (n - (k + 1)) = omega arith in rw (e, c, g) refl
 
-pub ends_here : (n k : ℕ) (s : State) (x : Step) (kind : EndKind) → k < n → coming_of s ≡ Some x → step_of s ≡ Ends kind
+pub ends_here : (n k : ℕ) (s : State) {x : Step} {kind : EndKind} → k < n → coming_of s ≡ Some x → step_of s ≡ Ends kind
     → steps_from (n - k) s ≡ x ∷ []
-ends_here n k s x kind h c g = let e : n - k ≡ suc (n - (k + 1)) = omega arith in rw (e, c, g) refl
+ends_here n k s h c g = let e : n - k ≡ suc (n - (k + 1)) = omega arith in rw (e, c, g) refl
 
-pub kept : (n k : ℕ) (xs : List Step) (s t : State) (x : Step) (all : List Step) → k < n → coming_of s ≡ Some x
-    → step_of s ≡ Goes t → xs ++ steps_from (n - k) s ≡ all → (xs ++ x ∷ []) ++ steps_from (n - (k + 1)) t ≡ all
-kept n k xs s t x all h c g e =
+pub kept : (n k : ℕ) (xs : List Step) (s : State) {t : State} {x : Step} {all : List Step} → k < n
+    → coming_of s ≡ Some x → step_of s ≡ Goes t → xs ++ steps_from (n - k) s ≡ all
+    → (xs ++ x ∷ []) ++ steps_from (n - (k + 1)) t ≡ all
+kept n k xs s {t} {x} h c g e =
     append_assoc xs (x ∷ []) (steps_from (n - (k + 1)) t) ∙ (ap (λ r. xs ++ r) (sym (goes_on n k s t x h c g)) ∙ e)
 
 pub next_goes : (o : Outcome) (old new : State) (r : Stepped) → r ≡ Next → Answers o old (Ok r) new → o ≡ Goes new

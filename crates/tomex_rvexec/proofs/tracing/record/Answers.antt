@@ -11,7 +11,7 @@ returns-in-Ended-clause-ok g c =
     let r = c.in-Ok.ensures.ok in
     let end = ended_ends _ _ c.record_step.new.self _ _ c.in-Ended.is r.1 in
     c.in_ok-push.ensures.items ∙ (ap (λ rest. c.loop-done.steps.items ++ rest)
-    (sym (ends_here _ _ _ _ _ c.loop-done-test.true r.0 end)) ∙ c.loop-done.invariant.steps)
+    (sym (ends_here _ _ _ c.loop-done-test.true r.0 end)) ∙ c.loop-done.invariant.steps)
 
 pub returns-in-Ended-clause-few : goal.returns-in-Ended-clause-few
 returns-in-Ended-clause-few g c =
@@ -61,5 +61,5 @@ loop-done-preserved g c =
     record {
       leads = leads_on _ _ _ _ c.loop-done.invariant.leads next;
       count = rw (p, ← c.loop-done.invariant.count) (length_push c.loop-done.steps.items c.in-Ok.done.0);
-      steps = rw p (kept _ _ _ _ _ _ _ c.loop-done-test.true r.0 next c.loop-done.invariant.steps);
+      steps = rw p (kept _ _ _ _ c.loop-done-test.true r.0 next c.loop-done.invariant.steps);
     }
