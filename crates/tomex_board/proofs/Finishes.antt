@@ -10,9 +10,9 @@ use Rattle.tomex_board.specs.Views.{after_closing, after_seeing}
 use Rattle.tomex_board.specs.Finishing.{IsFinishing}
 
 -- a band of floors and a cost as the code reads them
-pub band_read : (read floors : List ℕ) (x cost k : ℕ) → read ≡ floors → x ≡ cost → IsBandOf read x k
+pub band_read : {read floors : List ℕ} {x cost : ℕ} (k : ℕ) → read ≡ floors → x ≡ cost → IsBandOf read x k
     → IsBandOf floors cost k
-band_read read floors x cost k at is band =
+band_read {read} {cost} k at is band =
     subst (λ (l : List ℕ). IsBandOf l cost k) at (subst (λ (z : ℕ). IsBandOf read z k) is band)
 
 -- no floor as the code reads it is as high as the cost
@@ -29,10 +29,10 @@ one_band floors cost j k a b = dite (dec_le (j + 1) k)
     (λ no. dite (dec_le (k + 1) j) (λ more. let p = a.2 k (omega arith) in let q = b.1 in
     absurd (omega arith)) (λ neither. omega arith))
 
-pub in_its_band : (floors : List ℕ) (cost i y k : ℕ) (v u w : View) → IsBandOf floors cost k
+pub in_its_band : {floors : List ℕ} {cost i y : ℕ} (k : ℕ) {v u w : View} → IsBandOf floors cost k
     → u ≡ after_closing i (Finished y) v → (found : ℕ) × (w ≡ after_seeing k (min found (band_word y i)) u)
     → IsFinishing floors cost i y v w
-in_its_band floors cost i y k v u w band closed seen = record {
+in_its_band {floors} {cost} {i} {y} k {v} {w} band closed seen = record {
   published = λ j b. subst (λ (z : ℕ). (found : ℕ)
       × (w ≡ after_seeing z (min found (band_word y i)) (after_closing i (Finished y) v)))
       (one_band floors cost k j band b)
@@ -40,10 +40,10 @@ in_its_band floors cost i y k v u w band closed seen = record {
   unpublished = λ none. absurd (none k band);
 }
 
-pub in_no_band : (floors : List ℕ) (cost i y : ℕ) (v w : View)
+pub in_no_band : {floors : List ℕ} {cost i y : ℕ} {v w : View}
     → ((k : ℕ) → k < length floors → get_or floors k 0 < cost) → w ≡ after_closing i (Finished y) v
     → IsFinishing floors cost i y v w
-in_no_band floors cost i y v w dear closed = record {
+in_no_band dear closed = record {
   published = λ j b. let p = dear j b.0 in let q = b.1 in absurd (omega arith);
   unpublished = λ none. closed;
 }

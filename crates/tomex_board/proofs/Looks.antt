@@ -174,10 +174,9 @@ sees_none floors cost v = record { found = []; bands = refl; bests = refl }
 pub stays : (v : View) → Grows v v
 stays v = record { noted = λ i h. h; marks = λ i m h. h; bests = λ k. omega arith }
 
-pub none_so_far : (costs cycles floors : List ℕ) (cost : ℕ) (v : View)
+pub none_so_far : {costs cycles floors : List ℕ} {cost : ℕ} {v : View}
     → IsLeastSoFar costs cycles floors cost 0 v nothing_yet
-none_so_far costs cycles floors cost v =
-    record { below = λ k h fit. absurd (omega arith); one = inl refl; bound = λ ne. absurd (ne refl) }
+none_so_far = record { below = λ k h fit. absurd (omega arith); one = inl refl; bound = λ ne. absurd (ne refl) }
 
 -- a bound names its word
 pub its_word : (w : ℕ) (b : Bound) → b ≡ bound_of w → band_word b.cycles b.row ≡ w

@@ -13,7 +13,7 @@ pub publish-requires-clause-band : goal.publish-requires-clause-band
 publish-requires-clause-band g c = let costs = g.J.Plan.costs in
     let i = c.self.invariant in let n = ap (λ (l : List ℕ). length l) i.6 in
     let cost = get_or_read c.self.inside.costs.items _ _ (omega arith) c.index.ensures 0 in
-    band_read _ _ _ _ _ (c.deref.ensures.value ∙ i.7) (cost ∙ ap (λ (l : List ℕ). get_or l c.args.i 0) i.6)
+    band_read _ (c.deref.ensures.value ∙ i.7) (cost ∙ ap (λ (l : List ℕ). get_or l c.args.i 0) i.6)
     c.in-Some.ensures.some
 
 pub publish-requires-clause-noted : goal.publish-requires-clause-noted
@@ -24,16 +24,16 @@ returns-in-Some-clause-steps g c = let costs = g.J.Plan.costs in
     let i = c.self.invariant in let n = ap (λ (l : List ℕ). length l) i.6 in
     let cost = get_or_read c.self.inside.costs.items _ _ (omega arith) c.index.ensures 0 in
     let band : IsBandOf (floors_of costs) (slice_index costs c.args.i) c.in-Some.k =
-    band_read _ _ _ _ _ (c.deref.ensures.value ∙ i.7) (cost ∙ ap (λ (l : List ℕ). get_or l c.args.i 0) i.6)
+    band_read _ (c.deref.ensures.value ∙ i.7) (cost ∙ ap (λ (l : List ℕ). get_or l c.args.i 0) i.6)
     c.in-Some.ensures.some in
-    in_its_band _ _ _ _ _ _ _ _ band c.mark_finished.ensures.view c.publish.ensures.view
+    in_its_band _ band c.mark_finished.ensures.view c.publish.ensures.view
 
 pub returns-in-Some-clause-published : goal.returns-in-Some-clause-published
 returns-in-Some-clause-published g c = let costs = g.J.Plan.costs in
     let i = c.self.invariant in let n = ap (λ (l : List ℕ). length l) i.6 in
     let cost = get_or_read c.self.inside.costs.items _ _ (omega arith) c.index.ensures 0 in
     let band : IsBandOf (floors_of costs) (slice_index costs c.args.i) c.in-Some.k =
-    band_read _ _ _ _ _ (c.deref.ensures.value ∙ i.7) (cost ∙ ap (λ (l : List ℕ). get_or l c.args.i 0) i.6)
+    band_read _ (c.deref.ensures.value ∙ i.7) (cost ∙ ap (λ (l : List ℕ). get_or l c.args.i 0) i.6)
     c.in-Some.ensures.some in
     λ k other. subst (λ (z : ℕ). best z c.publish.new.seat.view ≤ band_word c.args.cycles c.args.i)
     (one_band (floors_of costs) (slice_index costs c.args.i) c.in-Some.k k band other) c.publish.ensures.best
@@ -43,7 +43,7 @@ returns-in-Some-clause-others g c = let costs = g.J.Plan.costs in
     let i = c.self.invariant in let n = ap (λ (l : List ℕ). length l) i.6 in
     let cost = get_or_read c.self.inside.costs.items _ _ (omega arith) c.index.ensures 0 in
     let band : IsBandOf (floors_of costs) (slice_index costs c.args.i) c.in-Some.k =
-    band_read _ _ _ _ _ (c.deref.ensures.value ∙ i.7) (cost ∙ ap (λ (l : List ℕ). get_or l c.args.i 0) i.6)
+    band_read _ (c.deref.ensures.value ∙ i.7) (cost ∙ ap (λ (l : List ℕ). get_or l c.args.i 0) i.6)
     c.in-Some.ensures.some in
     λ k no. c.publish.ensures.others k
     (λ (e : k ≡ c.in-Some.k). no (subst (IsBandOf (floors_of costs) (slice_index costs c.args.i)) (sym e) band))
@@ -74,7 +74,7 @@ returns-in_default-clause-steps g c = let i = c.self.invariant in let n = ap (λ
     let cost = get_or_read c.self.inside.costs.items _ _ (omega arith) c.index.ensures 0 in
     let dear = none_read _ _ _ _ (c.deref.ensures.value ∙ i.7)
     (cost ∙ ap (λ (l : List ℕ). get_or l c.args.i 0) i.6) c.in_default.ensures.none in
-    in_no_band _ _ _ _ _ _ dear c.mark_finished.ensures.view
+    in_no_band dear c.mark_finished.ensures.view
 
 pub returns-in_default-clause-published : goal.returns-in_default-clause-published
 returns-in_default-clause-published g c = let i = c.self.invariant in

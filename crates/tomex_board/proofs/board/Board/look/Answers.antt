@@ -7,7 +7,7 @@ use Rattle.tomex_board.proofs.Looks.{are_empty, is_least, its_word, none_so_far,
 use Rattle.tomex_board.proofs.board.Board.look.Goals as goal
 
 pub loop-k-init : goal.loop-k-init
-loop-k-init g c = (refl, refl, refl, stays _, sees_none _ _ _, none_so_far _ _ _ _ _)
+loop-k-init g c = (refl, refl, refl, stays _, sees_none _ _ _, none_so_far)
 
 pub loop-k-preserved : goal.loop-k-preserved
 loop-k-preserved g c = let before = c.loop-k.invariant in let now = c.least_with-least.ensures in (
