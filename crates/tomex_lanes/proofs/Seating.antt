@@ -85,9 +85,9 @@ first_two : (n : ℕ) (share : List ℕ) → n + 2 ≤ 32 → share ≡ range_wi
     → share ≡ range_with_len n (suc (suc (30 - n)))
 first_two n share fit is = let as_two : 32 - n ≡ suc (suc (30 - n)) = omega arith in is ∙ ap (range_with_len n) as_two
 
-pub can_split : (board : TableId) (all : List Dealt) (own : Known) (workers : List Equipped) (lanes : List Dealt)
-    (next : ℕ) → IsDealing board all own workers lanes next → next < length all → HasTwo own.view.share
-can_split board all own workers lanes next was low =
+pub can_split : {board : TableId} {all : List Dealt} {own : Known} {workers : List Equipped} {lanes : List Dealt}
+    {next : ℕ} → IsDealing board all own workers lanes next → next < length all → HasTwo own.view.share
+can_split {own} {workers} was low =
     let count = was.count in
     let few = was.few in
     subst HasTwo (sym (first_two (length workers) own.view.share (omega arith) was.share))
@@ -130,13 +130,13 @@ one_lane_more workers w lanes rest all is was =
     ∙ (append_assoc (lanes_of workers) (w.lane ∷ []) rest ∙ (ap (λ l. lanes_of workers ++ l) (sym is) ∙ was))
 
 -- one more seat is split off
-pub next_dealt : (board : TableId) (all : List Dealt) (own kept given : Known) (workers more : List Equipped)
-    (lanes rest : List Dealt) (lane : Dealt) (next : ℕ) → IsDealing board all own workers lanes next → next < length all
-    → lanes ≡ lane ∷ rest
-    → kept.board ≡ board → given.board ≡ board → kept.view ≡ kept_view own.view → given.view ≡ given_view own.view
-    → more ≡ workers ++ record { lane = lane; seat = given } ∷ []
+pub next_dealt : {board : TableId} {all : List Dealt} {own kept given : Known} {workers more : List Equipped}
+    {lanes rest : List Dealt} {lane : Dealt} {next : ℕ} → IsDealing board all own workers lanes next → next < length all
+    → lanes ≡ lane ∷ rest → kept.board ≡ board → given.board ≡ board → kept.view ≡ kept_view own.view
+    → given.view ≡ given_view own.view → more ≡ workers ++ record { lane = lane; seat = given } ∷ []
     → IsDealing board all kept more rest (next + 1)
-next_dealt board all own kept given workers more lanes rest lane next was low is at mine keeps gives pushed =
+next_dealt {board} {all} {own} {kept} {given} {workers} {lanes} {rest} {lane} {next} was low is at mine keeps gives
+    pushed =
     let w : Equipped = record { lane = lane; seat = given } in
     let long : length lanes ≡ suc (length rest) = ap length is in
     let count = was.count in

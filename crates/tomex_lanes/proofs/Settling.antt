@@ -81,12 +81,11 @@ part_board board count seat mine part parts rest was is same =
     (subst (All (λ (p : Returned). p.seat.board ≡ board)) is was.boards)
 
 -- one more part is joined
-pub next_joined : (board : TableId) (count : ℕ) (seat mine new : Known) (part : Returned) (parts rest : List Returned)
-    → IsJoined board count seat parts → parts ≡ part ∷ rest
-    → mine ≡ part.seat → All (KnowsNotOpen mine.view) part.rows → new.board ≡ board
-    → new.view ≡ joined_view seat.view mine.view → Grows seat.view new.view → Grows mine.view new.view
-    → IsJoined board count new rest
-next_joined board count seat mine new part parts rest was is same noted at view first second =
+pub next_joined : {board : TableId} {count : ℕ} {seat mine new : Known} {part : Returned} {parts rest : List Returned}
+    → IsJoined board count seat parts → parts ≡ part ∷ rest → mine ≡ part.seat → All (KnowsNotOpen mine.view) part.rows
+    → new.board ≡ board → new.view ≡ joined_view seat.view mine.view → Grows seat.view new.view
+    → Grows mine.view new.view → IsJoined board count new rest
+next_joined {board} {seat} {mine} {new} {part} {rest} was is same noted at view first second =
     let share : mine.view.share ≡ part.seat.view.share = ap (λ (k : Known). k.view.share) same in
     let joined : new.view.share ≡ seat.view.share ++ part.seat.view.share = ap (λ (v : View). v.share) view
     ∙ ap (λ l. seat.view.share ++ l) share in

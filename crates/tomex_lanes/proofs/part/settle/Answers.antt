@@ -28,8 +28,7 @@ join-whole-requires-clause-board g c = (
 
 pub loop-part-preserved : goal.loop-part-preserved
 loop-part-preserved g c =
-    next_joined _ _ c.loop-part.whole c.into_seat.result c.join-whole.result c.in-Some-part.part _ _
-    c.loop-part.invariant c.in-Some-part.ensures.steps.0 c.into_seat.ensures.seat c.into_seat.ensures.noted
+    next_joined c.loop-part.invariant c.in-Some-part.ensures.steps.0 c.into_seat.ensures.seat c.into_seat.ensures.noted
     c.join-whole.ensures.board c.join-whole.ensures.view c.join-whole.ensures.grown.0 c.join-whole.ensures.grown.1
 
 pub returns-clause-closed : goal.returns-clause-closed

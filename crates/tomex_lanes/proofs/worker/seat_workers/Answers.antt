@@ -15,17 +15,15 @@ pub split-kept-requires-clause-two : goal.split-kept-requires-clause-two
 split-kept-requires-clause-two g c =
     let long : c.len-count.result ≡ length c.args.lanes.items = let e = c.len-count.ensures in search rules in
     let low : c.loop.counter < c.len-count.result = c.loop-test.true in
-    can_split _ _ _ _ _ _ c.loop.invariant (omega arith)
+    can_split c.loop.invariant (omega arith)
 
 pub loop-preserved : goal.loop-preserved
 loop-preserved g c =
     let long : c.len-count.result ≡ length c.args.lanes.items = let e = c.len-count.ensures in search rules in
     let low : c.loop.counter < c.len-count.result = c.loop-test.true in
     let below : c.loop.counter < length c.args.lanes.items = omega arith in
-    next_dealt _ _ c.loop.own c.split-kept.result.0 c.split-kept.result.1 c.loop.workers.items c.push.new.self.items _ _
-    c.in-Some.lane _ c.loop.invariant below c.in-Some.ensures.items
-    c.split-kept.ensures.board.0 c.split-kept.ensures.board.1 c.split-kept.ensures.views.0 c.split-kept.ensures.views.1
-    c.in_ok-push.ensures.items
+    next_dealt c.loop.invariant below c.in-Some.ensures.items c.split-kept.ensures.board.0 c.split-kept.ensures.board.1
+    c.split-kept.ensures.views.0 c.split-kept.ensures.views.1 c.in_ok-push.ensures.items
 
 pub returns-clause-seats : goal.returns-clause-seats
 returns-clause-seats g c =
