@@ -50,25 +50,23 @@ each_more read front (w ∷ vs) (suc index) v x whole within is given so_far =
     each_more read front vs index v x whole (omega (arith, within)) is given so_far
 
 -- the same, as a loop counts
-pub each_next : {X : Type 0} (read : Data → Reading X) (front after : List X) (vs : List Value) (index : ℕ) (v : Value)
-    (x : X) (whole : Reading (List X))
-    → index < length vs → v ≡ get_or vs index v → read (view v) ≡ Ok x → after ≡ front ++ x ∷ []
-    → with_front front (each read (items_view (drop index vs))) ≡ whole
+pub each_next : {X : Type 0} (read : Data → Reading X) (front : List X) {after : List X} (vs : List Value) (index : ℕ)
+    {v : Value} {x : X} {whole : Reading (List X)} → index < length vs → v ≡ get_or vs index v → read (view v) ≡ Ok x
+    → after ≡ front ++ x ∷ [] → with_front front (each read (items_view (drop index vs))) ≡ whole
     → with_front after (each read (items_view (drop (index + 1) vs))) ≡ whole
-each_next read front after vs index v x whole within is given grown so_far =
+each_next read front vs index {v} {x} {whole} within is given grown so_far =
     rw (add-one, grown) (each_more read front vs index v x whole within is given so_far)
 
 -- the fault of one is the fault of all
-pub each_fault : {X : Type 0} (read : Data → Reading X) (front : List X) (vs : List Value) (index : ℕ) (v : Value)
-    (error : DocumentError) (whole : Reading (List X))
-    → index < length vs → v ≡ get_or vs index v → read (view v) ≡ Err error
-    → with_front front (each read (items_view (drop index vs))) ≡ whole → whole ≡ Err error
-each_fault read front [] index v error whole within is fault so_far = absurd (omega (arith, within))
-each_fault read front (w ∷ vs) zero v error whole within is fault so_far =
+pub each_fault : {X : Type 0} (read : Data → Reading X) (front : List X) (vs : List Value) (index : ℕ) {v : Value}
+    {error : DocumentError} {whole : Reading (List X)} → index < length vs → v ≡ get_or vs index v
+    → read (view v) ≡ Err error → with_front front (each read (items_view (drop index vs))) ≡ whole → whole ≡ Err error
+each_fault read front [] index within is fault so_far = absurd (omega (arith, within))
+each_fault read front (w ∷ vs) zero {error} within is fault so_far =
     let here : read (view w) ≡ Err error = rw is at fault in
     sym (rw here at so_far)
-each_fault read front (w ∷ vs) (suc index) v error whole within is fault so_far =
-    each_fault read front vs index v error whole (omega (arith, within)) is fault so_far
+each_fault read front (w ∷ vs) (suc index) {v} {error} {whole} within is fault so_far =
+    each_fault read front vs index (omega (arith, within)) is fault so_far
 
 -- at the end the front is all
 pub each_end : {X : Type 0} (read : Data → Reading X) (front : List X) (vs : List Value) (index : ℕ)

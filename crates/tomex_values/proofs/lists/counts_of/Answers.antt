@@ -9,7 +9,7 @@ pub returns-in_err-count : goal.returns-in_err-count
 returns-in_err-count g c =
     let p = err_from_is_err_and c.from_residual.result c.from_residual.ensures.1 in
     let fault = sym (rw (c.between.ensures, c.from.ensures) at c.in_err-count.ensures.read) in
-    rw (p.1, p.2) (λ other. each_fault (number_of c.args.place c.args.key (between 1 c.args.most)) _ _ _ _ _ _
+    rw (p.1, p.2) (λ other. each_fault (number_of c.args.place c.args.key (between 1 c.args.most)) _ _ _
     c.loop-value-test.true c.value-item.is fault c.loop-value.invariant)
 
 pub returns : goal.returns
