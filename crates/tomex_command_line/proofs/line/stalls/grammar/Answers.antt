@@ -7,6 +7,6 @@ use Rattle.tomex_command_line.proofs.line.stalls.grammar.Goals as goal
 
 pub returns : goal.returns
 returns c =
-    let four = taken _ _ _ _ _ c.with_argument-command.ensures c.on_one_run-command.ensures c.flag.ensures.rule in
-    let five = taken _ _ _ _ _ c.with_argument.ensures four c.flag-2.ensures.rule in
+    let four = taken _ _ _ c.with_argument-command.ensures c.on_one_run-command.ensures c.flag.ensures.rule in
+    let five = taken _ _ _ c.with_argument.ensures four c.flag-2.ensures.rule in
     IfOk-weaker c.with_argument.result _ _ (λ made is. ap (λ (a : App). a.top) is) five
