@@ -76,11 +76,11 @@ all_fit window len entry segments (h ∷ hs) passed fit =
     at_header false e p = fit
 
 -- a header h that was read and fails after the segments held, with `count - k` headers of the table left
-pub fails_next : (window : Span) (bytes : List ℕ) (entry place count k : ℕ) (segments held : List ProgramHeader)
-    (h : ProgramHeader) (e : ImageError) → k < count
-    → held ≡ segments → h ≡ header_at bytes place → first_failing (header_tests window (length bytes) held h) ≡ Some e
+pub fails_next : (window : Span) (bytes : List ℕ) (entry place count k : ℕ) {segments held : List ProgramHeader}
+    {h : ProgramHeader} {e : ImageError} → k < count → held ≡ segments → h ≡ header_at bytes place
+    → first_failing (header_tests window (length bytes) held h) ≡ Some e
     → first_failing (tests_from window (length bytes) entry segments (headers_from bytes place (count - k))) ≡ Some e
-fails_next window bytes entry place count k segments held h e more same read fails =
+fails_next window bytes entry place count k {segments} {held} {e} more same read fails =
     let at_segments = ap (λ (xs : List ProgramHeader). first_failing
     (header_tests window (length bytes) xs (header_at bytes place))) same in
     let at_header = ap (λ (x : ProgramHeader). first_failing (header_tests window (length bytes) held x)) read in

@@ -5,8 +5,8 @@ use Rattle.tomex_image.proofs.elf.executable.segments_in.Goals as goal
 
 pub returns-in-Some-clause-err : goal.returns-in-Some-clause-err
 returns-in-Some-clause-err c = rw c.loop-k.invariant.tests
-    (fails_next _ _ _ _ _ _ _ _ _ _ c.loop-k-test.true c.as_slice.ensures.value c.read_program_header-header.ensures
-    (sym c.header_refusal.ensures ∙ c.in-Some.is))
+    (fails_next _ c.args.bytes.now _ c.loop-k.offset _ _ c.loop-k-test.true c.as_slice.ensures.value
+    c.read_program_header-header.ensures (sym c.header_refusal.ensures ∙ c.in-Some.is))
 
 pub returns-clause-passed : goal.returns-clause-passed
 returns-clause-passed c = search rules fits 100
