@@ -12,10 +12,10 @@ take-then_take w k xs =
     rw (take_all (length xs - w) (drop w xs) short) (sym (take-add w k xs))
 
 -- two growths are one
-pub appends_both : (old mid new : Option (List ℕ)) (xs ys zs : List ℕ) → xs ++ ys ≡ zs → Appends old mid xs
+pub appends_both : (old mid new : Option (List ℕ)) (xs ys : List ℕ) {zs : List ℕ} → xs ++ ys ≡ zs → Appends old mid xs
     → Appends mid new ys → Appends old new zs
-appends_both None mid new xs ys zs e a b = tt
-appends_both (Some bytes) None new xs ys zs e a b = absurd a
-appends_both (Some bytes) (Some more) None xs ys zs e a b = absurd b
-appends_both (Some bytes) (Some more) (Some most) xs ys zs e a b = b ∙ ap (λ t. t ++ ys) a ∙ append_assoc bytes xs ys
+appends_both None mid new xs ys e a b = tt
+appends_both (Some bytes) None new xs ys e a b = absurd a
+appends_both (Some bytes) (Some more) None xs ys e a b = absurd b
+appends_both (Some bytes) (Some more) (Some most) xs ys e a b = b ∙ ap (λ t. t ++ ys) a ∙ append_assoc bytes xs ys
     ∙ ap (λ t. bytes ++ t) e

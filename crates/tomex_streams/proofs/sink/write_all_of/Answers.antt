@@ -8,7 +8,8 @@ loop-written-preserved g c =
     let before = c.loop-written.invariant in
     record {
       within = search rules;
-      took = appends_both _ _ _ _ _ _ (take-then_take _ _ _) before.took c.in-Ok.ensures.ok;
+      took = appends_both _ (g.W.Sink.seen c.loop-written.sink).taken _ _ _ (take-then_take _ _ _) before.took
+          c.in-Ok.ensures.ok;
       fine = c.in-Ok.ensures.fine (λ none. absurd (c.in-Ok.count-test.1 none)) ∙ before.fine;
     }
 
