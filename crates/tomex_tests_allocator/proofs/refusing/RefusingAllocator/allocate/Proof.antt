@@ -70,7 +70,7 @@ allocate_spec 𝓤 𝓛 𝓜 𝓡 wired row laws ghosts dict drops met _ =
     use1 𝓛 (‵ (seen Z κ at it) ⊛ ‵ (sees κ b)) (lends_fields Z 𝓛 κ κ' a.0) $ split ! $
     keep ! (1 ∷ 3 ∷ 0 ∷ 4 ∷ []) $
     -- [the budget; the lifetime's token; the inner allocator; the other lifetime's token]
-    enter ! _ _ _ _ _ $ alloc_all !
+    enter ! _ _ (body Z) _ _ $ alloc_all !
     (λ l. pass_all ! refl ((tt, tt), ((tt, record { fits = are.1.0.1 }), ((tt, record { fits = are.1.1.0.1 }), tt)))
     $
     sets ! (addr ! (through ! refl (fld ! refl (stop !)))) refl (tt, tt) $

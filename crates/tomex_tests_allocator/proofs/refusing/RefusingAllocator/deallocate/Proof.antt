@@ -78,7 +78,7 @@ deallocate_spec 𝓤 𝓛 𝓜 𝓡 wired row laws ghosts dict drops met _ =
     use1 𝓛 (‵ (seen Z κ at it) ⊛ ‵ (sees κ (budget_of Z a.0))) (lends_fields Z 𝓛 κ κ' a.0) $ split ! $
     keep ! (5 ∷ 6 ∷ 0 ∷ 3 ∷ 4 ∷ []) $
     -- [the block; its token; the inner allocator; the lifetime's token; the other lifetime's token]
-    enter ! _ _ _ _ _ $ alloc_all !
+    enter ! _ _ (body Z) _ _ $ alloc_all !
     (λ l. pass_all ! refl (
       (tt, tt),
       ((tt, tt), ((tt, record { fits = are.1.1.0.1 }), ((tt, record { fits = are.1.1.1.0.1 }), tt))),
