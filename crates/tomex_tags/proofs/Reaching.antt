@@ -32,8 +32,7 @@ pub heard_filled : (sent : ℕ → Option ℕ) (pools : List (List (Option Stati
     busy issue_numbers wait_sets listeners
 heard_filled sent pools busy x issue_numbers listeners d old wait_sets filled l waited others =
     let here = at_place pools x d filled.six l in
-    rw here (filled_by pools busy busy issue_numbers issue_numbers x d
-    (option_map (hears sent) (slice_index_or (slots_of pools) x None)) old wait_sets listeners listeners filled l
+    rw here (filled_by busy issue_numbers d listeners filled l
     filled.filled.order_count filled.filled.small
     (said_same busy x (option_map (hears sent) (slice_index_or (slots_of pools) x None))
     (filled.filled.each x (omega arith) ∙ busy_still (slice_index_or (slots_of pools) x None)))

@@ -140,9 +140,9 @@ least_open slots busy taken p n issue_numbers pool filled e l low in_pool here l
   λ i less. rw (open_is slots busy taken i p issue_numbers pool filled e l (omega arith) in_pool, least i less) refl,
 )
 
-pub none_before : (slots : List (Option Station)) (busy taken p least count : ℕ) (issue_numbers : List ℕ)
-    (pool : PoolId) → AreBusy slots busy issue_numbers → p ≡ place_of_pool pool → p < 6 → least ≤ 16
-    → ((x : ℕ) → x < 16 → has taken x ≡ has busy (16 * p + x)) → ((i : ℕ) → i < least → has taken i ≡ true)
+pub none_before : {slots : List (Option Station)} {busy : ℕ} (taken : ℕ) {p : ℕ} (least count : ℕ)
+    {issue_numbers : List ℕ} (pool : PoolId) → AreBusy slots busy issue_numbers → p ≡ place_of_pool pool → p < 6
+    → least ≤ 16 → ((x : ℕ) → x < 16 → has taken x ≡ has busy (16 * p + x)) → ((i : ℕ) → i < least → has taken i ≡ true)
     → count ≤ least → (n : ℕ) → n < count → is_open slots pool n ≡ false
-none_before slots busy taken p least count issue_numbers pool filled e l few in_pool none high n less =
+none_before {slots} {busy} taken {p} least count {issue_numbers} pool filled e l few in_pool none high n less =
     rw (open_is slots busy taken n p issue_numbers pool filled e l (omega arith) in_pool, none n (omega arith)) refl

@@ -95,13 +95,12 @@ changed_in change pools x d six l =
     ∙ ap (λ (o : Option Station). slice_set (slots_of pools) x (option_map change o)) (at_place pools x d six l)
 
 -- a place is filled, and becomes a member of the busy ones
-pub filled_by : (pools : List Pool) (busy new : ℕ) (issue_numbers later : List ℕ) (x : ℕ) (d : Pool)
-    (v : Option Station) (old wait_sets : WaitSets) (listeners more : List ℕ)
+pub filled_by : {pools : List Pool} {busy : ℕ} (new : ℕ) {issue_numbers : List ℕ} (later : List ℕ) {x : ℕ} (d : Pool)
+    {v : Option Station} {old wait_sets : WaitSets} {listeners : List ℕ} (more : List ℕ)
     → AreFilled pools busy issue_numbers old listeners → x < 96 → length later ≡ 128 → new < 2 ^ 128
     → ((y : ℕ) → y < 128 → has new y ≡ (if x == y then is_some v else has busy y)) → HasEntered x v old wait_sets
     → IsOwn x v → Listens x v listeners more → AreFilled (set_in pools x d v) new later wait_sets more
-filled_by pools busy new issue_numbers later x d v old wait_sets listeners more filled l count small said entered own
-    listens =
+filled_by {pools} new later {x} d {v} {old} {wait_sets} {listeners} more filled l count small said entered own listens =
     let six = filled.six in
     let places : length (slots_of pools) ≡ 96 = filled.filled.places in
     let pool_count : length pools ≡ 6 = six.count in
@@ -161,12 +160,12 @@ no_station x l = elim (cases_order x 96) [
   | inr (inr more) ↦ get_or_past (slots_of idle_pools) x None (omega arith)
 ]
 
-pub idle_filled : (a b c d e f : Pool) (issue_numbers listeners : List ℕ) → a ≡ replicate 16 None
+pub idle_filled : {a b c d e f : Pool} (issue_numbers : List ℕ) {listeners : List ℕ} → a ≡ replicate 16 None
     → b ≡ replicate 16 None → c ≡ replicate 16 None → d ≡ replicate 16 None → e ≡ replicate 16 None
     → f ≡ replicate 16 None → length issue_numbers ≡ 128 → listeners ≡ replicate 96 0
     → AreFilled (a ∷ b ∷ c ∷ d ∷ e ∷ f ∷ []) 0 issue_numbers (record { lacking = 0; waiting = 0; writing = 0 })
     listeners
-idle_filled a b c d e f issue_numbers listeners ea eb ec ed ee ef count none = rw (ea, eb, ec, ed, ee, ef, none)
+idle_filled issue_numbers ea eb ec ed ee ef count none = rw (ea, eb, ec, ed, ee, ef, none)
     (record {
       six = record { count = refl; sizes = (refl, (refl, (refl, (refl, (refl, (refl, tt)))))) };
       own = λ x l. rw (no_station x (omega arith)) tt;

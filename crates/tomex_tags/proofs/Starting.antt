@@ -11,13 +11,13 @@ use Rattle.tomex_tags.proofs.Entering.{start_entered}
 use Rattle.tomex_tags.proofs.Listening.{own_here, same_listens}
 use Rattle.tomex_tags.proofs.Slots.{at_place, filled_by, said_same, set_in}
 
-pub starts_filled : (pools : List (List (Option Station))) (busy x finish value : ℕ) (issue_numbers listeners : List ℕ)
-    (d : List (Option Station)) (old wait_sets : WaitSets) → AreFilled pools busy issue_numbers old listeners → x < 96
-    → IsSome (slice_index_or (slots_of pools) x None)
+pub starts_filled : {pools : List (List (Option Station))} {busy : ℕ} (x finish value : ℕ)
+    {issue_numbers listeners : List ℕ} (d : List (Option Station)) {old wait_sets : WaitSets}
+    → AreFilled pools busy issue_numbers old listeners → x < 96 → IsSome (slice_index_or (slots_of pools) x None)
     → IsWithMember x false old.waiting wait_sets.waiting → KeepsOthers old wait_sets
     → AreFilled (set_in pools x d (option_map (with_start finish value)
     (slice_index_or (get_or pools (x / 16) d) (x % 16) None))) busy issue_numbers wait_sets listeners
-starts_filled pools busy x finish value issue_numbers listeners d old wait_sets filled l some waits others =
+starts_filled {pools} {busy} x finish value {issue_numbers} {listeners} d {old} {wait_sets} filled l some waits others =
     of (slice_index_or (slots_of pools) x None) refl
   where
     of : (o : Option Station) → slice_index_or (slots_of pools) x None ≡ o
@@ -27,8 +27,7 @@ starts_filled pools busy x finish value issue_numbers listeners d old wait_sets 
     of (Some s) e =
         let here : slice_index_or (get_or pools (x / 16) d) (x % 16) None ≡ Some s = at_place pools x d filled.six l
         ∙ e in
-        rw here (filled_by pools busy busy issue_numbers issue_numbers x d (Some (with_start finish value s)) old
-        wait_sets listeners listeners filled l filled.filled.order_count filled.filled.small
+        rw here (filled_by busy issue_numbers d listeners filled l filled.filled.order_count filled.filled.small
         (said_same busy x (Some (with_start finish value s)) (filled.filled.each x (omega arith) ∙ ap is_some e))
         (start_entered (slots_of pools) x finish value s old wait_sets (omega arith) filled.wait_sets e waits others)
         (own_here (slots_of pools) x s l filled.own e)

@@ -15,10 +15,8 @@ invariant_of-self c =
       c.address.ensures,
       at_place c.self.inside.pools c.args.place c.index-self-place.result c.self.invariant.six low
           ∙ at,
-    ) (filled_by c.self.inside.pools c.self.inside.busy c.self.inside.busy c.self.inside.issue_numbers
-    c.self.inside.issue_numbers c.args.place c.index-self-place.result (Some (with_address c.in-Some.station))
-    c.self.inside.wait_sets c.address-in-Some.new.self c.self.inside.listeners.sets c.self.inside.listeners.sets
-    c.self.invariant low c.self.invariant.filled.order_count c.self.invariant.filled.small
+    ) (filled_by c.self.inside.busy c.self.inside.issue_numbers c.index-self-place.result
+    c.self.inside.listeners.sets c.self.invariant low c.self.invariant.filled.order_count c.self.invariant.filled.small
     (said_same c.self.inside.busy c.args.place (Some (with_address c.in-Some.station))
     (c.self.invariant.filled.each c.args.place (omega arith) ∙ ap is_some at))
     (address_entered _ c.args.place c.in-Some.station (with_address c.in-Some.station) c.self.inside.wait_sets

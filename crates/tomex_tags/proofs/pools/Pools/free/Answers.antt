@@ -15,7 +15,6 @@ returns-then-number-count-clause-some c =
 
 pub returns-else-number-count-clause-none : goal.returns-else-number-count-clause-none
 returns-else-number-count-clause-none c =
-    rw (← c.self.view_is) (none_before _ c.self.inside.busy c.in_group.result c.place.result
-    c.least_absent-number.result c.args.count c.self.inside.issue_numbers c.args.pool c.self.invariant.filled
-    c.place.ensures.place c.place.ensures.few c.least_absent-number.ensures.below c.in_group.ensures
-    c.least_absent-number.ensures.least (omega (arith, c.if-number-count.false)))
+    rw (← c.self.view_is) (none_before c.in_group.result c.least_absent-number.result c.args.count c.args.pool
+    c.self.invariant.filled c.place.ensures.place c.place.ensures.few c.least_absent-number.ensures.below
+    c.in_group.ensures c.least_absent-number.ensures.least (omega (arith, c.if-number-count.false)))

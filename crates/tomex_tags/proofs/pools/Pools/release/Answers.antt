@@ -1,14 +1,12 @@
-use Rattle.std.proofs.Common.{None}
 use Rattle.tomex_tags.proofs.Listening.{none_listens}
 use Rattle.tomex_tags.proofs.Slots.{filled_by, set_place, said_without}
 use Rattle.tomex_tags.proofs.pools.Pools.release.Goals as goal
 
 pub invariant_of-self : goal.invariant_of-self
 invariant_of-self c = rw c.put.ensures
-    (filled_by c.self.inside.pools c.self.inside.busy c.without-self-inside.result c.self.inside.issue_numbers
-    c.self.inside.issue_numbers c.args.place c.index-self-place.result None c.self.inside.wait_sets c.clear.new.self
-    c.self.inside.listeners.sets c.self.inside.listeners.sets c.self.invariant c.requires
-    c.self.invariant.filled.order_count c.without-self-inside.type_inv
+    (filled_by c.without-self-inside.result c.self.inside.issue_numbers c.index-self-place.result
+    c.self.inside.listeners.sets c.self.invariant c.requires c.self.invariant.filled.order_count
+    c.without-self-inside.type_inv
     (said_without c.self.inside.busy c.without-self-inside.result c.args.place c.without-self-inside.ensures.others)
     c.clear.ensures tt (none_listens c.args.place c.self.inside.listeners.sets))
 

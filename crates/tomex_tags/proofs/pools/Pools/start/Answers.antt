@@ -6,10 +6,9 @@ use Rattle.tomex_tags.proofs.pools.Pools.start.Goals as goal
 
 pub invariant_of-self : goal.invariant_of-self
 invariant_of-self c = rw c.start.ensures
-    (starts_filled c.self.inside.pools c.self.inside.busy c.args.place c.args.finish c.args.value
-    c.self.inside.issue_numbers c.self.inside.listeners.sets c.index-self-place.result c.self.inside.wait_sets
-    c.stop_waiting.new.self c.self.invariant c.if-place-lt96.true (rw (← c.self.view_is) at c.requires)
-    c.stop_waiting.ensures.waiting c.stop_waiting.ensures.others)
+    (starts_filled c.args.place c.args.finish c.args.value c.index-self-place.result c.self.invariant
+    c.if-place-lt96.true (rw (← c.self.view_is) at c.requires) c.stop_waiting.ensures.waiting
+    c.stop_waiting.ensures.others)
 
 pub returns-then-place-lt96 : goal.returns-then-place-lt96
 returns-then-place-lt96 c = record {

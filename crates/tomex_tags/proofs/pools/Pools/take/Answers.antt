@@ -6,9 +6,8 @@ use Rattle.tomex_tags.proofs.pools.Pools.take.Goals as goal
 
 pub invariant_of-self : goal.invariant_of-self
 invariant_of-self c = rw c.put.ensures
-    (filled_by c.self.inside.pools c.self.inside.busy c.with-self-inside.result c.self.inside.issue_numbers _
-    c.args.place c.index-self-place.result (Some c.args.station) c.self.inside.wait_sets c.enter.new.self
-    c.self.inside.listeners.sets c.add-2.new.self.sets c.self.invariant c.requires.place
+    (filled_by c.with-self-inside.result _ c.index-self-place.result c.add-2.new.self.sets c.self.invariant
+    c.requires.place
     (length-set c.self.inside.issue_numbers c.args.place c.args.issue_number ∙ c.self.invariant.filled.order_count)
     c.with-self-inside.type_inv
     (said_with c.self.inside.busy c.with-self-inside.result c.args.place (Some c.args.station) refl
