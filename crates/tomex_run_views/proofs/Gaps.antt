@@ -192,14 +192,14 @@ history_next config ss i s l step =
     ∙ history_more config (take i ss) s
 
 -- one step more: its issue, and the greatest end
-pub drain_turn : (config : Configuration) (ss : List Step) (i : ℕ) (s : Step) (w none : Waits)
-    (issue end gap work later : ℕ)
-    → IsWithinLimits config → i < length ss → s ≡ get_or ss i s → w ≡ get_or (waits_in config ss) i none
-    → issue ≡ last_issue (history config (take i ss)) → end ≡ greatest_end (history config (take i ss))
-    → gap ≡ cycles_by (more_at i) w → work ≡ cycles_under_way config s w → later ≡ max (issue + gap + work) end
+pub drain_turn : (config : Configuration) (ss : List Step) (i : ℕ) {s : Step} {w : Waits} (none : Waits)
+    {issue end gap work later : ℕ} → IsWithinLimits config → i < length ss → s ≡ get_or ss i s
+    → w ≡ get_or (waits_in config ss) i none → issue ≡ last_issue (history config (take i ss))
+    → end ≡ greatest_end (history config (take i ss)) → gap ≡ cycles_by (more_at i) w
+    → work ≡ cycles_under_way config s w → later ≡ max (issue + gap + work) end
     → (issue + gap ≡ last_issue (history config (take (i + 1) ss)))
     × (later ≡ greatest_end (history config (take (i + 1) ss)))
-drain_turn config ss i s w none issue end gap work later good l step waits issued ended gap_by work_by max_by =
+drain_turn config ss i {s} {w} none {issue} {gap} {work} good l step waits issued ended gap_by work_by max_by =
     let h = history config (take i ss) in
     let timed : AreTimed config (history config (take i ss)) = are_timed config (take i ss) good in
     let next : AreTimed config (done config h s ∷ h) = (times_are config h s good timed, timed) in

@@ -40,14 +40,13 @@ next_line frame number zero (s ∷ ss) (t ∷ ts) step first at none within pair
 next_line frame number (suc index) (s ∷ ss) (t ∷ ts) step first at none within pairs step_is at_is =
     next_line frame number index ss ts step first at none (omega (arith, within)) (omega (arith, pairs)) step_is at_is
 
-pub line_more : (frame : Frame) (number index : ℕ) (steps : List Step) (times : List Times) (step first : Step)
-    (at none : Times)
-    (before after whole : List ℕ) → index < length steps → length times ≡ length steps
-    → step ≡ get_or steps index first → at ≡ get_or times index none → after ≡ before
-    ++ line_of frame (number + index) step at
+pub line_more : (frame : Frame) (number index : ℕ) (steps : List Step) (times : List Times) {step : Step} (first : Step)
+    {at : Times} (none : Times) (before : List ℕ) {after whole : List ℕ} → index < length steps
+    → length times ≡ length steps → step ≡ get_or steps index first → at ≡ get_or times index none
+    → after ≡ before ++ line_of frame (number + index) step at
     → before ++ lines_of frame (number + index) (drop index steps) (drop index times) ≡ whole
     → after ++ lines_of frame (number + (index + 1)) (drop (index + 1) steps) (drop (index + 1) times) ≡ whole
-line_more frame number index steps times step first at none before after whole within pairs step_is at_is grown so_far =
+line_more frame number index steps times {step} first {at} none before {after} within pairs step_is at_is grown so_far =
     let next : number + (index + 1) ≡ number + index + 1 = omega arith in
     let more : index + 1 ≡ suc index = omega arith in
     let line = line_of frame (number + index) step at in

@@ -111,40 +111,31 @@ same_key a b = go (eqb_tells a b)
     go (inr other) = apart (nat_cmp a b) refl other.1 ∙ sym other.0
 
 -- the sum of all after a turn
-pub all_more : (ss : List Step) (ws : List Waits) (i : ℕ) (s : Step) (w none : Waits) (old new : Sum) (n : ℕ)
-    → i < length ss → length ws ≡ length ss → s ≡ get_or ss i s → w ≡ get_or ws i none
-    → n ≡ cycles_by (more_at i) w → old ≡ sum_of (take i (visits_by 1 ss ws)) → new ≡ sum_after old n w
-    → new ≡ sum_of (take (i + 1) (visits_by 1 ss ws))
-all_more ss ws i s w none old new n within pairs step waits count was is =
-    rw (is, was, count, visits_more ss ws i s w none within pairs step waits)
-    (sym (sum_more (take i (visits_by 1 ss ws)) (visit (more_at i) s w)))
+pub all_more : (visits : List Visit) {later : List Visit} (more : ℕ) (s : Step) (w : Waits) {old new : Sum} {n : ℕ}
+    → later ≡ visits ++ visit more s w ∷ [] → n ≡ cycles_by more w → old ≡ sum_of visits → new ≡ sum_after old n w
+    → new ≡ sum_of later
+all_more visits more s w grown count was is = rw (is, was, count, grown) (sym (sum_more visits (visit more s w)))
 
 -- and what is kept of each key
-pub at_more : (key : Step → ℕ) (ss : List Step) (ws : List Waits) (i : ℕ) (s : Step) (w none : Waits) (k : ℕ)
-    (got had : Option Group) (now new : Group) (at n : ℕ)
-    → i < length ss → length ws ≡ length ss → s ≡ get_or ss i s → w ≡ get_or ws i none
-    → n ≡ cycles_by (more_at i) w → at ≡ key s
-    → got ≡ cond (is_eq (nat_cmp at k)) (Some new) had
-    → had ≡ group_of (visits_of key k (take i (visits_by 1 ss ws)))
-    → now ≡ before (group_of (visits_of key at (take i (visits_by 1 ss ws)))) s
-    → new ≡ record now { sum = sum_after now.sum n w }
-    → got ≡ group_of (visits_of key k (take (i + 1) (visits_by 1 ss ws)))
-at_more key ss ws i s w none k got had now new at n within pairs step waits count key_is is was kept grown =
-    let visits = take i (visits_by 1 ss ws) in
+pub at_more : (key : Step → ℕ) (visits : List Visit) {later : List Visit} (more : ℕ) (s : Step) (w : Waits) (k : ℕ)
+    {got had : Option Group} {now new : Group} {at n : ℕ}
+    → later ≡ visits ++ visit more s w ∷ [] → n ≡ cycles_by more w → at ≡ key s
+    → got ≡ cond (is_eq (nat_cmp at k)) (Some new) had → had ≡ group_of (visits_of key k visits)
+    → now ≡ before (group_of (visits_of key at visits)) s → new ≡ record now { sum = sum_after now.sum n w }
+    → got ≡ group_of (visits_of key k later)
+at_more key visits more s w k {had} {now} {new} {at} {n} grown count key_is is was kept made =
     is ∙ (ap (λ (b : Bool). cond b (Some new) had) (same_key at k)
     ∙ (go (at == k) refl ∙ (ap (λ (n : ℕ). cond (n == k)
-    (Some (group_after (group_of (visits_of key k (take i (visits_by 1 ss ws)))) (visit (more_at i) s w)))
-    (group_of (visits_of key k (take i (visits_by 1 ss ws))))) key_is
-    ∙ (sym (group_more_at key k visits (visit (more_at i) s w))
-    ∙ ap (λ (vs : List Visit). group_of (visits_of key k vs))
-    (sym (visits_more ss ws i s w none within pairs step waits))))))
+    (Some (group_after (group_of (visits_of key k visits)) (visit more s w)))
+    (group_of (visits_of key k visits))) key_is
+    ∙ (sym (group_more_at key k visits (visit more s w))
+    ∙ ap (λ (vs : List Visit). group_of (visits_of key k vs)) (sym grown)))))
   where
     go : (b : Bool) → (at == k) ≡ b
         → cond (at == k) (Some new) had
-        ≡ cond (at == k)
-        (Some (group_after (group_of (visits_of key k (take i (visits_by 1 ss ws)))) (visit (more_at i) s w)))
-        (group_of (visits_of key k (take i (visits_by 1 ss ws))))
-    go true e = rw (e, grown, count, kept, eqb-true at k e) refl
+        ≡ cond (at == k) (Some (group_after (group_of (visits_of key k visits)) (visit more s w)))
+        (group_of (visits_of key k visits))
+    go true e = rw (e, made, count, kept, eqb-true at k e) refl
     go false e = rw (e, was) refl
 
 -- the key of a step, among those of all steps

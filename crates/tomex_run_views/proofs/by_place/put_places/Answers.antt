@@ -9,6 +9,6 @@ loop-place-preserved g c = record {
   next = tt;
   finite = tt;
   ready = c.in_ok-put_place.ensures.ready;
-  text = one_put (λ place. record_text (place_fields place)) c.in-Some.place.now _ _ _ _ _ c.in-Some.ensures.steps
-      c.loop-place.invariant.text c.in_ok-put_place.ensures.text;
+  text = one_put (λ place. record_text (place_fields place)) c.in-Some.place.now c.loop-place.place-iterator _ _ _ _
+      c.in-Some.ensures.steps c.loop-place.invariant.text c.in_ok-put_place.ensures.text;
 }

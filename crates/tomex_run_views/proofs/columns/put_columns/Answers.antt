@@ -2,7 +2,6 @@
 use Rattle.std.proofs.Common.{◌≡◌, ◌∙◌, ap, map, ℕ, List, ◌++◌}
 use Rattle.csv.specs.Records.{fields_of}
 use Rattle.tomex_run_views.specs.ByPlace.{sum_columns}
-use Rattle.tomex_run_views.proofs.Written.{record_put}
 use Rattle.tomex_run_views.proofs.columns.put_columns.Goals as goal
 
 pub returns-clause-text : goal.returns-clause-text
@@ -12,4 +11,4 @@ returns-clause-text g c =
     ∙ ap (λ (f : List (List ℕ)). f ++ map (λ n. n.now) c.args.names.now) c.new-record.ensures.fields in
     let both : fields_of c.push_names-2.new.fields ≡ map (λ n. n.now) c.args.names.now ++ sum_columns =
     c.in_ok-push_names-2.ensures.fields ∙ ap (λ (f : List (List ℕ)). f ++ sum_columns) names in
-    record_put _ _ _ _ _ both c.put_record.ensures.text
+    rw both at c.put_record.ensures.text

@@ -56,9 +56,8 @@ overflow_add-issue-in-loop-index c =
 
 pub loop-index-preserved : goal.loop-index-preserved
 loop-index-preserved c =
-    let turn = drain_turn c.args.config.now c.args.steps.now c.loop-index.index c.index-steps-index.result _ no_waits
-    c.loop-index.issue c.loop-index.end c.cycles_of-issue.result c.cycles_under_way.result c.max-end.result
-    c.keeps_limits.ensures c.loop-index-test.true c.index-steps-index.is
+    let turn = drain_turn c.args.config.now c.args.steps.now c.loop-index.index no_waits c.keeps_limits.ensures
+    c.loop-index-test.true c.index-steps-index.is
     (ap (λ (ws : List Waits). get_or ws c.loop-index.index no_waits) c.requires.waits) c.loop-index.invariant.issue
     c.loop-index.invariant.end c.cycles_of-issue.ensures.value c.cycles_under_way.ensures.value c.max-end.ensures in
     record { issue = turn.0; end = turn.1 }

@@ -5,9 +5,9 @@ use Rattle.tomex_run_views.proofs.lines.push_lines.Goals as goal
 
 pub loop-index-preserved : goal.loop-index-preserved
 loop-index-preserved g c =
-    line_more c.args.frame.now c.args.number c.loop-index.index c.args.steps.now c.args.times.now _ _ _
-    (record { issue = 0; address = None; start = 0; finish = 0; end = 0; station = None }) _ _ _
-    c.loop-index-test.true c.requires.pairs c.index-steps-index.is refl c.in_ok-push_line.ensures c.loop-index.invariant
+    line_more c.args.frame.now c.args.number c.loop-index.index c.args.steps.now c.args.times.now _
+    (record { issue = 0; address = None; start = 0; finish = 0; end = 0; station = None }) _ c.loop-index-test.true
+    c.requires.pairs c.index-steps-index.is refl c.in_ok-push_line.ensures c.loop-index.invariant
 
 pub returns : goal.returns
 returns g c =

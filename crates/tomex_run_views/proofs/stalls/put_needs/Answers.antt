@@ -1,13 +1,11 @@
 -- One part of the report after the other.
 use Rattle.std.proofs.lemmas.Result.{on_ok_weaker}
+use Rattle.tomex_csv_text.proofs.Pieces.{◌▸◌, last_piece}
 use Rattle.tomex_floor.specs.Floor.{latency_of}
-use Rattle.tomex_run_views.proofs.Written.{four_joined}
 use Rattle.tomex_run_views.proofs.stalls.put_needs.Goals as goal
 
 pub returns : goal.returns
 returns g c =
-    on_ok_weaker c.put_floors.result
-    (λ last steps is.
-    four_joined _ _ _ _ _ _ _ _ _ c.in_ok-put_header.ensures.text c.in_ok-put_parts.ensures.text
-    c.in_ok-put_others.ensures.text (last (latency_of c.args.config.now) steps is))
-    c.put_floors.ensures
+    on_ok_weaker c.put_floors.result (λ last steps is.
+    (c.in_ok-put_header.ensures.text ▸ c.in_ok-put_parts.ensures.text ▸ c.in_ok-put_others.ensures.text
+    ▸ last_piece (last (latency_of c.args.config.now) steps is)).is) c.put_floors.ensures

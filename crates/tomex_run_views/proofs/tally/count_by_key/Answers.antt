@@ -1,6 +1,6 @@
 -- One visit more is counted with its key and in all.
 use Rattle.std.proofs.Common.{◌≡◌, ◌∙◌, ap, arith, sym, subst, refl, map, ℕ, ◌^◌, ◌<◌, ◌≤◌, get_or, cond, length, List}
-use Rattle.std.proofs.Common.{Option, Some}
+use Rattle.std.proofs.Common.{Option, Some, take}
 use Rattle.std.specs.Prelude.{unwrap_or}
 use Rattle.std.specs.Ordering.{is_eq, nat_cmp}
 use Rattle.std.proofs.lemmas.Grind.{common_steps}
@@ -10,9 +10,9 @@ use Rattle.tomex_timing.specs.declared.part.Waits.{Waits}
 use Rattle.tomex_run_views.specs.ByPlace.{Visit, visits_of}
 use Rattle.tomex_run_views.specs.declared.tally.Group.{Group}
 use Rattle.tomex_run_views.specs.declared.tally.Sum.{Sum}
-use Rattle.tomex_run_views.specs.Tally.{group_of, no_sum, sum_of}
+use Rattle.tomex_run_views.specs.Tally.{group_of, more_at, no_sum, sum_of, visits_by}
 use Rattle.tomex_run_views.proofs.Tallies.{AreSmall, all_more, at_more, before, key_there, small_group, small_so_far}
-use Rattle.tomex_run_views.proofs.Tallies.{weaker, whole}
+use Rattle.tomex_run_views.proofs.Tallies.{visits_more, weaker, whole}
 use Rattle.tomex_run_views.proofs.tally.count_by_key.Goals as goal
 
 -- what an entry has, by what the map had
@@ -62,25 +62,27 @@ add-requires-in-loop-index-clause-sum g c =
 
 pub loop-index-preserved : goal.loop-index-preserved
 loop-index-preserved g c =
+    let index = c.loop-index.index in
     let step = c.index-steps-index.result in
+    let waits = get_or c.args.waits.now index no_waits in
+    let visits = take index (visits_by 1 c.args.steps.now c.args.waits.now) in
+    let grown = visits_more c.args.steps.now c.args.waits.now index step waits no_waits c.loop-index-test.true
+    c.requires.pairs c.index-steps-index.is refl in
     record {
       groups = λ key are k.
-          let there = key_there key c.args.keys.now c.args.steps.now c.loop-index.index step are
-          c.loop-index-test.true c.index-steps-index.is in
+          let there = key_there key c.args.keys.now c.args.steps.now index step are c.loop-index-test.true
+          c.index-steps-index.is in
           let had = kept c.or_insert.result.now _ _ _ c.new.result step c.or_insert.ensures.value
           c.in_ok-groups.ensures.value (c.loop-index.invariant.groups key are _) c.new.ensures in
           grind (
             arith,
             common_steps,
-            at_more key c.args.steps.now c.args.waits.now c.loop-index.index step _ no_waits k _ _
-                c.or_insert.result.now c.add-in-loop-index.new.self _ _ c.loop-index-test.true c.requires.pairs
-                c.index-steps-index.is refl c.cycles_of-cycles.ensures.value there
+            at_more key visits (more_at index) step waits k grown c.cycles_of-cycles.ensures.value there
                 ((c.in_ok-groups.ensures.update.0 c.add-in-loop-index.new.self).0 k)
                 (c.loop-index.invariant.groups key are k) had c.add-in-loop-index.ensures,
           );
-      all = all_more c.args.steps.now c.args.waits.now c.loop-index.index step _ no_waits c.loop-index.all
-          c.add.new.self _ c.loop-index-test.true c.requires.pairs c.index-steps-index.is refl
-          c.cycles_of-cycles.ensures.value c.loop-index.invariant.all c.add.ensures;
+      all = all_more visits (more_at index) step waits grown c.cycles_of-cycles.ensures.value c.loop-index.invariant.all
+          c.add.ensures;
     }
 
 pub returns-clause-counted : goal.returns-clause-counted
