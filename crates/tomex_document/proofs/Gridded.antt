@@ -1,11 +1,11 @@
 -- The axes of a document span a grid.
-use Rattle.std.proofs.Common.{◌≡◌, ◌==◌, ◌&&◌, ℕ, Bool, true, false, List, [], ◌∷◌, length, Ok, refl, subst}
+use Rattle.std.proofs.Common.{◌≡◌, ◌&&◌, ℕ, Bool, true, false, List, [], ◌∷◌, Ok, refl, subst}
 use Rattle.std.proofs.lemmas.Bool.{and_from}
 use Rattle.std.specs.List.{list_all}
 use Rattle.toml.specs.Data.{Members}
 use Rattle.tomex_rvdec.specs.declared.pool.UnitId.TheVariants as units
 use Rattle.tomex_config.specs.Configuration.{is_between, is_option}
-use Rattle.tomex_config.specs.Grid.{Lists, has_zero, stations_in_range, options_in_range, rest_in_range, has_empty}
+use Rattle.tomex_config.specs.Grid.{Lists, stations_in_range, options_in_range, rest_in_range, has_empty}
 use Rattle.tomex_config.specs.Grid.{in_range}
 use Rattle.tomex_values.specs.declared.place.Key.TheVariants as key
 use Rattle.tomex_values.specs.declared.place.Place.TheVariants as place
@@ -105,14 +105,6 @@ all_six : (a b c d e f : Bool) → a ≡ true → b ≡ true → c ≡ true → 
     → (a && b && c && d && e && f) ≡ true
 all_six a b c d e f in_a in_b in_c in_d in_e in_f = rw (in_a, in_b, in_c, in_d, in_e, in_f) refl
 
--- none of the lengths is 0
-none_of : (a b c d e f g h i j k l m : ℕ) → (a == 0) ≡ false → (b == 0) ≡ false → (c == 0) ≡ false → (d == 0) ≡ false
-    → (e == 0) ≡ false → (f == 0) ≡ false → (g == 0) ≡ false → (h == 0) ≡ false → (i == 0) ≡ false → (j == 0) ≡ false
-    → (k == 0) ≡ false → (l == 0) ≡ false → (m == 0) ≡ false
-    → has_zero (a ∷ b ∷ c ∷ d ∷ e ∷ f ∷ g ∷ h ∷ i ∷ j ∷ k ∷ l ∷ m ∷ []) ≡ false
-none_of a b c d e f g h i j k l m no_a no_b no_c no_d no_e no_f no_g no_h no_i no_j no_k no_l no_m =
-    rw (no_a, no_b, no_c, no_d, no_e, no_f, no_g, no_h, no_i, no_j, no_k, no_l, no_m) refl
-
 -- such axes span a grid
 spans : (axes : Lists) → IsAxis (is_between 1 16) axes.alu → IsAxis (is_between 1 16) axes.mul
     → IsAxis (is_between 1 16) axes.div → IsAxis (is_between 1 16) axes.load → IsAxis (is_between 1 16) axes.store
@@ -121,11 +113,21 @@ spans : (axes : Lists) → IsAxis (is_between 1 16) axes.alu → IsAxis (is_betw
     → IsAxis (is_between 1 8) axes.buses → IsAxis (is_between 1 4) axes.width → AreAxes axes
 unfolding has_empty in_range
 spans axes alu mul div load store bru alu_units mul_units div_units mem_units bru_units buses width = record {
-  some = none_of (length axes.alu) (length axes.mul) (length axes.div) (length axes.load) (length axes.store)
-      (length axes.bru) (length axes.alu_units) (length axes.mul_units) (length axes.div_units) (length axes.mem_units)
-      (length axes.bru_units) (length axes.buses) (length axes.width)
-      alu.some mul.some div.some load.some store.some bru.some alu_units.some mul_units.some div_units.some
-      mem_units.some bru_units.some buses.some width.some;
+  some = rw (
+    alu.some,
+    mul.some,
+    div.some,
+    load.some,
+    store.some,
+    bru.some,
+    alu_units.some,
+    mul_units.some,
+    div_units.some,
+    mem_units.some,
+    bru_units.some,
+    buses.some,
+    width.some,
+  ) refl;
   within = and_from (stations_in_range axes) (options_in_range axes && rest_in_range axes)
       (all_six (list_all (is_between 1 16) axes.alu) (list_all (is_between 1 16) axes.mul)
       (list_all (is_between 1 16) axes.div) (list_all (is_between 1 16) axes.load)

@@ -7,19 +7,18 @@ use Rattle.tomex_values.specs.Readings.{Gives, Reading, ◌>>=◌}
 use Rattle.tomex_document.proofs.document.outline_of.Goals as goal
 
 -- the whole gives what the rest gives
-rest_gives : {X Y Z : Type 0} (view : Z → Y) (result : Reading Z) (reading : Reading X) (next : X → Reading Y) (x : X)
+rest_gives : {X Y Z : Type 0} (view : Z → Y) (result : Reading Z) {reading : Reading X} (next : X → Reading Y) {x : X}
     → reading ≡ Ok x → Gives view result (next x) → Gives view result (reading >>= next)
-rest_gives view result reading next x given rest = rw given rest
+rest_gives view result next given rest = rw given rest
 
 pub returns : goal.returns
 unfolding outline_of
 returns g c =
     let known = sym (rw c.as_slice.ensures at c.in_ok-known_keys.ensures) in
-    rest_gives _ _ _ _ _ known
-    (rest_gives _ _ _ _ _ c.in_ok-tables.ensures.read
-    (rest_gives _ _ _ _ _ c.in_ok-price_table.ensures
-    (rest_gives _ _ _ _ _ c.in_ok-axis_table.ensures
-    (rest_gives _ _ _ _ _ c.in_ok-unit.ensures c.outline_from.ensures))))
+    rest_gives _ _ _ known
+    (rest_gives _ _ _ c.in_ok-tables.ensures.read
+    (rest_gives _ _ _ c.in_ok-price_table.ensures
+    (rest_gives _ _ _ c.in_ok-axis_table.ensures (rest_gives _ _ _ c.in_ok-unit.ensures c.outline_from.ensures))))
 
 pub returns-in_err-tables : goal.returns-in_err-tables
 unfolding outline_of

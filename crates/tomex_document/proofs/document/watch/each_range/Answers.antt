@@ -10,12 +10,12 @@ use Rattle.tomex_document.proofs.document.watch.each_range.Goals as goal
 pub returns-in_err-range_of-clause-read : goal.returns-in_err-range_of-clause-read
 returns-in_err-range_of-clause-read g c =
     let p = err_from_is_err_and c.from_residual.result c.from_residual.ensures.1 in
-    rw (p.1, p.2) (λ other. each_fault (range_of c.args.place c.args.window) _ _ _ _ _ _ c.loop-value-test.true
+    rw (p.1, p.2) (λ other. each_fault (range_of c.args.place c.args.window) _ _ _ c.loop-value-test.true
     c.value-item.is (sym c.in_err-range_of.ensures.read) c.loop-value.invariant.0)
 
 pub loop-value-preserved : goal.loop-value-preserved
 loop-value-preserved g c = (
-  each_next (range_of c.args.place c.args.window) _ _ _ _ _ _ _ c.loop-value-test.true c.value-item.is
+  each_next (range_of c.args.place c.args.window) _ _ _ c.loop-value-test.true c.value-item.is
       (sym c.in_ok-range_of.ensures.read) c.in_ok-push.ensures.items c.loop-value.invariant.0,
   search rules,
   rw c.in_ok-push.ensures.items (All-push (λ r. is_watchable c.args.window r ≡ true) _ _ c.loop-value.invariant.2
