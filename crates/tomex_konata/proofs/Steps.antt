@@ -91,17 +91,17 @@ next_entry older (suc i) (x ∷ xs) (y ∷ ys) step s at t within pairs step_is 
     next_entry older i xs ys step s at t (omega (arith, within)) (omega (arith, pairs)) step_is at_is
 
 -- one more step
-pub one_gathered : (steps : List Step) (times : List Times) (i : ℕ) (before after : List Entry)
-    (writers behind : List (Option Producer))
-    (step s : Step) (at t : Times) (j k : Option Producer) → (g : AreGathered steps times i before writers)
-    → i < length steps → length times ≡ length steps → step ≡ get_or steps i s → at ≡ get_or times i t
-    → j ≡ writer_in writers (j_of step) → k ≡ writer_in writers (k_of step)
-    → ForSome (j_of step) (λ o. o.register < 32) → ForSome (k_of step) (λ o. o.register < 32)
+pub one_gathered : {steps : List Step} {times : List Times} {i : ℕ} {before after : List Entry}
+    {writers behind : List (Option Producer)} {step : Step} (s : Step) {at : Times} (t : Times) {j k : Option Producer}
+    → (g : AreGathered steps times i before writers) → i < length steps → length times ≡ length steps
+    → step ≡ get_or steps i s → at ≡ get_or times i t → j ≡ writer_in writers (j_of step)
+    → k ≡ writer_in writers (k_of step) → ForSome (j_of step) (λ o. o.register < 32)
+    → ForSome (k_of step) (λ o. o.register < 32)
     → behind ≡ writers_after writers (step_dest step) (record { id = i; end = at.end })
     → after ≡ before ++ record { id = i; step = step; at = at; j = j; k = k } ∷ []
     → AreGathered steps times (i + 1) after behind
-one_gathered steps times i before after writers behind step s at t j k g within pairs step_is at_is j_is k_is j_low
-    k_low noted_is grown =
+one_gathered {steps} {times} {i} {before} {writers} {step} s {at} t {j} {k} g within pairs step_is at_is j_is k_is
+    j_low k_low noted_is grown =
     let d : Done = record { step = step; at = at } in
     let rest = entries_from (d ∷ g.older) (drop (suc i) steps) (drop (suc i) times) in
     let entry : entry_of g.older d ≡ record { id = i; step = step; at = at; j = j; k = k } =
@@ -130,10 +130,10 @@ none_there older [] = refl
 none_there older (s ∷ ss) = refl
 
 -- after all of them
-pub all_gathered : (steps : List Step) (times : List Times) (count : ℕ) (entries : List Entry)
-    (writers : List (Option Producer))
-    → AreGathered steps times count entries writers → length steps ≤ count → entries ≡ entries_from [] steps times
-all_gathered steps times count entries writers g past =
+pub all_gathered : {steps : List Step} {times : List Times} {count : ℕ} {entries : List Entry}
+    {writers : List (Option Producer)} → AreGathered steps times count entries writers → length steps ≤ count
+    → entries ≡ entries_from [] steps times
+all_gathered {steps} {times} {count} {entries} g past =
     sym (append-nil entries) ∙ (ap (λ (es : List Entry). entries ++ es) (sym (none_left g.older count steps times past))
     ∙ g.text)
   where

@@ -13,13 +13,12 @@ pub loop-id-preserved : goal.loop-id-preserved
 loop-id-preserved g c =
     let j_low : ForSome c.j.result (λ o. o.register < 32) = search rules in
     let k_low : ForSome c.k.result (λ o. o.register < 32) = search rules in
-    one_gathered c.args.steps.now c.args.times.now c.loop-id.id c.loop-id.entries.items _ c.loop-id.writers.of _ _
-    c.index-steps-id.result
-    _ (record { issue = 0; address = None; start = 0; finish = 0; end = 0; station = None }) _ _ c.loop-id.invariant
+    one_gathered c.index-steps-id.result
+    (record { issue = 0; address = None; start = 0; finish = 0; end = 0; station = None }) c.loop-id.invariant
     c.loop-id-test.true c.requires.pairs c.index-steps-id.is refl
     (c.producer-j.ensures ∙ ap (writer_in c.loop-id.writers.of) c.j.ensures.value)
-    (c.producer-k.ensures ∙ ap (writer_in c.loop-id.writers.of) c.k.ensures.value)
-    (rw c.j.ensures.value at j_low) (rw c.k.ensures.value at k_low) c.note.ensures c.in_ok-push.ensures.items
+    (c.producer-k.ensures ∙ ap (writer_in c.loop-id.writers.of) c.k.ensures.value) (rw c.j.ensures.value at j_low)
+    (rw c.k.ensures.value at k_low) c.note.ensures c.in_ok-push.ensures.items
 
 pub returns : goal.returns
-returns g c = all_gathered _ _ _ _ _ c.loop-id.invariant c.loop-id-test.false
+returns g c = all_gathered c.loop-id.invariant c.loop-id-test.false
