@@ -259,13 +259,13 @@ pub record IsLearning (all : List Workload) (config : Configuration) (known : Li
   pub learnt : (k : ℕ) → k < place → IsLearntAt config k (slice_index_or known k None) old.lists now.lists
   pub rest : (k : ℕ) → place ≤ k → slice_get now.lists k ≡ slice_get old.lists k
 
-pub one_more_learnt : (programs : List Workload) (config : Configuration) (known : List (Option ℕ))
-    (old now new : KnowledgeOf) (place n : ℕ) (totals : List ℕ) → length programs ≤ 8 → place < length programs
+pub one_more_learnt : {programs : List Workload} {config : Configuration} {known : List (Option ℕ)}
+    {old now new : KnowledgeOf} {place : ℕ} (n : ℕ) {totals : List ℕ} → length programs ≤ 8 → place < length programs
     → IsLearning programs config known old now place totals → new.programs ≡ now.programs
     → IsTotalAt now.programs config place (Some n) → OnlyAt place now.lists new.lists
     → IsLearntAt config place (slice_index_or known place None) now.lists new.lists
     → IsLearning programs config known old new (place + 1) (set totals place n)
-one_more_learnt programs config known old now new place n totals few low is same total only learnt =
+one_more_learnt {programs} {config} {known} {old} {now} {new} {place} n {totals} few low is same total only learnt =
     let long : length totals ≡ 8 = is.long in
     record {
       programs = same ∙ is.programs;

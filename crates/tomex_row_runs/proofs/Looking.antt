@@ -29,12 +29,12 @@ one_counted programs totals made i cycles left t p before low at is = λ config 
     rw its (omega (arith, step, was))
 
 -- a program's part is small, and so is the count with it
-pub part_small : (programs : List Workload) (totals : List ℕ) (made i cycles left t : ℕ) (p : Workload)
+pub part_small : (programs : List Workload) {totals : List ℕ} (made i cycles left : ℕ) {t : ℕ} {p : Workload}
     (config : Configuration) → IsCounting programs totals made i cycles left → i < length programs
     → p ≡ get_or programs i p → t ≡ get_or totals i 0 → length programs ≤ 8 → All IsProgram programs
     → IsWithinLimits config → totals ≡ totals_on programs config
     → (p.weight * min left t ≤ 17563648000) × (cycles + p.weight * min left t ≤ 140509184000)
-part_small programs totals made i cycles left t p config before low at is few ends lawful same =
+part_small programs {totals} made i cycles left {t} {p} config before low at is few ends lawful same =
     let its : t ≡ total config p.image = is ∙ total_at programs config totals i p same low at in
     let step = weighed_step programs i p config left low at in
     let was = before config same in

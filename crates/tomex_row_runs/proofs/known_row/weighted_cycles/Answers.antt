@@ -16,16 +16,16 @@ bounds-totals-place g c =
 
 pub overflow_mul-cycles : goal.overflow_mul-cycles
 overflow_mul-cycles g c =
-    let w = part_small c.args.programs.now c.args.totals.now c.args.made c.loop-place.place c.loop-place.cycles
-    c.loop-place.left _ c.index-programs-place.result c.requires.totals.0 c.loop-place.invariant c.loop-place-test.true
-    c.index-programs-place.is refl c.requires.few c.requires.ends c.requires.totals.1 c.requires.totals.2 in
+    let w = part_small c.args.programs.now c.args.made c.loop-place.place c.loop-place.cycles c.loop-place.left
+    c.requires.totals.0 c.loop-place.invariant c.loop-place-test.true c.index-programs-place.is refl c.requires.few
+    c.requires.ends c.requires.totals.1 c.requires.totals.2 in
     rw (c.from.ensures, c.weight.ensures.value, c.min.ensures) (omega (arith, w.0))
 
 pub overflow_add-cycles : goal.overflow_add-cycles
 overflow_add-cycles g c =
-    let w = part_small c.args.programs.now c.args.totals.now c.args.made c.loop-place.place c.loop-place.cycles
-    c.loop-place.left _ c.index-programs-place.result c.requires.totals.0 c.loop-place.invariant c.loop-place-test.true
-    c.index-programs-place.is refl c.requires.few c.requires.ends c.requires.totals.1 c.requires.totals.2 in
+    let w = part_small c.args.programs.now c.args.made c.loop-place.place c.loop-place.cycles c.loop-place.left
+    c.requires.totals.0 c.loop-place.invariant c.loop-place-test.true c.index-programs-place.is refl c.requires.few
+    c.requires.ends c.requires.totals.1 c.requires.totals.2 in
     rw (c.from.ensures, c.weight.ensures.value, c.min.ensures) (omega (arith, w.1))
 
 pub loop-place-preserved : goal.loop-place-preserved

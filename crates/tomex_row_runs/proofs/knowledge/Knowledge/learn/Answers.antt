@@ -9,10 +9,8 @@ loop-place-preserved g c =
     let is : IsKnowledge c.args.self.now.programs c.args.self.now.lists = rw (← c.self.view_is) c.self.invariant in
     let low : c.loop-place.place < length c.args.self.now.programs =
     subst (λ (k : KnowledgeOf). c.loop-place.place < length k.programs) c.self.view_is c.loop-place-test.true in
-    one_more_learnt c.args.self.now.programs c.args.config.now c.args.known c.args.self.now c.loop-place.self
-    c.total_of.new.self c.loop-place.place c.in_ok-totals.field-0 c.loop-place.totals is.few low
-    c.loop-place.invariant c.total_of.ensures.programs c.in_ok-totals.ensures.total c.total_of.ensures.others
-    c.in_ok-totals.ensures.learnt
+    one_more_learnt c.in_ok-totals.field-0 is.few low c.loop-place.invariant c.total_of.ensures.programs
+    c.in_ok-totals.ensures.total c.total_of.ensures.others c.in_ok-totals.ensures.learnt
 
 pub returns-clause-totals : goal.returns-clause-totals
 returns-clause-totals g c =
