@@ -54,12 +54,11 @@ one_more place (e ∷ es) [] programs entry file program entry_is file_is older 
 
 -- the first program that is refused, unless out of memory
 pub first_refusal : (place : ℕ) (entries : List ProgramEntry) (files : List (List ℕ)) (programs : List Workload)
-    (entry : ProgramEntry) (file : List ℕ) (error : StudyError)
-    → slice_get entries place ≡ Some entry → slice_get files place ≡ Some file
-    → AreProgramsOf (take place entries) (take place files) programs
+    {entry : ProgramEntry} {file : List ℕ} {error : StudyError} → slice_get entries place ≡ Some entry
+    → slice_get files place ≡ Some file → AreProgramsOf (take place entries) (take place files) programs
     → (error ≡ Memory) ⊎ IsFileRefusal entry file error → (error ≡ Memory) ⊎ IsFirstRefusal entries files error
-first_refusal place entries files programs entry file error entry_is file_is older (inl memory) = inl memory
-first_refusal place entries files programs entry file error entry_is file_is older (inr refusal) =
+first_refusal place entries files programs entry_is file_is older (inl memory) = inl memory
+first_refusal place entries files programs {entry} {file} entry_is file_is older (inr refusal) =
     inr (record {
       place = place;
       programs = programs;
@@ -72,13 +71,12 @@ first_refusal place entries files programs entry file error entry_is file_is old
     })
 
 -- the same for the file at a place, and for the programs after a push
-pub pushed : (place : ℕ) (entries : List ProgramEntry) (files : List (List ℕ)) (programs after : List Workload)
-    (entry : ProgramEntry) (file : List ℕ) (program : Workload)
+pub pushed : (place : ℕ) (entries : List ProgramEntry) (files : List (List ℕ)) (programs : List Workload)
+    {after : List Workload} {entry : ProgramEntry} {file : List ℕ} (program : Workload)
     → slice_get entries place ≡ Some entry → slice_get files place ≡ Some file
     → AreProgramsOf (take place entries) (take place files) programs → IsProgramOf entry file program
-    → after ≡ programs ++ program ∷ []
-    → AreProgramsOf (take (place + 1) entries) (take (place + 1) files) after
-pushed place entries files programs after entry file program entry_is file_is older is grown =
+    → after ≡ programs ++ program ∷ [] → AreProgramsOf (take (place + 1) entries) (take (place + 1) files) after
+pushed place entries files programs {entry} {file} program entry_is file_is older is grown =
     rw (add-one, grown) (one_more place entries files programs entry file program entry_is file_is older is)
 
 -- a program whose run is refused is reported with its name, if there was memory for it

@@ -4,7 +4,7 @@ use Rattle.tomex_study_reader.proofs.study.programs_of.Goals as goal
 
 pub returns-in-Err-clause-err : goal.returns-in-Err-clause-err
 returns-in-Err-clause-err g c =
-    first_refusal c.loop-place.place c.args.entries.now _ _ _ _ _
+    first_refusal c.loop-place.place c.args.entries.now _ _
     (item_is _ _ _ c.loop-place-test.true c.index-entries-place.is)
     (seen_is _ c.args.files.now _ _ c.index-files-place.result _ c.requires c.loop-place-test.true
     c.index-files-place.is c.as_slice.ensures.value)
@@ -13,7 +13,7 @@ returns-in-Err-clause-err g c =
 
 pub loop-place-preserved : goal.loop-place-preserved
 loop-place-preserved g c =
-    pushed c.loop-place.place c.args.entries.now _ _ _ _ _ _
+    pushed c.loop-place.place c.args.entries.now _ _ _
     (item_is _ _ _ c.loop-place-test.true c.index-entries-place.is)
     (seen_is _ c.args.files.now _ _ c.index-files-place.result _ c.requires c.loop-place-test.true
     c.index-files-place.is c.as_slice.ensures.value)
