@@ -91,12 +91,11 @@ front_row_within s r is one =
 
 -- one more row with a price apart
 pub next_priced : (price : Price) (prices : PriceList) (k : ℕ) (cs : List Configuration) (ys : List ℕ)
-    (c : Configuration) (before after whole : List PricedRow) (r : PricedRow) → k < length cs → k < length ys
-    → c ≡ get_or cs k c
-    → r ≡ with_price_apart price prices k c (get_or ys k 0) → after ≡ before ++ r ∷ []
-    → before ++ priced_from price prices k (drop k cs) (drop k ys) ≡ whole
+    {c : Configuration} (before : List PricedRow) {after whole : List PricedRow} {r : PricedRow} → k < length cs
+    → k < length ys → c ≡ get_or cs k c → r ≡ with_price_apart price prices k c (get_or ys k 0)
+    → after ≡ before ++ r ∷ [] → before ++ priced_from price prices k (drop k cs) (drop k ys) ≡ whole
     → after ++ priced_from price prices (k + 1) (drop (k + 1) cs) (drop (k + 1) ys) ≡ whole
-next_priced price prices k cs ys c before after whole r low less is made grown so_far =
+next_priced price prices k cs ys {c} before {whole} {r} low less is made grown so_far =
     let rest = priced_from price prices (suc k) (drop (suc k) cs) (drop (suc k) ys) in
     let configs : drop k cs ≡ c ∷ drop (suc k) cs = drop-cons cs k c low ∙ ap (λ z. z ∷ drop (suc k) cs) (sym is) in
     let cycles : drop k ys ≡ get_or ys k 0 ∷ drop (suc k) ys = drop-cons ys k 0 less in

@@ -59,13 +59,13 @@ counted_at_last p unit rows k n whole over so_far =
     omega (arith, e)
 
 -- all prices of a study
-pub counted_all : (s : DesignSpace) (rows : List Configuration) (stations options bus width : ℕ) → rows ≡ s.rows
+pub counted_all : (s : DesignSpace) {rows : List Configuration} {stations options bus width : ℕ} → rows ≡ s.rows
     → stations ≡ length (filter (is_relevant rows) (map Station all_pools))
     → options ≡ length (filter (is_relevant rows) (flat_map (choices_of rows) all_units))
     → bus ≡ length (filter (is_relevant rows) (Bus ∷ [])) → width ≡ length (filter (is_relevant rows) (Width ∷ []))
     → stations + options + bus + width ≡ length (relevant_prices_of s)
 unfolding prices_of relevant_prices_of
-counted_all s rows stations options bus width all a b c d =
+counted_all s all a b c d =
     let p = is_relevant s.rows in
     let first = map Station all_pools in
     let second = flat_map (choices_of s.rows) all_units in

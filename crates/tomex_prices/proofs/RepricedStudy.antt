@@ -101,12 +101,12 @@ on_study_within s price q r is few one =
     on_study s price q (row_with s price r) is few (row_apart s price r is one) (is_there (front_of_study s) r one)
 
 -- an interval that is made of these is that of the row
-pub interval_is : (s : DesignSpace) (price : Price) (r : FrontRow) (range : PriceRange) (now : ℕ) (prices : PriceList)
-    (config : Configuration) (configs : List Configuration) (row : PricedRow) (rows : List PricedRow)
+pub interval_is : (s : DesignSpace) (price : Price) (r : FrontRow) {range : PriceRange} {now : ℕ} {prices : PriceList}
+    {config : Configuration} {configs : List Configuration} {row : PricedRow} {rows : List PricedRow}
     → r.row < length s.rows → range ≡ interval now row rows → now ≡ amount price prices → prices ≡ s.prices
     → row ≡ with_price_apart price prices r.row config r.cycles → config ≡ get_or configs r.row config
     → configs ≡ s.rows → rows ≡ rows_with s price → range ≡ interval_of s price r
-interval_is s price r range now prices config configs row rows low range_is now_is list row_is config_is all rows_are =
+interval_is s price r {config} {row} {rows} low range_is now_is list row_is config_is all rows_are =
     let found : config ≡ get_or s.rows r.row plain =
     config_is ∙ (ap (λ (cs : List Configuration). get_or cs r.row config) all
     ∙ get_or_default s.rows r.row config plain low) in

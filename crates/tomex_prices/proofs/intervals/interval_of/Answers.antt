@@ -21,10 +21,9 @@ offset_bounds-rows-row g c =
 pub returns-clause-ends : goal.returns-clause-ends
 returns-clause-ends g c =
     let low = front_row_within c.args.study.now c.args.row c.keeps_limits.ensures c.requires.front in
-    interval_is c.args.study.now c.args.price c.args.row c.interval.result c.amount.result c.prices-prices.result
-    c.index-rows-row.result c.rows.result.now c.with_price_apart-apart.result c.args.rows.now low
-    c.interval.ensures.ends c.amount.ensures.price c.prices-prices.ensures.value
-    c.with_price_apart-apart.ensures.parts c.index-rows-row.is c.rows.ensures.value c.requires.rows
+    interval_is c.args.study.now c.args.price c.args.row low c.interval.ensures.ends c.amount.ensures.price
+    c.prices-prices.ensures.value c.with_price_apart-apart.ensures.parts c.index-rows-row.is c.rows.ensures.value
+    c.requires.rows
 
 pub returns-clause-exact : goal.returns-clause-exact
 returns-clause-exact g c =

@@ -26,8 +26,8 @@ loop-row-preserved g c =
     let made = made_apart s c.args.price k config c.prices-prices.result c.args.rows.now none row c.keeps_limits.ensures
     c.requires within c.prices-prices.ensures.value c.with_price_apart.ensures.parts in
     record {
-      rows = next_priced c.args.price s.prices k s.rows (cycles_of s) config before c.push.new.self.items _ row within
-          less item made c.in_ok-push.ensures.items c.loop-row.invariant.rows;
+      rows = next_priced c.args.price s.prices k s.rows (cycles_of s) before within less item made
+          c.in_ok-push.ensures.items c.loop-row.invariant.rows;
       small = small_more before c.push.new.self.items row c.in_ok-push.ensures.items c.with_price_apart.ensures.small
           c.loop-row.invariant.small;
     }
