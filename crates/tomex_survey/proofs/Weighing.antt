@@ -156,12 +156,12 @@ one_weighed programs totals i cycles t p config low at is same so_far =
     rw (its, so_far) (sym more)
 
 -- they are small
-pub weighed_small : (programs : List Workload) (totals : List ℕ) (i cycles t : ℕ) (p : Workload)
+pub weighed_small : (programs : List Workload) (totals : List ℕ) (i cycles : ℕ) {t : ℕ} {p : Workload}
     (config : Configuration) → IsWithinLimits config → All IsProgram programs → length programs ≤ 8
     → i < length programs → p ≡ get_or programs i p → t ≡ get_or totals i 0 → totals ≡ totals_on programs config
     → cycles ≡ cycles_on (take i programs) config
     → (p.weight * t ≤ 140509184000) × (cycles + p.weight * t ≤ 140509184000)
-weighed_small programs totals i cycles t p config lawful ends few low at is same so_far =
+weighed_small programs totals i cycles {t} {p} config lawful ends few low at is same so_far =
     let w = next_cycles programs i p config t cycles lawful ends few low at
     (is ∙ total_at programs config totals i p same low at) so_far in
     (w.1, w.2)

@@ -15,17 +15,17 @@ bounds-totals-place g c =
 
 pub overflow_mul-cycles : goal.overflow_mul-cycles
 overflow_mul-cycles g c =
-    let w = weighed_small c.args.programs.now c.args.totals.now c.loop-place.place c.loop-place.cycles _
-    c.index-programs-place.result c.requires.totals.0 c.requires.totals.1 c.requires.ends c.requires.few
-    c.loop-place-test.true c.index-programs-place.is refl c.requires.totals.2
+    let w = weighed_small c.args.programs.now c.args.totals.now c.loop-place.place c.loop-place.cycles
+    c.requires.totals.0 c.requires.totals.1 c.requires.ends c.requires.few c.loop-place-test.true
+    c.index-programs-place.is refl c.requires.totals.2
     (c.loop-place.invariant c.requires.totals.0 c.requires.totals.2) in
     rw (c.from.ensures, c.weight.ensures.value) (omega (arith, w.0))
 
 pub overflow_add-cycles : goal.overflow_add-cycles
 overflow_add-cycles g c =
-    let w = weighed_small c.args.programs.now c.args.totals.now c.loop-place.place c.loop-place.cycles _
-    c.index-programs-place.result c.requires.totals.0 c.requires.totals.1 c.requires.ends c.requires.few
-    c.loop-place-test.true c.index-programs-place.is refl c.requires.totals.2
+    let w = weighed_small c.args.programs.now c.args.totals.now c.loop-place.place c.loop-place.cycles
+    c.requires.totals.0 c.requires.totals.1 c.requires.ends c.requires.few c.loop-place-test.true
+    c.index-programs-place.is refl c.requires.totals.2
     (c.loop-place.invariant c.requires.totals.0 c.requires.totals.2) in
     rw (c.from.ensures, c.weight.ensures.value) (omega (arith, w.1))
 
