@@ -85,12 +85,12 @@ same_lists h parts workers same = sym (flat_map-map h given_by parts)
     ∙ (ap (flat_map h) same ∙ flat_map-map h owed_by workers)
 
 -- the parts have all rows and all numbers
-pub parts_whole : (s : DesignSpace) (costs cycles : List ℕ) (board : TableId) (parts : List Returned)
-    (workers : List Equipped) (lanes : List Dealt) (count many : ℕ) → IsPlanOf s costs cycles → count ≡ length s.costs
-    → 1 ≤ many → lanes ≡ deal many count many
-    → map (λ (w : Equipped). w.lane) workers ≡ lanes → AreSeated board (map (λ (w : Equipped). w.seat) workers)
-    → map given_by parts ≡ map owed_by workers → AreWhole board (length costs) parts
-parts_whole s costs cycles board parts workers lanes count many plan long some is same seats owed =
+pub parts_whole : {s : DesignSpace} {costs cycles : List ℕ} (board : TableId) (parts : List Returned)
+    (workers : List Equipped) {lanes : List Dealt} {count : ℕ} (many : ℕ) → IsPlanOf s costs cycles
+    → count ≡ length s.costs → 1 ≤ many → lanes ≡ deal many count many → map (λ (w : Equipped). w.lane) workers ≡ lanes
+    → AreSeated board (map (λ (w : Equipped). w.seat) workers) → map given_by parts ≡ map owed_by workers
+    → AreWhole board (length costs) parts
+parts_whole {costs} board parts workers {count} many plan long some is same seats owed =
     let count_is : count ≡ length costs = long ∙ ap length plan.its_costs in
     let on_board : Owed → Type 0 = λ o. o.1 ≡ board in
     let shares : flat_map (λ (p : Returned). p.seat.view.share) parts ≡ flat_map (λ (q : Known). q.view.share)

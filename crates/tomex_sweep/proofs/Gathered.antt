@@ -99,9 +99,9 @@ same_before s old now row gathered is low =
     ∙ slice_get-get_or now row Open low)
 
 -- the row is closed
-pub one_closed : (s : DesignSpace) (old now : List Mark) (row gathered : ℕ) → IsGathering s old now row gathered
+pub one_closed : {s : DesignSpace} {old now : List Mark} {row gathered : ℕ} → IsGathering s old now row gathered
     → row < length now → is_closed (get_or now row Open) ≡ true → IsGathering s old now (row + 1) gathered
-one_closed s old now row gathered is low closed =
+one_closed {s} {old} {now} {row} {gathered} is low closed =
     let long = is.count in
     let few = is.few in
     let was = is.counted in
@@ -120,10 +120,10 @@ one_closed s old now row gathered is low closed =
     }
 
 -- the row was left, and is run
-pub one_run : (s : DesignSpace) (old now : List Mark) (row gathered y : ℕ) → IsGathering s old now row gathered
+pub one_run : {s : DesignSpace} {old now : List Mark} {row gathered y : ℕ} → IsGathering s old now row gathered
     → row < length now → is_closed (get_or now row Open) ≡ false → y ≡ get_or (cycles_of s) row 0
     → IsGathering s old (set now row (Finished y)) (row + 1) (gathered + 1)
-one_run s old now row gathered y is low left its =
+one_run {s} {old} {now} {row} {gathered} {y} is low left its =
     let long = is.count in
     let few = is.few in
     let was = is.counted in
@@ -149,10 +149,10 @@ one_run s old now row gathered y is low left its =
           (λ ne. get_set_other now row k (Finished y) ne ∙ is.same k m at closed);
     }
 
-pub all_gathered : (s : DesignSpace) (old now : List Mark) (row gathered : ℕ) → IsGathering s old now row gathered
-    → length old ≡ length s.costs → length now ≤ row → AreJudged s.costs (cycles_of s) now × (gathered ≡ rows_left old)
-    × StayClosed old now
-all_gathered s old now row gathered is long past = (
+pub all_gathered : {s : DesignSpace} {old now : List Mark} {row gathered : ℕ} → IsGathering s old now row gathered
+    → length old ≡ length s.costs → length now ≤ row
+    → AreJudged s.costs (cycles_of s) now × (gathered ≡ rows_left old) × StayClosed old now
+all_gathered {old} {now} {row} is long past = (
   record {
     count = is.count ∙ long;
     closed = subst (All (λ (m : Mark). is_closed m ≡ true)) (take_all row now past) is.closed;

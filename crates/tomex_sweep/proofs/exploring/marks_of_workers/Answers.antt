@@ -29,10 +29,9 @@ run_workers-requires-after_bounds g c = λ κs within.
 
 pub settle-requires : goal.settle-requires
 settle-requires g c =
-    parts_whole c.args.study.now _ _ _ _ c.in_ok-crew.crew.items c.in_ok-lanes.lanes.items
-    (length c.costs-costs.result.now) c.args.workers
-    c.requires.plan (ap length c.costs-costs.ensures.value) c.requires.some_workers c.in_ok-lanes.ensures
-    c.in_ok-crew.ensures.lanes c.in_ok-crew.ensures.seats c.in_ok-parts.ensures
+    parts_whole _ _ c.in_ok-crew.crew.items c.args.workers c.requires.plan (ap length c.costs-costs.ensures.value)
+    c.requires.some_workers c.in_ok-lanes.ensures c.in_ok-crew.ensures.lanes c.in_ok-crew.ensures.seats
+    c.in_ok-parts.ensures
 
 pub returns : goal.returns
 returns g c = record {

@@ -15,7 +15,7 @@ loop-row-preserved-then-is_closed g c =
     let count : length c.loop-row.marks.items ≡ length c.args.marks.now.items = c.loop-row.invariant.count in
     let test : c.loop-row.row < c.len-row-end.result = c.loop-row-test.true in
     let low : c.loop-row.row < length c.loop-row.marks.items = omega arith in
-    one_closed _ _ _ _ _ c.loop-row.invariant low
+    one_closed c.loop-row.invariant low
     (ap is_closed (read_mark c.loop-row.marks.items c.loop-row.row c.index.result.now low c.index.ensures)
     ∙ sym c.if-is_closed.ensures)
 
@@ -26,7 +26,7 @@ loop-row-preserved g c =
     let costs : length c.args.marks.now.items ≡ length c.args.study.now.costs = c.requires.count in
     let test : c.loop-row.row < c.len-row-end.result = c.loop-row-test.true in
     let low : c.loop-row.row < length c.loop-row.marks.items = omega arith in
-    one_run _ _ _ _ _ c.in_ok-cycles.cycles c.loop-row.invariant low
+    one_run c.loop-row.invariant low
     (ap is_closed (read_mark c.loop-row.marks.items c.loop-row.row c.index.result.now low c.index.ensures)
     ∙ sym c.if-is_closed.ensures)
     (run_cycles c.args.study.now _ c.rows.result.now c.index-rows-row.result c.loop-row.row c.in_ok-cycles.cycles
@@ -39,7 +39,7 @@ returns-clause-judged g c =
     let count : length c.loop-row.marks.items ≡ length c.args.marks.now.items = c.loop-row.invariant.count in
     let test : c.len-row-end.result ≤ c.loop-row.row = c.loop-row-test.false in
     let past : length c.loop-row.marks.items ≤ c.loop-row.row = omega arith in
-    (all_gathered _ _ _ _ _ c.loop-row.invariant c.requires.count past).0
+    (all_gathered c.loop-row.invariant c.requires.count past).0
 
 pub cycles-requires-clause-few : goal.cycles-requires-clause-few
 cycles-requires-clause-few g c = rw c.programs.ensures.value c.keeps_limits.ensures.few_programs
@@ -61,7 +61,7 @@ returns-clause-counted g c =
     let count : length c.loop-row.marks.items ≡ length c.args.marks.now.items = c.loop-row.invariant.count in
     let test : c.len-row-end.result ≤ c.loop-row.row = c.loop-row-test.false in
     let past : length c.loop-row.marks.items ≤ c.loop-row.row = omega arith in
-    (all_gathered _ _ _ _ _ c.loop-row.invariant c.requires.count past).1
+    (all_gathered c.loop-row.invariant c.requires.count past).1
 
 pub returns-clause-closed : goal.returns-clause-closed
 returns-clause-closed g c =
@@ -69,4 +69,4 @@ returns-clause-closed g c =
     let count : length c.loop-row.marks.items ≡ length c.args.marks.now.items = c.loop-row.invariant.count in
     let test : c.len-row-end.result ≤ c.loop-row.row = c.loop-row-test.false in
     let past : length c.loop-row.marks.items ≤ c.loop-row.row = omega arith in
-    (all_gathered _ _ _ _ _ c.loop-row.invariant c.requires.count past).2
+    (all_gathered c.loop-row.invariant c.requires.count past).2
