@@ -1,14 +1,14 @@
 -- The cycles of steps are those in which they wait to issue; with the drain they are the run's total.
-use Rattle.std.proofs.Common.{ℕ, ◌+◌, ◌-◌, ◌≤◌, ◌==◌, ◌≡◌, ◌∙◌, arith, refl, ap, ap₂, sym, Bool, true, false, cond}
+use Rattle.std.proofs.Common.{ℕ, ◌+◌, ◌-◌, ◌==◌, ◌≡◌, ◌∙◌, arith, refl, ap, ap₂, sym, Bool, true, false, cond}
 use Rattle.std.proofs.Common.{List, [], ◌∷◌, length}
 use Rattle.std.specs.Prelude.{sum_by}
 use Rattle.std.proofs.lemmas.List.Sums.{sum_by-cons}
 use Rattle.tomex_steps.specs.declared.step.Step.{Step}
 use Rattle.tomex_config.specs.Configuration.{Configuration, IsWithinLimits}
-use Rattle.tomex_timing.specs.History.{greatest_end, last_issue}
-use Rattle.tomex_timing.specs.Needs.{drain, waits_in, waits_of}
+use Rattle.tomex_timing.specs.History.{last_issue}
+use Rattle.tomex_timing.specs.Needs.{waits_in, waits_of}
 use Rattle.tomex_timing.specs.Recurrence.{AreTimed}
-use Rattle.tomex_timing.specs.Search.{history, times_in, total_of}
+use Rattle.tomex_timing.specs.Search.{history}
 use Rattle.tomex_timing.specs.declared.part.Waits.{Waits}
 use Rattle.tomex_timing.specs.declared.times.Done.{Done}
 use Rattle.tomex_timing.specs.declared.times.Times.{Times}
@@ -18,7 +18,7 @@ use Rattle.tomex_timing.proofs.WaitLists.{length-waits_in}
 use Rattle.tomex_run_views.specs.ByPlace.{Visit, cycles_of, visits_after, visits_in, visits_of}
 use Rattle.tomex_run_views.specs.Laws.{CyclesAddUp, CyclesAreWaits, first_of}
 use Rattle.tomex_run_views.specs.Tally.{cycles_by, visits_by}
-use Rattle.tomex_run_views.proofs.Gaps.{done, gap_is, history_all, history_from, issue_below, more_after, times_all}
+use Rattle.tomex_run_views.proofs.Gaps.{done, gap_is, history_all, history_from, issue_below, times_all}
 use Rattle.tomex_run_views.proofs.Gaps.{times_from, visits_are, waits_all, waits_from}
 
 abbrev issue_waits : List Visit → ℕ

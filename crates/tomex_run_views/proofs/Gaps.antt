@@ -2,16 +2,15 @@
 use Rattle.std.proofs.Common.{ℕ, zero, suc, ◌+◌, ◌-◌, ◌*◌, ◌<◌, ◌≤◌, ◌≡◌, ◌∙◌, arith, refl, ap, ap₂, sym, length, take}
 use Rattle.std.proofs.Common.{get_or}
 use Rattle.std.proofs.Common.{List, [], ◌∷◌, ◌++◌, append_assoc, Option, Some, None, max}
-use Rattle.std.specs.Prelude.{is_some, sum_by}
 use Rattle.std.proofs.lemmas.List.{append-nil, take_more}
 use Rattle.tomex_rvdec.specs.declared.pool.UnitId.{UnitId}
-use Rattle.tomex_steps.specs.Steps.{step_dest, step_unit}
+use Rattle.tomex_steps.specs.Steps.{step_unit}
 use Rattle.tomex_steps.specs.declared.step.Step.{Step}
 use Rattle.tomex_config.specs.Configuration.{Configuration, IsWithinLimits}
 use Rattle.tomex_timing.specs.History.{greatest_end, last_issue}
-use Rattle.tomex_timing.specs.Laws.{held_cycles, work_by, work_cycles}
-use Rattle.tomex_timing.specs.Needs.{drain, pool_stalls, stalls, stalls_by, unit_stalls, waits_in, waits_of}
-use Rattle.tomex_timing.specs.Recurrence.{AreTimed, IsTimed}
+use Rattle.tomex_timing.specs.Laws.{work_by}
+use Rattle.tomex_timing.specs.Needs.{stalls, stalls_by, waits_in, waits_of}
+use Rattle.tomex_timing.specs.Recurrence.{AreTimed}
 use Rattle.tomex_timing.specs.Search.{history, times_in, times_of}
 use Rattle.tomex_timing.specs.declared.part.Part.TheVariants.{Width}
 use Rattle.tomex_timing.specs.declared.part.Waits.{Waits}

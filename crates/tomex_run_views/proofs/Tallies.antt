@@ -18,7 +18,7 @@ use Rattle.std.proofs.lemmas.List.Sums.{count_by-le-length, length-filter, sum_b
 use Rattle.tomex_steps.specs.declared.step.Step.{Step}
 use Rattle.tomex_timing.specs.Waiting.{AreWithin}
 use Rattle.tomex_timing.specs.declared.part.Waits.{Waits}
-use Rattle.tomex_run_views.specs.ByPlace.{Visit, cycles_of, visits_of, waits_of_all}
+use Rattle.tomex_run_views.specs.ByPlace.{Visit, visits_of}
 use Rattle.tomex_run_views.specs.declared.tally.Group.{Group}
 use Rattle.tomex_run_views.specs.declared.tally.Sum.{Sum}
 use Rattle.tomex_run_views.specs.Tally.{cycles_by, group_of, more_at, no_sum, sum_after, sum_of, visits_by}

@@ -1,7 +1,5 @@
 -- What was counted by the waits of the run.
-use Rattle.std.proofs.Common.{◌∙◌, sym, subst, List}
-use Rattle.tomex_timing.specs.declared.part.Waits.{Waits}
-use Rattle.tomex_run_views.specs.Tally.{IsTally, visits_by}
+use Rattle.std.proofs.Common.{◌∙◌}
 use Rattle.tomex_run_views.proofs.Reports.{counted_is}
 use Rattle.tomex_run_views.proofs.counted.count_run.Goals as goal
 

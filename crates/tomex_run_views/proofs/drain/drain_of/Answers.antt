@@ -1,9 +1,6 @@
 -- One step more, and the cycles after the last issue.
-use Rattle.std.proofs.Common.{◌<◌, ◌≡◌, ◌∙◌, ap, arith, rules, refl, get_or, length, take, List}
-use Rattle.std.proofs.lemmas.List.{length-take, take_all}
-use Rattle.tomex_steps.specs.declared.step.Step.{Step}
-use Rattle.tomex_timing.specs.History.{greatest_end, last_issue}
-use Rattle.tomex_timing.specs.Search.{history}
+use Rattle.std.proofs.Common.{◌<◌, ◌≡◌, ◌∙◌, ap, arith, rules, get_or, length, take, List}
+use Rattle.std.proofs.lemmas.List.{length-take}
 use Rattle.tomex_timing.specs.declared.part.Waits.{Waits}
 use Rattle.tomex_timing.proofs.WaitLists.{length-waits_in}
 use Rattle.tomex_run_views.proofs.Gaps.{drain_turn, issue_below}

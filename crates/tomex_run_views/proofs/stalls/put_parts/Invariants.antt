@@ -11,5 +11,5 @@ invariant-loop-part g l = record {
   ready : IsReady l.writer;
   text : text_written (λ v. v.items) l.writer
       ≡ text_written (λ v. v.items) l.fn.writer
-          ++ flat_map (part_record l.config l.needs) (take l.part-index all_parts);
+      ++ flat_map (part_record l.config l.needs) (take l.part-index all_parts);
 }

@@ -1,8 +1,7 @@
 -- One visit more is counted with its key and in all.
-use Rattle.std.proofs.Common.{◌≡◌, ◌∙◌, ap, arith, sym, subst, refl, map, ℕ, ◌^◌, ◌<◌, ◌≤◌, get_or, cond, length, List}
-use Rattle.std.proofs.Common.{Option, Some, take}
+use Rattle.std.proofs.Common.{◌≡◌, ◌∙◌, ap, arith, sym, subst, refl, ◌^◌, ◌<◌, ◌≤◌, get_or, List}
+use Rattle.std.proofs.Common.{Option, take}
 use Rattle.std.specs.Prelude.{unwrap_or}
-use Rattle.std.specs.Ordering.{is_eq, nat_cmp}
 use Rattle.std.proofs.lemmas.Grind.{common_steps}
 use Rattle.tomex_steps.specs.declared.step.Step.{Step}
 use Rattle.tomex_timing.specs.Waiting.{AreWithin}
@@ -11,7 +10,7 @@ use Rattle.tomex_run_views.specs.ByPlace.{Visit, visits_of}
 use Rattle.tomex_run_views.specs.declared.tally.Group.{Group}
 use Rattle.tomex_run_views.specs.declared.tally.Sum.{Sum}
 use Rattle.tomex_run_views.specs.Tally.{group_of, more_at, no_sum, sum_of, visits_by}
-use Rattle.tomex_run_views.proofs.Tallies.{AreSmall, all_more, at_more, before, key_there, small_group, small_so_far}
+use Rattle.tomex_run_views.proofs.Tallies.{all_more, at_more, before, key_there, small_group, small_so_far}
 use Rattle.tomex_run_views.proofs.Tallies.{visits_more, weaker, whole}
 use Rattle.tomex_run_views.proofs.tally.count_by_key.Goals as goal
 
