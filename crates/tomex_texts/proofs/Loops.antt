@@ -35,14 +35,14 @@ records_at number zero (s ∷ ss) (t ∷ ts) step first at none within pairs ste
 records_at number (suc index) (s ∷ ss) (t ∷ ts) step first at none within pairs step_is at_is =
     records_at number index ss ts step first at none (omega (arith, within)) (omega (arith, pairs)) step_is at_is
 
-pub record_more : (index : ℕ) (steps : List Step) (times : List Times) (step first : Step) (at none : Times)
-    (fields : List (List ℕ)) (before after whole : List ℕ) → index < length steps → length times ≡ length steps
+pub record_more : (index : ℕ) (steps : List Step) (times : List Times) {step : Step} (first : Step) {at : Times}
+    (none : Times) {fields : List (List ℕ)} (before : List ℕ) {after whole : List ℕ} → index < length steps
+    → length times ≡ length steps
     → step ≡ get_or steps index first → at ≡ get_or times index none
     → after ≡ before ++ record_text fields → fields ≡ fields_of_step (index + 1) step at
     → before ++ step_records (index + 1) (drop index steps) (drop index times) ≡ whole
     → after ++ step_records (index + 1 + 1) (drop (index + 1) steps) (drop (index + 1) times) ≡ whole
-record_more index steps times step first at none fields before after whole within pairs step_is at_is grown filled
-    so_far =
+record_more index steps times {step = step} first {at = at} none before within pairs step_is at_is grown filled so_far =
     let next = records_at (index + 1) index steps times step first at none within pairs step_is at_is in
     let all = rw next at so_far in
     rw (grown, filled, add-one) (append_assoc before (record_text (fields_of_step (suc index) step at)) _

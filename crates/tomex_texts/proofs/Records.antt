@@ -1,6 +1,6 @@
 -- The front report's records, from the fields that are pushed.
 use Rattle.std.proofs.Common.{◌≡◌, ℕ, Bool, zero, suc, ◌+◌, ◌<◌, List, [], ◌∷◌, ◌++◌, length, get_or, take, Some, refl}
-use Rattle.std.proofs.Common.{sym, ap, ◌∙◌, subst, arith, append_assoc}
+use Rattle.std.proofs.Common.{sym, ap, ◌∙◌, subst, arith}
 use Rattle.std.specs.Prelude.{slice_get, slice_index_or}
 use Rattle.std.specs.List.{AllZip, flat_map}
 use Rattle.std.specs.Fmt.{decimal}
@@ -10,38 +10,17 @@ use Rattle.std.proofs.lemmas.Slice.Zip.{all_zipped_more}
 use Rattle.tomex_image.specs.Image.{IsLoaded}
 use Rattle.tomex_rvexec.proofs.FlowEnds.{ends_within_more}
 use Rattle.tomex_config.specs.Configuration.{Configuration, plain}
-use Rattle.tomex_config.specs.Cost.{all_units}
 use Rattle.tomex_study.specs.Program.{IsProgram, Workload}
 use Rattle.tomex_study.specs.Study.{DesignSpace}
 use Rattle.tomex_study.specs.Watch.{watched_bytes}
 use Rattle.tomex_pareto.specs.declared.front_row.FrontRow.{FrontRow}
-use Rattle.tomex_study.specs.declared.watch.WatchRange.{WatchRange}
+use Rattle.tomex_csv_text.proofs.Pieces.{IsGrown}
 use Rattle.tomex_texts.specs.declared.ends.ProgramEnd.{ProgramEnd}
 use Rattle.tomex_texts.specs.Ends.{IsProgramEnd, last_state}
 use Rattle.tomex_texts.specs.FrontReport.{end_fields, if_wide, program_fields, program_record, records_of, row_fields}
-use Rattle.tomex_texts.specs.FrontReport.{station_fields, unit_fields, watch_texts}
+use Rattle.tomex_texts.specs.FrontReport.{watch_texts}
 use Rattle.tomex_texts.proofs.Ended.{filled}
 use Rattle.tomex_texts.proofs.Watched.{bytes_long, texts_are}
-
--- one after another
-pub add : {X : Type 0} (f0 f1 f2 xs ys : List X) → f1 ≡ f0 ++ xs → f2 ≡ f1 ++ ys → f2 ≡ f0 ++ (xs ++ ys)
-add f0 f1 f2 xs ys d e = e ∙ (ap (λ f. f ++ ys) d ∙ append_assoc f0 xs ys)
-
-pub row_pushed : (f0 f1 f2 f3 f4 f5 f6 f7 : List (List ℕ)) (wide : Bool) (r : FrontRow) (config : Configuration)
-    (buses width : ℕ)
-    → f1 ≡ f0 ++ decimal r.row ∷ [] → f2 ≡ f1 ++ decimal r.cost ∷ [] → f3 ≡ f2 ++ decimal r.cycles ∷ []
-    → f4 ≡ f3 ++ station_fields config → f5 ≡ f4 ++ flat_map (unit_fields config) all_units → f6 ≡ f5 ++ decimal buses
-    ∷ [] → f7 ≡ f6 ++ if_wide wide (decimal width) → buses ≡ config.buses → width ≡ config.width
-    → f7 ≡ f0 ++ row_fields wide r config
-unfolding row_fields
-row_pushed f0 f1 f2 f3 f4 f5 f6 f7 wide r config buses width e1 e2 e3 e4 e5 e6 e7 b w =
-    let bus : f6 ≡ f5 ++ decimal config.buses ∷ [] = e6 ∙ ap (λ (n : ℕ). f5 ++ decimal n ∷ []) b in
-    let last : f7 ≡ f6 ++ if_wide wide (decimal config.width) = e7 ∙ ap (λ (n : ℕ). f6 ++ if_wide wide (decimal n)) w in
-    add f0 f1 f7 (decimal r.row ∷ []) _ e1
-    (add f1 f2 f7 (decimal r.cost ∷ []) _ e2 (add f2 f3 f7 (decimal r.cycles ∷ []) _ e3
-    (add f3 f4 f7 (station_fields config) _ e4
-    (add f4 f5 f7 (flat_map (unit_fields config) all_units) _ e5
-    (add f5 f6 f7 (decimal config.buses ∷ []) (if_wide wide (decimal config.width)) bus last)))))
 
 -- the watched bytes of an end
 pub watched_long : {A : Type 0} (config : Configuration) (p : Workload) (e : ProgramEnd A) → IsProgram p
@@ -62,22 +41,17 @@ fields_are wide config p e program loaded is =
     ∙ texts_are p.image.window (last_state p.image).memory p.watch fills program.watch.inside in
     rw (is.steps, is.total, is.kind, is.regs, texts) refl
 
-pub record_is : {A : Type 0} (wide : Bool) (config : Configuration) (p : Workload) (e : ProgramEnd A) (r : FrontRow)
-    (f0 f1 f2 f3 f4 : List (List ℕ)) (part name : List ℕ) (weight : ℕ) (ranges : List WatchRange)
-    → IsProgram p → IsLoaded p.image.window p.image.memory p.image.entry → IsProgramEnd config p e
-    → f0 ≡ [] → f1 ≡ f0 ++ row_fields wide r config → f2 ≡ f1 ++ (part ++ name) ∷ [] → part ≡ [] → name ≡ p.name
-    → f3 ≡ f2 ++ if_wide wide (decimal weight) → weight ≡ p.weight → f4 ≡ f3 ++ end_fields ranges e → ranges ≡ p.watch
-    → f4 ≡ row_fields wide r config ++ program_fields wide config p
-record_is wide config p e r f0 f1 f2 f3 f4 part name weight ranges program loaded is e0 e1 e2 none named e3 weighs e4
-    watch =
-    let own : f2 ≡ f1 ++ p.name ∷ [] =
-    e2 ∙ (ap (λ (x : List ℕ). f1 ++ (x ++ name) ∷ []) none ∙ ap (λ (x : List ℕ). f1 ++ x ∷ []) named) in
-    let mine : f3 ≡ f2 ++ if_wide wide (decimal p.weight) =
-    e3 ∙ ap (λ (n : ℕ). f2 ++ if_wide wide (decimal n)) weighs in
-    let ended : f4 ≡ f3 ++ end_fields p.watch e = e4 ∙ ap (λ (rs : List WatchRange). f3 ++ end_fields rs e) watch in
-    let first : f1 ≡ row_fields wide r config = e1 ∙ ap (λ (x : List (List ℕ)). x ++ row_fields wide r config) e0 in
-    add f1 f2 f4 (p.name ∷ []) _ own (add f2 f3 f4 (if_wide wide (decimal p.weight)) (end_fields p.watch e) mine ended)
-    ∙ (ap (λ (x : List (List ℕ)). x ++ (p.name ∷ (if_wide wide (decimal p.weight) ++ end_fields p.watch e))) first
+-- the fields of a row, and then those of a program and its end
+pub record_is : {A : Type 0} (wide : Bool) {config : Configuration} {p : Workload} {e : ProgramEnd A} (r : FrontRow)
+    {none all : List (List ℕ)} → IsProgram p → IsLoaded p.image.window p.image.memory p.image.entry
+    → IsProgramEnd config p e → none ≡ []
+    → IsGrown none (row_fields wide r config)
+    ((p.name ∷ []) ∷ if_wide wide (decimal p.weight) ∷ end_fields p.watch e ∷ []) all
+    → all ≡ row_fields wide r config ++ program_fields wide config p
+record_is wide {config = config} {p = p} {e = e} r program loaded is empty grown =
+    grown.is
+    ∙ (ap (λ (x : List (List ℕ)). x ++ (row_fields wide r config
+    ++ (p.name ∷ (if_wide wide (decimal p.weight) ++ end_fields p.watch e)))) empty
     ∙ ap (λ (x : List (List ℕ)). row_fields wide r config ++ x) (fields_are wide config p e program loaded is))
 
 -- a fact that holds place by place holds for the items that are read at a place

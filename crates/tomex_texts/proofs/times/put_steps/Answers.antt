@@ -6,8 +6,8 @@ use Rattle.tomex_texts.proofs.times.put_steps.Goals as goal
 pub loop-index-preserved : goal.loop-index-preserved
 loop-index-preserved g c = record {
   ready = c.in_ok-put_record.ensures.ready;
-  text = record_more c.loop-index.index c.args.steps.now c.args.times.now _ _ _
-      (record { issue = 0; address = None; start = 0; finish = 0; end = 0; station = None }) _ _ _ _
+  text = record_more c.loop-index.index c.args.steps.now c.args.times.now _
+      (record { issue = 0; address = None; start = 0; finish = 0; end = 0; station = None }) _
       c.loop-index-test.true c.requires.pairs c.index-steps-index.is refl c.in_ok-put_record.ensures.text
       c.in_ok-fill_record.ensures.fields c.loop-index.invariant.text;
 }
