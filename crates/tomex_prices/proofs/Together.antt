@@ -168,7 +168,7 @@ module _ (s : DesignSpace) (values : Values) (shares : Price → ℕ) (whole : �
   one_counts : (price : Price)
       → IsShareOfWay (interval_of s price r) (amount price s.prices) (values price) (shares price) whole
       → Counts (amount price s.prices) (values price) (payments price (config_of s r))
-          (payments price (config_of s j)) whole
+      (payments price (config_of s j)) whole
       (shares price) gap
   one_counts price moves =
       let n = amount price s.prices in

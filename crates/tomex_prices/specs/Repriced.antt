@@ -35,7 +35,7 @@ cost_with price q prices config = cost_of (config_with price q config) (list_wit
 abbrev pub CostsSplit : Type 0
 CostsSplit = (price : Price) (q : ℕ) (prices : PriceList) (config : Configuration) → IsPriceList prices
     → IsWithinLimits config → cost_with price q prices config
-        ≡ cost_with price 0 prices config + q * payments price config
+    ≡ cost_with price 0 prices config + q * payments price config
 
 -- replaced by its stated value, a price changes no cost
 abbrev pub StatedCostsStay : Type 0

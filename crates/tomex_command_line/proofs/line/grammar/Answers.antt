@@ -22,7 +22,7 @@ returns c =
     let one = offered c.with_command-program.result (Ok c.without_commands.result) c.grammar.result bare_app run_shape
     c.with_command-program.ensures c.without_commands.ensures c.grammar.ensures in
     let two = offered c.with_command-program-2.result _ _ _ times_shape c.with_command-program-2.ensures one
-        c.grammar-2.ensures
+    c.grammar-2.ensures
     in
     let three = offered c.with_command-program-3.result _ _ _ stalls_shape c.with_command-program-3.ensures two
     c.grammar-3.ensures in

@@ -8,6 +8,6 @@ abbrev pub invariant-loop-price : goal.invariant-loop-price
 invariant-loop-price l = record {
   sum : l.sum
       ≡ sum_by (λ price. amount price l.prices * abs_diff (payments price l.a) (payments price l.b))
-          (take l.price-index l.all);
+      (take l.price-index l.all);
   bound : l.sum ≤ l.price-index * 2 ^ 36;
 }
