@@ -27,11 +27,11 @@ one_more file names k name contents bytes inside is older read =
 
 -- the same for lists that are seen by f and g
 pub one_more_of : {X Y : Type 0} (f : X → List ℕ) (g : Y → List ℕ) (file : List ℕ → Known) (names : List X) (k : ℕ)
-    (name : X) (shown : List ℕ) (contents : List Y) (value : Y) (grown : List Y)
-    → k < length names → name ≡ get_or names k name → shown ≡ f name
-    → AreRead file (take k (map f names)) (map g contents) → IsRead (file shown) (g value)
-    → grown ≡ contents ++ value ∷ [] → AreRead file (take (k + 1) (map f names)) (map g grown)
-one_more_of f g file names k name shown contents value grown inside is shown_is older read grown_is =
+    {name : X} {shown : List ℕ} (contents : List Y) (value : Y) {grown : List Y} → k < length names
+    → name ≡ get_or names k name → shown ≡ f name → AreRead file (take k (map f names)) (map g contents)
+    → IsRead (file shown) (g value) → grown ≡ contents ++ value ∷ []
+    → AreRead file (take (k + 1) (map f names)) (map g grown)
+one_more_of f g file names k {name} contents value inside is shown_is older read grown_is =
     let there : k < length (map f names) = omega (arith, inside, length-map names f) in
     let same : f name ≡ get_or (map f names) k (f name) = ap f is ∙ sym (get_or-map f names k name (f name) inside) in
     let is_read : IsRead (file (f name)) (g value) = subst (λ (s : List ℕ). IsRead (file s) (g value)) shown_is read in

@@ -6,7 +6,5 @@ use Rattle.tomex_command.proofs.commands.reading.read_all.Goals as goal
 pub loop-name-preserved : goal.loop-name-preserved
 loop-name-preserved g c =
     one_more_of string_bytes (λ bytes. bytes.items) (g.F.Files.file c.args.files.now) c.args.names.now
-    c.loop-name.name-index
-    c.name-item.result c.as_str.result.now c.loop-name.contents.items c.in_ok-read.field-0 c.push.new.self.items
-    c.loop-name-test.true c.name-item.is c.as_str.ensures.value c.loop-name.invariant c.in_ok-read.ensures.read
-    c.in_ok-push.ensures.items
+    c.loop-name.name-index c.loop-name.contents.items c.in_ok-read.field-0 c.loop-name-test.true c.name-item.is
+    c.as_str.ensures.value c.loop-name.invariant c.in_ok-read.ensures.read c.in_ok-push.ensures.items
