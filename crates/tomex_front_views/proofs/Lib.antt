@@ -5,4 +5,3 @@ mod Ticks
 mod Rows
 mod Strokes
 mod Dotted
-pub mod Pieces

@@ -1,7 +1,6 @@
 -- The results of loops, one turn later.
-use Rattle.std.proofs.Common.{◌≡◌, ◌∙◌, ap, sym, add-one, arith, ℕ, zero, suc, ◌+◌, ◌-◌, ◌<◌, List, [], ◌∷◌, ◌++◌}
+use Rattle.std.proofs.Common.{◌≡◌, ◌∙◌, ap, sym, add-one, arith, ℕ, zero, suc, ◌+◌, ◌<◌, List, [], ◌∷◌, ◌++◌}
 use Rattle.std.proofs.Common.{append_assoc, drop, get_or, length, map}
-use Rattle.std.specs.List.{flat_map, range_with_len}
 
 -- the results for the items from one on
 map_drop : {X Y : Type 0} (f : X → Y) (xs : List X) (k : ℕ) (x : X) → k < length xs → x ≡ get_or xs k x

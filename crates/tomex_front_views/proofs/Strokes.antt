@@ -144,12 +144,12 @@ reach_is dot column line is low =
     ∙ ap (λ (n : ℕ). prefix_len dot (range_with_len (80 + line + 1) n)) f))))
 
 -- the text that is written there
-pub written : (dot : ℕ → Bool) (column : List Bool) (x line far : ℕ) (b : Bool) (before after : List ℕ)
+pub written : (dot : ℕ → Bool) (column : List Bool) (x line : ℕ) {far : ℕ} {b : Bool} (before : List ℕ) {after : List ℕ}
     → dot 79 ≡ false → column ≡ map dot all_y → line < 281
     → b ≡ (get_or column line false && not (above column line)) → b ≡ true
     → far ≡ prefix_len (λ b. b) (drop (line + 1) column) → after ≡ before ++ stroke x (80 + line) far
     → after ≡ before ++ stroke_at dot x (80 + line)
-written dot column x line far b before after top is low b_is begun far_is grown =
+written dot column x line {b = b} before top is low b_is begun far_is grown =
     let e : begins dot (80 + line) ≡ true = sym (begins_is dot column line b top is low b_is) ∙ begun in
     grown
     ∙ (ap (λ (n : ℕ). before ++ stroke x (80 + line) n) (far_is ∙ reach_is dot column line is low)

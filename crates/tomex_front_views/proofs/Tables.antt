@@ -1,5 +1,5 @@
 -- The lengths of columns.
-use Rattle.std.proofs.Common.{◌≡◌, ◌∙◌, ◌<◌, ◌≤◌, ap, arith, cond, refl, sym, ℕ, suc, max, List, [], ◌∷◌, ◌++◌}
+use Rattle.std.proofs.Common.{◌≡◌, ◌∙◌, ◌<◌, ◌≤◌, ap, cond, refl, sym, suc, List, [], ◌∷◌, ◌++◌}
 use Rattle.std.proofs.Common.{length, map, Option, Some, None}
 use Rattle.std.specs.Prelude.{All, Bool, true, false, if◌then◌else◌, nat_lt}
 use Rattle.std.specs.List.{flat_map}

@@ -76,11 +76,11 @@ abbrev pub multiples_from : ℕ → ℕ → ℕ → List ℕ
 multiples_from step k last = map (λ (n : ℕ). n * step) (range_with_len k (last + 1 - k))
 
 -- they are all ticks of an axis at first
-pub all_ticks : (axes : Axes) (mark : Mark) (span : Span) (far step k : ℕ) (text : List ℕ) → span ≡ span_of axes mark
+pub all_ticks : (axes : Axes) (mark : Mark) {span : Span} {far step k : ℕ} (text : List ℕ) → span ≡ span_of axes mark
     → far ≡ span.greatest - span.least → step ≡ step_of far → k ≡ div_ceil span.least step
     → text ++ flat_map (mark_at axes mark) (multiples_from step k (span.greatest / step)) ≡ text ++ marks_of axes mark
 unfolding marks_of ticks_of
-all_ticks axes mark span far step k text span_is far_is step_is k_is = rw (k_is, step_is, far_is, span_is) refl
+all_ticks axes mark text span_is far_is step_is k_is = rw (k_is, step_is, far_is, span_is) refl
 
 -- then one is drawn
 next_multiple : (step k last : ℕ) → k ≤ last

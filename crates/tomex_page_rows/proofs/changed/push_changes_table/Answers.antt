@@ -3,7 +3,7 @@ use Rattle.std.proofs.Common.{◌∙◌, ◌<◌, ap, subst, sym, length, take, 
 use Rattle.std.proofs.lemmas.List.Elements.{All-get_or, All-take}
 use Rattle.std.proofs.lemmas.Result.{on_ok_weaker}
 use Rattle.tomex_pareto.specs.declared.front_row.FrontRow.{FrontRow}
-use Rattle.tomex_front_views.proofs.Pieces.{six_pieces}
+use Rattle.tomex_csv_text.proofs.Pieces.{◌▸◌, last_piece}
 use Rattle.tomex_worth.proofs.Rows.{changes_within, rows_within}
 use Rattle.tomex_worth.specs.declared.changes.Change.{Change}
 use Rattle.tomex_page_rows.specs.Changed.{changes_table}
@@ -29,8 +29,7 @@ pub returns : goal.returns
 unfolding changes_table
 returns g c =
     let changes = c.as_slice-lines.ensures.value ∙ c.in_ok-changes.ensures.changes in
-    on_ok_weaker c.write.result (λ last. six_pieces _ _ _ _ _ _ _ _ _ _ _ _ _ c.in_ok-push_str.ensures.bytes
-    c.in_ok-push_table_head.ensures
-    (rw (c.first_lines.ensures, changes) at c.in_ok-push_change_rows.ensures)
-    c.in_ok-push_table_end.ensures
-    (rw changes at c.in_ok-push_more.ensures) last) c.write.ensures.bytes
+    on_ok_weaker c.write.result (λ last.
+    (c.in_ok-push_str.ensures.bytes ▸ c.in_ok-push_table_head.ensures
+    ▸ (rw (c.first_lines.ensures, changes) at c.in_ok-push_change_rows.ensures) ▸ c.in_ok-push_table_end.ensures
+    ▸ (rw changes at c.in_ok-push_more.ensures) ▸ last_piece last).is) c.write.ensures.bytes

@@ -6,7 +6,7 @@ use Rattle.std.proofs.lemmas.List.{get_or_default}
 use Rattle.std.proofs.lemmas.List.Elements.{All-get_or}
 use Rattle.std.proofs.lemmas.Result.{on_ok_weaker}
 use Rattle.tomex_prices.specs.Percent.{percent_of}
-use Rattle.tomex_front_views.proofs.Pieces.{six_pieces}
+use Rattle.tomex_csv_text.proofs.Pieces.{◌▸◌, last_piece}
 use Rattle.tomex_page_rows.specs.Stays.{PriceRanges, prices_table, range_row_at, shown_prices}
 use Rattle.tomex_page_tables.specs.Shown.{no_row}
 use Rattle.tomex_page_rows.proofs.PriceLines.{lines_at, ranges_long}
@@ -28,7 +28,7 @@ returns g c =
     ∙ lines_at c.args.study.now c.args.shown.now c.args.place c.requires.place (shown_prices c.args.study.now)) in
     let own = get_or_default c.args.shown.now c.args.place _ no_row c.requires.place in
     let percent = c.percent.ensures.percent ∙ ap (percent_of c.args.study.now) own in
-    on_ok_weaker c.push_off.result (λ last. six_pieces _ _ _ _ _ _ _ _ _ _ _ _ _ c.in_ok-push_str.ensures.bytes
-    c.in_ok-push_table_head.ensures lines c.in_ok-push_table_end.ensures
-    (rw (c.relevant.ensures.value, c.requires.book.relevant) at c.in_ok-push_more.ensures) last)
+    on_ok_weaker c.push_off.result (λ last.
+    (c.in_ok-push_str.ensures.bytes ▸ c.in_ok-push_table_head.ensures ▸ lines ▸ c.in_ok-push_table_end.ensures
+    ▸ (rw (c.relevant.ensures.value, c.requires.book.relevant) at c.in_ok-push_more.ensures) ▸ last_piece last).is)
     (rw percent at c.push_off.ensures)

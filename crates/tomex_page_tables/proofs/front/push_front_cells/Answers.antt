@@ -2,7 +2,7 @@
 use Rattle.std.proofs.Common.{◌≡◌, ◌∙◌, ap}
 use Rattle.std.specs.List.{flat_map}
 use Rattle.std.proofs.lemmas.Result.{on_ok_weaker}
-use Rattle.tomex_front_views.proofs.Pieces.{three_pieces}
+use Rattle.tomex_csv_text.proofs.Pieces.{◌▸◌, last_piece}
 use Rattle.tomex_page_tables.specs.Front.{front_cells, own_programs, total_cell}
 use Rattle.tomex_html.specs.Tables.{number_cell}
 use Rattle.tomex_page_tables.specs.Shown.{row_of}
@@ -16,7 +16,7 @@ returns g c =
     ≡ flat_map (total_cell (row_of c.args.study.now c.args.row)) (own_programs c.args.study.now) =
     ap (flat_map number_cell) c.own_totals.ensures
     ∙ cells_of_totals c.args.study.now c.args.row (own_programs c.args.study.now) in
-    on_ok_weaker c.push_numbers.result (λ last. three_pieces _ _ _ _ _ _ _
-    (rw c.row_of-here.ensures at c.in_ok-push_own_cells.ensures)
-    (rw (c.row_of-here.ensures, c.requires.settings) at c.in_ok-push_setting_cells.ensures) last)
+    on_ok_weaker c.push_numbers.result (λ last.
+    ((rw c.row_of-here.ensures at c.in_ok-push_own_cells.ensures)
+    ▸ (rw (c.row_of-here.ensures, c.requires.settings) at c.in_ok-push_setting_cells.ensures) ▸ last_piece last).is)
     (rw totals at c.push_numbers.ensures)

@@ -6,8 +6,8 @@ use Rattle.tomex_front_views.proofs.plot.dots.push_stroke_at.Goals as goal
 pub returns-then-begins : goal.returns-then-begins
 returns-then-begins g c =
     on_ok_weaker c.push_stroke.result
-    (λ grown dot top is. written dot c.args.column.now c.args.x c.args.line c.reach.result c.begins.result _ _ top is
-    c.requires.line c.begins.ensures c.if-begins.true c.reach.ensures grown)
+    (λ grown dot top is. written dot c.args.column.now c.args.x c.args.line _ top is c.requires.line
+    c.begins.ensures c.if-begins.true c.reach.ensures grown)
     c.push_stroke.ensures
 
 pub returns : goal.returns

@@ -3,7 +3,7 @@ use Rattle.std.proofs.Common.{◌∙◌, ◌++◌, ap, List, ℕ}
 use Rattle.std.proofs.lemmas.Result.{on_ok_weaker}
 use Rattle.tomex_front_views.specs.LinkedPlot.{linked_over}
 use Rattle.tomex_front_views.specs.Plot.{staircase}
-use Rattle.tomex_front_views.proofs.Pieces.{seven_pieces}
+use Rattle.tomex_csv_text.proofs.Pieces.{◌▸◌, last_piece}
 use Rattle.tomex_front_views.proofs.plot.linked.push_linked_over.Goals as goal
 
 pub returns : goal.returns
@@ -14,9 +14,7 @@ returns g c =
     ∙ ap (λ (z : List ℕ). z ++ staircase c.axes_of-axes.result c.args.front.now) c.new-stairs.ensures.bytes in
     let stairs = rw axes at drawn in
     on_ok_weaker c.push_linked_rows.result (λ last.
-    seven_pieces _ _ _ _ _ _ _ _ _ _ _ _ _ _ _ c.in_ok-push_size.ensures
-    (rw (c.as_str.ensures.value, c.in_ok-title.ensures) at c.in_ok-push_sheet.ensures)
-    (rw (c.as_str-2.ensures.value, stairs) at c.in_ok-push_shade.ensures)
-    (rw axes at c.in_ok-push_lines.ensures) (rw axes at c.in_ok-push_scales.ensures)
-    (rw axes at c.in_ok-push_dots_line.ensures) last)
+    (c.in_ok-push_size.ensures ▸ (rw (c.as_str.ensures.value, c.in_ok-title.ensures) at c.in_ok-push_sheet.ensures)
+    ▸ (rw (c.as_str-2.ensures.value, stairs) at c.in_ok-push_shade.ensures) ▸ (rw axes at c.in_ok-push_lines.ensures)
+    ▸ (rw axes at c.in_ok-push_scales.ensures) ▸ (rw axes at c.in_ok-push_dots_line.ensures) ▸ last_piece last).is)
     (rw (c.as_str-3.ensures.value, stairs, axes) at c.push_linked_rows.ensures)

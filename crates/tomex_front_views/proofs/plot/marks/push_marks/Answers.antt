@@ -6,7 +6,7 @@ use Rattle.tomex_front_views.proofs.plot.marks.push_marks.Goals as goal
 
 pub loop-k-init : goal.loop-k-init
 loop-k-init g c =
-    all_ticks c.args.axes.now c.args.mark _ _ _ _ _ c.span_of-span.ensures c.saturating_sub.ensures
+    all_ticks c.args.axes.now c.args.mark _ c.span_of-span.ensures c.saturating_sub.ensures
     c.step_of-step.ensures.is c.div_ceil-k.ensures
 
 pub loop-k-preserved : goal.loop-k-preserved
