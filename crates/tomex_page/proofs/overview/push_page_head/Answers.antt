@@ -1,16 +1,13 @@
 -- One piece after the other.
 use Rattle.std.proofs.lemmas.Result.{on_ok_weaker}
-use Rattle.tomex_front_views.proofs.Pieces.{six_pieces}
+use Rattle.tomex_csv_text.proofs.Pieces.{◌▸◌, last_piece}
 use Rattle.tomex_page.specs.Page.{page_head}
 use Rattle.tomex_page.proofs.overview.push_page_head.Goals as goal
 
 pub returns : goal.returns
 unfolding page_head
 returns g c =
-    on_ok_weaker c.write.result (λ last. six_pieces _ _ _ _ _ _ _ _ _ _ _ _ _
-    (rw (c.as_str.ensures.value, c.in_ok-title.ensures, c.page_css.ensures) at c.in_ok-push_page_start.ensures)
-    c.in_ok-push_str.ensures.bytes
-    c.in_ok-push_name.ensures
-    c.in_ok-push_str-2.ensures.bytes
-    c.in_ok-push_counts.ensures
-    last) c.write.ensures.bytes
+    on_ok_weaker c.write.result (λ last.
+    ((rw (c.as_str.ensures.value, c.in_ok-title.ensures, c.page_css.ensures) at c.in_ok-push_page_start.ensures)
+    ▸ c.in_ok-push_str.ensures.bytes ▸ c.in_ok-push_name.ensures ▸ c.in_ok-push_str-2.ensures.bytes
+    ▸ c.in_ok-push_counts.ensures ▸ last_piece last).is) c.write.ensures.bytes

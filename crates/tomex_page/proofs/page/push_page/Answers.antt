@@ -1,15 +1,13 @@
 -- One piece after the other.
 use Rattle.std.proofs.lemmas.Result.{on_ok_weaker}
-use Rattle.tomex_front_views.proofs.Pieces.{five_pieces}
+use Rattle.tomex_csv_text.proofs.Pieces.{◌▸◌, last_piece}
 use Rattle.tomex_page.specs.Page.{page_over}
 use Rattle.tomex_page.proofs.page.push_page.Goals as goal
 
 pub returns : goal.returns
 unfolding page_over
 returns g c =
-    on_ok_weaker c.push_page_end.result (λ last. five_pieces _ _ _ _ _ _ _ _ _ _ _
-    (rw (c.front-front.ensures.value, c.rows.ensures.value) at c.in_ok-push_page_head.ensures)
-    c.in_ok-push_overview.ensures
-    c.in_ok-push_rows.ensures
-    (rw c.page_help.ensures at c.in_ok-push_str.ensures.bytes)
-    last) c.push_page_end.ensures
+    on_ok_weaker c.push_page_end.result (λ last.
+    ((rw (c.front-front.ensures.value, c.rows.ensures.value) at c.in_ok-push_page_head.ensures)
+    ▸ c.in_ok-push_overview.ensures ▸ c.in_ok-push_rows.ensures
+    ▸ (rw c.page_help.ensures at c.in_ok-push_str.ensures.bytes) ▸ last_piece last).is) c.push_page_end.ensures

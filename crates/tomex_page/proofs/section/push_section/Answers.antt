@@ -1,13 +1,11 @@
 -- One piece after the other.
 use Rattle.std.proofs.lemmas.Result.{on_ok_weaker}
-use Rattle.tomex_front_views.proofs.Pieces.{three_pieces}
+use Rattle.tomex_csv_text.proofs.Pieces.{◌▸◌, last_piece}
 use Rattle.tomex_page.specs.Page.{row_section}
 use Rattle.tomex_page.proofs.section.push_section.Goals as goal
 
 pub returns : goal.returns
 unfolding row_section
 returns g c =
-    on_ok_weaker c.push_section_runs.result (λ last. three_pieces _ _ _ _ _ _ _
-    c.in_ok-push_head.ensures
-    c.in_ok-push_tables.ensures
-    last) c.push_section_runs.ensures
+    on_ok_weaker c.push_section_runs.result (λ last.
+    (c.in_ok-push_head.ensures ▸ c.in_ok-push_tables.ensures ▸ last_piece last).is) c.push_section_runs.ensures

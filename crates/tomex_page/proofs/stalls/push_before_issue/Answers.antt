@@ -1,15 +1,13 @@
 -- One piece after the other.
 use Rattle.std.proofs.lemmas.Result.{on_ok_weaker}
-use Rattle.tomex_front_views.proofs.Pieces.{five_pieces}
+use Rattle.tomex_csv_text.proofs.Pieces.{◌▸◌, last_piece}
 use Rattle.tomex_page.specs.Stalls.{before_issue}
 use Rattle.tomex_page.proofs.stalls.push_before_issue.Goals as goal
 
 pub returns : goal.returns
 unfolding before_issue
 returns g c =
-    on_ok_weaker c.push_cause-2.result (λ last. five_pieces _ _ _ _ _ _ _ _ _ _ _
-    c.in_ok-push_group.ensures
-    c.in_ok-push_cause.ensures
-    c.in_ok-push_part.ensures
-    (rw c.pool_parts.ensures at c.in_ok-push_parts.ensures)
-    last) (rw c.drain.ensures at c.push_cause-2.ensures)
+    on_ok_weaker c.push_cause-2.result (λ last.
+    (c.in_ok-push_group.ensures ▸ c.in_ok-push_cause.ensures ▸ c.in_ok-push_part.ensures
+    ▸ (rw c.pool_parts.ensures at c.in_ok-push_parts.ensures) ▸ last_piece last).is)
+    (rw c.drain.ensures at c.push_cause-2.ensures)

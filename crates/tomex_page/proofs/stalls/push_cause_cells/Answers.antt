@@ -1,9 +1,9 @@
 -- One piece after the other.
 use Rattle.std.proofs.lemmas.Result.{on_ok_weaker}
-use Rattle.tomex_front_views.proofs.Pieces.{three_pieces}
+use Rattle.tomex_csv_text.proofs.Pieces.{◌▸◌, last_piece}
 use Rattle.tomex_page.proofs.stalls.push_cause_cells.Goals as goal
 
 pub returns : goal.returns
 returns g c =
-    on_ok_weaker c.push_cycles.result (λ last. three_pieces _ _ _ _ _ _ _ c.in_ok-push_empty.ensures
-    c.in_ok-push_empty-2.ensures last) c.push_cycles.ensures
+    on_ok_weaker c.push_cycles.result (λ last.
+    (c.in_ok-push_empty.ensures ▸ c.in_ok-push_empty-2.ensures ▸ last_piece last).is) c.push_cycles.ensures

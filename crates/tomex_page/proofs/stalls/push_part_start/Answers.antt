@@ -1,11 +1,11 @@
 -- One piece after the other.
 use Rattle.std.proofs.lemmas.Result.{on_ok_weaker}
-use Rattle.tomex_front_views.proofs.Pieces.{three_pieces}
+use Rattle.tomex_csv_text.proofs.Pieces.{◌▸◌, last_piece}
 use Rattle.tomex_html.specs.Tables.{row_start}
 use Rattle.tomex_page.proofs.stalls.push_part_start.Goals as goal
 
 pub returns : goal.returns
 unfolding row_start
 returns g c =
-    on_ok_weaker c.write.result (λ last. three_pieces _ _ _ _ _ _ _ c.in_ok-push_str.ensures.bytes
-    c.in_ok-push_name_of_part.ensures last) c.write.ensures.bytes
+    on_ok_weaker c.write.result (λ last.
+    (c.in_ok-push_str.ensures.bytes ▸ c.in_ok-push_name_of_part.ensures ▸ last_piece last).is) c.write.ensures.bytes
