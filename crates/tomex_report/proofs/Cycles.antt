@@ -57,13 +57,14 @@ has_end_at s front ends k place p e are is within here =
 
 -- the cycles on one more row
 pub cycles_more : {A : Type 0} (s : DesignSpace) (front : List FrontRow) (ends : List (RowEnds A)) (k place : ℕ)
-    (p : Workload)
-    (e : RowEnds A) (x : ProgramEnd A) (before after whole : List ℕ) → AllZip (λ r e. AreEndsOf s r e) front ends
+    {p : Workload} {e : RowEnds A} {x : ProgramEnd A} (before : List ℕ) {after whole : List ℕ}
+    → AllZip (λ r e. AreEndsOf s r e) front ends
     → slice_get s.programs place ≡ Some p → k < length ends → e ≡ get_or ends k e → x ≡ get_or e.programs.items place x
     → after ≡ before ++ x.total ∷ []
     → before ++ map (λ r. total (config_of s r) p.image) (drop k front) ≡ whole
     → after ++ map (λ r. total (config_of s r) p.image) (drop (k + 1) front) ≡ whole
-cycles_more s front ends k place p e x before after whole are is within here found grown so_far =
+cycles_more s front ends k place {p = p} {e = e} {x = x} before {after = after} {whole = whole} are is within here found
+    grown so_far =
     let long = AllZip-long (λ r e. AreEndsOf s r e) front ends are in
     let inside : k < length front = omega (arith, long, within) in
     let none : FrontRow = record { row = 0; cost = 0; cycles = 0 } in

@@ -34,10 +34,8 @@ loop-end-preserved g c =
     let before = c.loop-end.cycles.items in
     let grown = c.in_ok-push.ensures.items ∙ ap (λ x. before ++ x.total ∷ []) (sym c.index-programs-place.is) in
     let found = rw c.as_slice-programs.ensures.value at c.index-programs-place.is in
-    cycles_more c.args.study.now c.args.front.now c.args.ends.now c.loop-end.end-index c.args.place c.args.program.now
-    c.end-item.result c.index-programs-place.result _ _ _ c.requires.ends c.requires.program c.loop-end-test.true
-    c.end-item.is
-    found grown c.loop-end.invariant
+    cycles_more c.args.study.now c.args.front.now c.args.ends.now c.loop-end.end-index c.args.place before
+    c.requires.ends c.requires.program c.loop-end-test.true c.end-item.is found grown c.loop-end.invariant
 
 pub returns : goal.returns
 unfolding cycles_on
