@@ -1,3 +1,4 @@
 -- Lemmas of this crate.
+pub mod Firsts
 mod Widths
 pub mod Loops
