@@ -10,14 +10,13 @@ use Rattle.tomex_steps.specs.Steps.{step_pool, step_unit}
 use Rattle.tomex_steps.specs.declared.step.Step.{Step}
 use Rattle.tomex_config.specs.Configuration.{Configuration, IsWithinLimits}
 use Rattle.tomex_timing.specs.History.{cycle_of, greatest_end, is_memory, last_issue}
-use Rattle.tomex_timing.specs.Needs.{cycles_that, lacks_address, lacks_branch, lacks_memory, lacks_operand}
-use Rattle.tomex_timing.specs.Needs.{lacks_station, lacks_unit, lacks_width, waits_in, waits_of}
-use Rattle.tomex_timing.specs.Recurrence.{AreTimed, IsLeast, IsTimed, are_branches_finished, are_conflicts_finished}
-use Rattle.tomex_timing.specs.Recurrence.{can_address, can_issue_another, has_operands}
+use Rattle.tomex_timing.specs.Needs.{cycles_that, lacks_address, lacks_operand, waits_in, waits_of}
+use Rattle.tomex_timing.specs.Recurrence.{AreTimed, IsLeast, IsTimed, can_address, has_operands}
 use Rattle.tomex_timing.specs.Search.{history, times_in, times_of, total_of}
 use Rattle.tomex_timing.specs.declared.part.Waits.{Waits}
 use Rattle.tomex_timing.specs.declared.times.Done.{Done}
 use Rattle.tomex_timing.specs.declared.times.Times.{Times}
+use Rattle.tomex_timing.proofs.Accounts.{issue_account, start_account}
 use Rattle.tomex_timing.proofs.Bound.{issue_low, memory_unit}
 use Rattle.tomex_timing.proofs.Histories.{are_timed, history_more, length-times_in, times_more, total_is}
 use Rattle.tomex_timing.proofs.Orders.{address_rises, reach, start_later}
@@ -43,35 +42,6 @@ never t = false
 
 never_passes : (from to : ℕ) → cycles_that never from to ≡ 0
 never_passes from to = same never false from to (λ t l m. refl)
-
-issue_ways : (b w : Bool) → one (not b) + one (b && not w) + one (b && w) + one false ≡ 1
-issue_ways true true = refl
-issue_ways true false = refl
-issue_ways false w = refl
-
-issue_waits_add_up : (config : Configuration) (older : List Done) (d : Done) → (waits_of config older d).branch
-    + (waits_of config older d).width + (waits_of config older d).station ≡ d.at.issue - max 1 (last_issue older)
-issue_waits_add_up config older d =
-    let all = ways (lacks_branch older) (lacks_width config older) (lacks_station config older) never
-    (max 1 (last_issue older)) d.at.issue
-    (λ t l m. issue_ways (are_branches_finished older t) (can_issue_another config older t)) in
-    let none = never_passes (max 1 (last_issue older)) d.at.issue in
-    omega arith
-
-start_ways : (o a m : Bool) → one (not o) + one (o && not a) + one ((o && a) && not m) + one ((o && a) && m) ≡ 1
-start_ways true true true = refl
-start_ways true true false = refl
-start_ways true false m = refl
-start_ways false a m = refl
-
-start_waits_add_up : (config : Configuration) (older : List Done) (d : Done) → (waits_of config older d).operand
-    + (waits_of config older d).address + (waits_of config older d).memory
-    + (waits_of config older d).unit ≡ d.at.start - (d.at.issue + 1)
-start_waits_add_up config older d =
-    ways (lacks_operand older d) (lacks_address older d) (lacks_memory older d) (lacks_unit older d)
-    (d.at.issue + 1) d.at.start
-    (λ t l m. start_ways (has_operands older d.step t) (nat_lt (cycle_of d.at.address) t)
-    (are_conflicts_finished older d.step t))
 
 address_ways : (o : Bool) → one (not o) + one (o && not false) + one false + one false ≡ 1
 address_ways true = refl
@@ -125,9 +95,9 @@ placed config older d number last good timed within =
     record {
       low = omega arith;
       order = omega arith;
-      issue = issue_waits_add_up config older d;
+      issue = issue_account config older d;
       begun = begun config older d (step_unit d.step) refl timed.0;
-      start = start_waits_add_up config older d;
+      start = start_account config older d;
       finish = times.order;
       end = times.finish;
       bus = refl;

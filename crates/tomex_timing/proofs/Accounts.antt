@@ -54,7 +54,7 @@ issue_ways : (b w : Bool) → one (not b) + one (b && not w) + one (b && w) ≡ 
 issue_ways b w = grind (arith, nat_tests)
 
 -- the waits of one issue
-issue_account : (config : Configuration) (older : List Done) (d : Done) → (waits_of config older d).branch
+pub issue_account : (config : Configuration) (older : List Done) (d : Done) → (waits_of config older d).branch
     + (waits_of config older d).width + (waits_of config older d).station ≡ d.at.issue - max 1 (last_issue older)
 issue_account config older d = three_ways (lacks_branch older) (lacks_width config older) (lacks_station config older)
     (d.at.issue - max 1 (last_issue older)) (max 1 (last_issue older))
@@ -117,7 +117,7 @@ issue_cycles config d older good timed =
 start_ways : (o a m : Bool) → one (not o) + one (o && not a) + one ((o && a) && not m) + one ((o && a) && m) ≡ 1
 start_ways o a m = grind (arith, nat_tests)
 
-start_account : (config : Configuration) (older : List Done) (d : Done) → (waits_of config older d).operand
+pub start_account : (config : Configuration) (older : List Done) (d : Done) → (waits_of config older d).operand
     + (waits_of config older d).address + (waits_of config older d).memory
     + (waits_of config older d).unit ≡ d.at.start - (d.at.issue + 1)
 start_account config older d =
