@@ -7,7 +7,7 @@ use Rattle.tomex_study.specs.Program.{Workload}
 use Rattle.tomex_study.specs.Study.{DesignSpace, program_named}
 use Rattle.tomex_command.specs.declared.failure.Failure.{Failure}
 use Rattle.tomex_command.specs.declared.failure.Failure.TheVariants.{NoSuchRow, NoSuchProgram}
-use Rattle.tomex_command_line.specs.declared.line.studied.OneRun.{OneRun}
+use Rattle.tomex_command_line.specs.declared.line.one_run.OneRun.{OneRun}
 use Rattle.tomex_streams.specs.Files.{Known}
 use Rattle.tomex_command.specs.StudyFiles.{IsStudyIn, IsStudyFailure, IsStudyWith}
 

@@ -4,7 +4,7 @@ use Rattle.tomex_rvexec.specs.Run.{start_of}
 use Rattle.tomex_rvexec.specs.Trace.{steps_from}
 use Rattle.tomex_texts.specs.TimesReport.{times_report_of}
 use Rattle.tomex_command.specs.declared.failure.Failure.{Failure}
-use Rattle.tomex_command_line.specs.declared.line.studied.OneRun.{OneRun}
+use Rattle.tomex_command_line.specs.declared.line.one_run.OneRun.{OneRun}
 use Rattle.tomex_command.specs.Chosen.{IsOfRun, IsRunFailure}
 use Rattle.tomex_streams.specs.Files.{Known}
 
