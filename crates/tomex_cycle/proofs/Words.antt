@@ -128,7 +128,7 @@ pub use Rattle.tomex_timing.specs.Tests.{CanStart}
 pub use Rattle.tomex_bus.proofs.Listings.{in_head, in_tail}
 pub use Rattle.std.proofs.lemmas.List.FromFn.{get_or-map-range_with_len, length-map-range_with_len}
 pub use Rattle.tomex_tags.proofs.Serving.{pool_place}
-pub use Rattle.tomex_timing.proofs.Settled.{count_none, AllBy}
+pub use Rattle.tomex_timing.proofs.AfterEnd.{count_none, AllBy}
 pub use Rattle.std.proofs.lemmas.List.Elements.{All-from_recursion, recursion_from_All, filter-append}
 pub use Rattle.tomex_cycle.specs.declared.activity.Activity.{Activity}
 pub use Rattle.tomex_cycle.specs.declared.activity.Activity.TheVariants.{Nothing, Starts, More}

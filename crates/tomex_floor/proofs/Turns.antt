@@ -15,9 +15,9 @@ use Rattle.tomex_timing.specs.declared.times.Done.{Done}
 use Rattle.tomex_timing.specs.declared.times.Times.{Times}
 use Rattle.tomex_timing.specs.History.{is_memory, cycle_of, writer_end}
 use Rattle.tomex_timing.specs.Recurrence.{conflicts}
-use Rattle.tomex_timing.specs.Window.{written_by}
+use Rattle.tomex_timing.specs.Recent.{written_by}
 use Rattle.tomex_timing.proofs.Limits.{latency_high}
-use Rattle.tomex_timing.proofs.Settled.{AllBy, IsDoneBy, last_address_by, source_end_by, writer_end_by}
+use Rattle.tomex_timing.proofs.AfterEnd.{AllBy, IsDoneBy, last_address_by, source_end_by, writer_end_by}
 use Rattle.tomex_floor.specs.declared.latest.Latest.{Latest}
 use Rattle.tomex_floor.specs.Floor.{floor_address, floor_end, floor_from, floor_issue, floor_start, floor_times}
 use Rattle.tomex_floor.specs.Floor.{floors_of}

@@ -14,7 +14,7 @@ use Rattle.tomex_timing.specs.declared.times.Done.{Done}
 use Rattle.tomex_timing.specs.declared.times.Times.{Times}
 use Rattle.tomex_timing.specs.History.{cycle_of, is_memory, writer_end, last_address, greatest_end}
 use Rattle.tomex_timing.specs.Recurrence.{conflicts}
-use Rattle.tomex_timing.specs.Window.{register_of, written_by}
+use Rattle.tomex_timing.specs.Recent.{register_of, written_by}
 use Rattle.tomex_floor.specs.declared.facts.Facts.{Facts}
 use Rattle.tomex_floor.specs.declared.latest.Latest.{Latest}
 use Rattle.tomex_floor.specs.declared.accesses.Finishes.{Finishes}

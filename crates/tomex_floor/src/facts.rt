@@ -3,7 +3,7 @@
 ghost use Rattle.std.specs.Prelude.{◌≡◌, ◌<◌, IfSome};
 ghost use Rattle.std.specs.Option.{ForSome};
 ghost use Rattle.tomex_timing.specs.History.{is_memory};
-ghost use Rattle.tomex_timing.specs.Window.{register_of};
+ghost use Rattle.tomex_timing.specs.Recent.{register_of};
 ghost use Rattle.tomex_floor.specs.Kept.{AreInRange, facts_of};
 
 use tomex_rvdec::{PoolId, UnitId};

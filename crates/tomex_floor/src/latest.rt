@@ -4,7 +4,7 @@ ghost use Rattle.std.specs.Prelude.{◌≡◌, ◌<◌, ◌≤◌, ◌^◌, List
 ghost use Rattle.tomex_steps.specs.declared.step.Operand.{Operand};
 ghost use Rattle.tomex_timing.specs.declared.times.Done.{Done};
 ghost use Rattle.tomex_timing.specs.History.{source_end};
-ghost use Rattle.tomex_timing.specs.Window.{register_of};
+ghost use Rattle.tomex_timing.specs.Recent.{register_of};
 ghost use Rattle.tomex_floor.specs.Kept.{IsLatest, IsLatestBy, latest_after};
 
 use crate::facts::Facts;

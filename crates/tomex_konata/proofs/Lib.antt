@@ -1,5 +1,5 @@
 pub mod Sorting
-pub mod Quiet
+pub mod NoLines
 pub mod Moments
 pub mod Written
 pub mod Steps

@@ -13,7 +13,7 @@ use Rattle.tomex_konata.specs.Konata.{step_lines, with_cycle}
 use Rattle.tomex_konata.specs.Kept.{change_cycles, change_in, changes_of, events_of, steps_out_after, lines_at, out_of}
 use Rattle.tomex_konata.specs.Kept.{events_text}
 use Rattle.tomex_konata.proofs.Moments.{changes_at}
-use Rattle.tomex_konata.proofs.Quiet.{quiet}
+use Rattle.tomex_konata.proofs.NoLines.{quiet}
 use Rattle.tomex_konata.proofs.Sorting.{Rises, at, later, parted, rest_at, rest_rises}
 
 -- a cycle's lines may be written in two parts

@@ -21,7 +21,7 @@ use Rattle.tomex_timing.proofs.Demanded.{demand_is, demands_total}
 use Rattle.tomex_timing.proofs.Histories.{are_timed, total_of-history}
 use Rattle.tomex_timing.proofs.Implied.{part_listed, unit_listed}
 use Rattle.tomex_timing.proofs.Limits.{between, buses_high, latency_high, stations_high, units_high}
-use Rattle.tomex_timing.proofs.Serving.{serves_runs}
+use Rattle.tomex_timing.proofs.SameTimes.{serves_runs}
 use Rattle.tomex_timing.proofs.Taken.{peak_within}
 use Rattle.tomex_plateaus.specs.Laws.{OwnConfigurationLiesOn, TotalIsThatOfThePlateau}
 use Rattle.tomex_plateaus.specs.Plateaus.{counts_for, counts_of, is_within, latencies_for, latencies_of, latency_for}

@@ -20,7 +20,7 @@ use Rattle.tomex_timing.proofs.Accounts.{issue_cycles, kind_stalls, station_cycl
 use Rattle.tomex_timing.proofs.Bound.{in_reach, timed_by}
 use Rattle.tomex_timing.proofs.Histories.{are_timed, history_bound, history_more, times_more}
 use Rattle.tomex_timing.proofs.Search.{times_are}
-use Rattle.tomex_timing.proofs.Settled.{last_issue_by}
+use Rattle.tomex_timing.proofs.AfterEnd.{last_issue_by}
 use Rattle.tomex_timing.proofs.WaitLists.{waits_more}
 use Rattle.tomex_run_views.specs.ByPlace.{Visit, visits_after, visits_in}
 use Rattle.tomex_run_views.specs.Drain.{cycles_in_unit, cycles_under_way}

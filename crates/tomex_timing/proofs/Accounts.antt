@@ -24,7 +24,7 @@ use Rattle.tomex_timing.specs.Recurrence.{are_branches_finished, has_operands, a
 use Rattle.tomex_timing.proofs.Bands.{none_of, none_pass}
 use Rattle.tomex_timing.proofs.Bound.{end_low, issue_low, timed_by}
 use Rattle.tomex_timing.proofs.Limits.{latency_low}
-use Rattle.tomex_timing.proofs.Settled.{last_issue_by}
+use Rattle.tomex_timing.proofs.AfterEnd.{last_issue_by}
 use Rattle.tomex_timing.proofs.Width.{issue_from}
 use Rattle.tomex_timing.proofs.Stations.{one}
 use Rattle.tomex_timing.proofs.Tests.{IsAtOnce, IsOperation, at_once, operation}

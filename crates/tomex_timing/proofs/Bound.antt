@@ -20,8 +20,8 @@ use Rattle.tomex_timing.proofs.Least.{least_le}
 use Rattle.tomex_timing.proofs.Limits.{latency_low, latency_high}
 use Rattle.tomex_timing.proofs.Tests.{IsAtOnce, IsOperation, at_once, can_end_is, can_issue_is, can_start_is}
 use Rattle.tomex_timing.proofs.Tests.{cases_unit, operation}
-use Rattle.tomex_timing.proofs.Settled.{AllBy, IsDoneBy, can_issue_after, can_address_after, can_start_after}
-use Rattle.tomex_timing.proofs.Settled.{can_end_after}
+use Rattle.tomex_timing.proofs.AfterEnd.{AllBy, IsDoneBy, can_issue_after, can_address_after, can_start_after}
+use Rattle.tomex_timing.proofs.AfterEnd.{can_end_after}
 
 pub issue_low : (config : Configuration) (older : List Done) (s : Step) (t : ℕ) → can_issue config older s t ≡ true
     → 0 < t

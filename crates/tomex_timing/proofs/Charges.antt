@@ -21,7 +21,7 @@ use Rattle.tomex_timing.specs.Ahead.{Held}
 use Rattle.tomex_timing.specs.declared.next.Marks.{Marks}
 use Rattle.tomex_timing.specs.declared.next.Next.{Next}
 use Rattle.tomex_timing.specs.Waiting.{operands_from, waits_by}
-use Rattle.tomex_timing.specs.Window.{ready_from}
+use Rattle.tomex_timing.specs.Recent.{ready_from}
 use Rattle.tomex_timing.proofs.Bools.{and_but, and_swap, and_true}
 use Rattle.tomex_timing.proofs.NextTimed.{ComesNext, HasMarks, Runs, from_is, has_marks, next_timed, start_marked}
 use Rattle.tomex_timing.proofs.Width.{issue_from as issue_after}

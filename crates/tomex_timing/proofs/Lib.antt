@@ -4,7 +4,7 @@ pub mod TablesRows
 pub mod Limits
 pub mod Least
 pub mod Tests
-pub mod Settled
+pub mod AfterEnd
 pub mod Bound
 pub mod Stations
 pub mod Search
@@ -14,7 +14,7 @@ pub mod Orders
 pub mod Holders
 pub mod Taken
 pub mod Implied
-pub mod Serving
+pub mod SameTimes
 pub mod Bools
 pub mod Splits
 pub mod Bands

@@ -22,7 +22,7 @@ use Rattle.tomex_timing.specs.History.{is_of, last_issue, greatest_end}
 use Rattle.tomex_timing.specs.Needs.{AreNeeds, need_of, no_need, peak, stalls, taken_by, waits_for, waits_of}
 use Rattle.tomex_timing.specs.Laws.{InReach}
 use Rattle.tomex_timing.specs.Waiting.{need_after, needs_after, nothing_needed, stations_after, taken_from, units_after}
-use Rattle.tomex_timing.specs.Window.{facts_of}
+use Rattle.tomex_timing.specs.Recent.{facts_of}
 use Rattle.tomex_timing.proofs.Summary.{issued_kept}
 use Rattle.tomex_timing.proofs.Limits.{pool_in, unit_in, unit_is}
 use Rattle.tomex_timing.proofs.NextTimed.{ComesNext, next_timed}

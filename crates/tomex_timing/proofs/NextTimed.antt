@@ -21,7 +21,7 @@ use Rattle.tomex_timing.specs.Recurrence.{can_end, can_issue, can_start, has_ope
 use Rattle.tomex_timing.specs.Search.{least}
 use Rattle.tomex_timing.specs.Station.{is_held, has_station, is_free}
 use Rattle.tomex_timing.specs.Waiting.{operands_from}
-use Rattle.tomex_timing.specs.Window.{HasRegisters, facts_of, ready_from, register_of}
+use Rattle.tomex_timing.specs.Recent.{HasRegisters, facts_of, ready_from, register_of}
 use Rattle.tomex_timing.proofs.Summary.{source_agree, IsSummary}
 use Rattle.tomex_timing.proofs.Least.{first_from_le, least_agree}
 use Rattle.tomex_timing.proofs.Limits.{latency_low, stations_high}

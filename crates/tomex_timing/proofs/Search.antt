@@ -18,7 +18,7 @@ use Rattle.tomex_timing.specs.Search.{timed_of}
 use Rattle.tomex_timing.proofs.Bound.{timed_by}
 use Rattle.tomex_timing.proofs.Least.{least_is, least_le, least_same}
 use Rattle.tomex_timing.proofs.Limits.{latency_high}
-use Rattle.tomex_timing.proofs.Settled.{AllBy, can_issue_after, can_address_after, can_start_after, can_end_after}
+use Rattle.tomex_timing.proofs.AfterEnd.{AllBy, can_issue_after, can_address_after, can_start_after, can_end_after}
 use Rattle.tomex_timing.proofs.Stations.{number_is}
 use Rattle.tomex_timing.proofs.Tests.{IsAtOnce, IsOperation, at_once, can_address_is, cases_unit, operation}
 

@@ -19,14 +19,14 @@ use Rattle.tomex_timing.specs.declared.accesses.Access.{Access}
 use Rattle.tomex_timing.specs.declared.next.Next.{Next}
 use Rattle.tomex_timing.specs.declared.times.Done.{Done}
 use Rattle.tomex_timing.specs.declared.times.Times.{Times}
-use Rattle.tomex_timing.specs.declared.window.Facts.{Facts}
+use Rattle.tomex_timing.specs.declared.recent.Facts.{Facts}
 use Rattle.tomex_reservations.specs.Reservations.{end_at, station_place}
 use Rattle.tomex_timing.specs.Ahead.{Held, IsHeldAfter, TakesStation, accesses_with, ends_with, is_past, one}
 use Rattle.tomex_timing.specs.History.{is_of, last_issue, greatest_end}
 use Rattle.tomex_timing.specs.Laws.{InReach}
 use Rattle.tomex_timing.specs.Recurrence.{are_conflicts_finished}
 use Rattle.tomex_timing.specs.Station.{is_free}
-use Rattle.tomex_timing.specs.Window.{facts_of}
+use Rattle.tomex_timing.specs.Recent.{facts_of}
 use Rattle.tomex_timing.proofs.Bools.{and_assoc, and_swap, and_true}
 use Rattle.tomex_timing.proofs.Summary.{kept_on, IsSummary}
 use Rattle.tomex_timing.proofs.Limits.{pool_in, stations_high}

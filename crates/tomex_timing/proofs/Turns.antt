@@ -17,7 +17,7 @@ use Rattle.tomex_timing.specs.declared.needs.Needs.{Needs}
 use Rattle.tomex_timing.specs.declared.next.Next.{Next}
 use Rattle.tomex_timing.specs.declared.part.Waits.{Waits}
 use Rattle.tomex_timing.specs.declared.waiting.Taken.{Taken}
-use Rattle.tomex_timing.specs.declared.window.Facts.{Facts}
+use Rattle.tomex_timing.specs.declared.recent.Facts.{Facts}
 use Rattle.tomex_timing.specs.Ahead.{CanKeep, Held, IsHeldAfter, IsIdle, IsNextBy, IsReady, RunsOn, TakesBus}
 use Rattle.tomex_timing.specs.Ahead.{TakesStation, end_in}
 use Rattle.tomex_timing.specs.History.{last_issue, greatest_end}
@@ -26,7 +26,7 @@ use Rattle.tomex_timing.specs.Needs.{AreNeeds, waits_in}
 use Rattle.tomex_timing.specs.Recurrence.{IsTimed}
 use Rattle.tomex_timing.specs.Search.{times_of, history, times_in}
 use Rattle.tomex_timing.specs.Waiting.{AreWithin, IsWithin, needs_after, taken_from, waits_by}
-use Rattle.tomex_timing.specs.Window.{AreFacts, HasRegisters, facts_of}
+use Rattle.tomex_timing.specs.Recent.{AreFacts, HasRegisters, facts_of}
 use Rattle.tomex_timing.proofs.Charges.{waits_are}
 use Rattle.tomex_timing.proofs.Histories.{are_timed, history_more, times_more, history_bound, length-history}
 use Rattle.tomex_timing.proofs.Limits.{buses_high, stations_high, units_high}

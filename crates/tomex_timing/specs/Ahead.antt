@@ -13,14 +13,14 @@ use Rattle.tomex_config.specs.Configuration.{Configuration, stations_of, option_
 use Rattle.tomex_timing.specs.declared.accesses.Access.{Access}
 use Rattle.tomex_timing.specs.declared.next.Next.{Next}
 use Rattle.tomex_timing.specs.declared.times.Times.{Times}
-use Rattle.tomex_timing.specs.declared.window.Facts.{Facts}
-use Rattle.tomex_timing.specs.declared.window.Latest.{Latest}
-use Rattle.tomex_timing.specs.declared.window.Window.{Window}
+use Rattle.tomex_timing.specs.declared.recent.Facts.{Facts}
+use Rattle.tomex_timing.specs.declared.recent.Latest.{Latest}
+use Rattle.tomex_timing.specs.declared.recent.Recent.{Recent}
 use Rattle.tomex_timing.specs.History.{is_of}
 use Rattle.tomex_timing.specs.Recurrence.{shares_byte}
 use Rattle.tomex_timing.specs.Waiting.{operands_from}
-use Rattle.tomex_timing.specs.Window.{HasRegisters, address_among, is_memory_pool, issue_from, latest_after}
-use Rattle.tomex_timing.specs.Window.{nothing_yet, ready_from}
+use Rattle.tomex_timing.specs.Recent.{HasRegisters, address_among, is_memory_pool, issue_from, latest_after}
+use Rattle.tomex_timing.specs.Recent.{nothing_yet, ready_from}
 use Rattle.tomex_reservations.specs.Reservations.{Reserved, IsFirst, IsFreeFirst, bus_line, end_at, is_left}
 use Rattle.tomex_reservations.specs.Reservations.{station_place, taken_at}
 
@@ -31,7 +31,7 @@ pub record Held : Type 0 where
   pub ends : List ℕ
   pub accesses : List Access
 
-abbrev pub held_by : {A : Type 0} → Window A → Held
+abbrev pub held_by : {A : Type 0} → Recent A → Held
 held_by w = record { latest = w.latest; table = w.table; ends = w.stations.ends; accesses = w.accesses.items }
 
 -- before the first step

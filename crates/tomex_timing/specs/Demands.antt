@@ -15,7 +15,7 @@ use Rattle.tomex_timing.specs.declared.part.Part.TheVariants.{Stations, Units, B
 use Rattle.tomex_timing.specs.declared.part.Waits.{Waits}
 use Rattle.tomex_timing.specs.declared.times.Done.{Done}
 use Rattle.tomex_timing.specs.declared.waiting.Taken.{Taken}
-use Rattle.tomex_timing.specs.declared.window.Facts.{Facts}
+use Rattle.tomex_timing.specs.declared.recent.Facts.{Facts}
 use Rattle.tomex_timing.specs.Needs.{AreNeeds}
 
 -- a part's peak, and whether any step waits for it

@@ -5,7 +5,7 @@ pub mod Tests
 pub mod Search
 pub mod Needs
 pub mod Tables
-pub mod Window
+pub mod Recent
 pub mod Waiting
 pub mod Demands
 pub mod Ahead

@@ -4,7 +4,7 @@ ghost use Rattle.std.specs.Prelude.{◌≡◌, ℕ, ◌+◌, ◌^◌, ◌<◌, �
 ghost use Rattle.tomex_timing.specs.Ahead.{ArePast, access_conflicts};
 ghost use Rattle.tomex_timing.specs.Recurrence.{shares_byte};
 
-use crate::window::Facts;
+use crate::recent::Facts;
 use tomex_rvexec::ByteRange;
 
 /// A load or store that may not have finished yet.

@@ -10,14 +10,14 @@ ghost use Rattle.tomex_timing.specs.Ahead.{RunsOn, end_in, ends_after, held_by, 
 ghost use Rattle.tomex_timing.specs.Demands.{demand_after, demands_after, stations_asked, units_asked};
 ghost use Rattle.tomex_timing.specs.History.{cycle_of, is_of};
 ghost use Rattle.tomex_timing.specs.Waiting.{past_branches, taken_from, waits_by};
-ghost use Rattle.tomex_timing.specs.Window.{HasRegisters, latest_after};
+ghost use Rattle.tomex_timing.specs.Recent.{HasRegisters, latest_after};
 
 use crate::accesses::past_conflicts;
 use crate::demands::{Demand, Demands};
 use crate::next::{Marks, Next, end_of, issue_from, ready_of};
+use crate::recent::{Facts, Latest, Recent, keep_access};
 use crate::times::Times;
 use crate::turn::next_turn;
-use crate::window::{Facts, Latest, Window, keep_access};
 use std::alloc::{AllocError, Allocator};
 use tomex_config::Config;
 use tomex_reservations::{BUSES, ReservationTable, Room};
@@ -152,7 +152,7 @@ fn address_after(latest: &Latest, base: u64, issue: u64) -> u64
 /// Completes an operation that has issued: notes its start, finish and end, and keeps the step, except as an access.
 #[inline(always)]
 fn run_issued<A: Allocator>(
-    window: &mut Window<A>,
+    recent: &mut Recent<A>,
     demands: &mut Demands,
     config: &Config,
     facts: &Facts,
@@ -163,38 +163,38 @@ fn run_issued<A: Allocator>(
     requires pool { facts.now.pool ≡ Some pool }
     requires unit { facts.now.unit ≡ Some unit }
     requires registers { HasRegisters facts.now }
-    requires settled { IsSettledBy (held_by window.old) }
-    requires small { window.old.latest.end < 2 ^ 63 }
-    requires count { let latest = window.old.latest in
+    requires settled { IsSettledBy (held_by recent.old) }
+    requires small { recent.old.latest.end < 2 ^ 63 }
+    requires count { let latest = recent.old.latest in
         issued.count ≡ (if issued.cycle == latest.issue then latest.issued + 1 else 1) }
-    requires issue { (window.old.latest.issue ≤ issued.cycle) × (issued.cycle ≤ window.old.latest.end + 1) }
-    requires address { cycle_of issued.address ≤ window.old.latest.end + 2 }
+    requires issue { (recent.old.latest.issue ≤ issued.cycle) × (issued.cycle ≤ recent.old.latest.end + 1) }
+    requires address { cycle_of issued.address ≤ recent.old.latest.end + 2 }
     requires number { issued.number < 16 }
     ensures from { IfOk result (λ n. n.marks.from ≡ issued.from) }
     ensures issue { IfOk result (λ n. n.at.issue ≡ issued.cycle) }
     ensures address { IfOk result (λ n. n.at.address ≡ issued.address) }
     ensures station { IfOk result (λ n. n.at.station ≡ Some issued.number) }
-    ensures run { let w = window.old in let ends = w.latest.ends in IfOk result
+    ensures run { let w = recent.old in let ends = w.latest.ends in IfOk result
         (λ n. RunsOn config.now w.table w.accesses.items facts.now (end_in ends facts.now.j) (end_in ends facts.now.k)
         n unit) }
     ensures noted { IfOk result (λ n. demands.new ≡ record demands.old {
       units = units_asked facts.now.unit n.units (n.at.start - n.marks.clear) demands.old.units;
       buses = demand_after demands.old.buses n.buses (n.at.end - n.at.finish - 1);
     }) }
-    ensures latest { IfOk result (λ n. window.new.latest ≡ latest_after facts.now n.at window.old.latest) }
-    ensures table { IfOk result (λ n. IsTableAfter facts.now n.at window.old.table window.new.table) }
+    ensures latest { IfOk result (λ n. recent.new.latest ≡ latest_after facts.now n.at recent.old.latest) }
+    ensures table { IfOk result (λ n. IsTableAfter facts.now n.at recent.old.table recent.new.table) }
     ensures stations { IfOk result
-        (λ n. window.new.stations.ends ≡ ends_after facts.now n.at window.old.stations.ends) }
-    ensures accesses { window.new.accesses ≡ window.old.accesses }
+        (λ n. recent.new.stations.ends ≡ ends_after facts.now n.at recent.old.stations.ends) }
+    ensures accesses { recent.new.accesses ≡ recent.old.accesses }
 {
-    let bound = window.latest.end;
-    let j = end_of(&window.latest, facts.j);
-    let k = end_of(&window.latest, facts.k);
+    let bound = recent.latest.end;
+    let j = end_of(&recent.latest, facts.j);
+    let k = end_of(&recent.latest, facts.k);
     let operands = issued.cycle.max(j.max(k)) + 1;
     let ready = ready_of(issued.cycle, issued.address, j, k);
-    let clear = past_conflicts(&window.accesses, facts, ready, bound);
+    let clear = past_conflicts(&recent.accesses, facts, ready, bound);
     let slots = take_slots(
-        &mut window.table,
+        &mut recent.table,
         demands,
         config,
         facts,
@@ -202,7 +202,7 @@ fn run_issued<A: Allocator>(
         clear,
         bound,
     )?;
-    window.table.pass(issued.cycle);
+    recent.table.pass(issued.cycle);
     let at = Times {
         issue: issued.cycle,
         address: issued.address,
@@ -211,8 +211,8 @@ fn run_issued<A: Allocator>(
         end: slots.end.cycle,
         station: Some(issued.number),
     };
-    window.stations.take(pool, issued.number, slots.end.cycle);
-    window.latest.note_issued(facts, &at, issued.count);
+    recent.stations.take(pool, issued.number, slots.end.cycle);
+    recent.latest.note_issued(facts, &at, issued.count);
     let marks = Marks {
         from: issued.from,
         operands,
@@ -230,7 +230,7 @@ fn run_issued<A: Allocator>(
 /// Times, notes and keeps a next step that takes a station and a unit.
 #[inline(always)]
 pub(crate) fn ask_operation<A: Allocator>(
-    window: &mut Window<A>,
+    recent: &mut Recent<A>,
     demands: &mut Demands,
     config: &Config,
     facts: &Facts,
@@ -239,15 +239,15 @@ pub(crate) fn ask_operation<A: Allocator>(
 ) -> Result<Next, AllocError>
     requires pool { facts.now.pool ≡ Some pool }
     requires unit { facts.now.unit ≡ Some unit }
-    requires ready { IsReady config.now (held_by window.old) facts.now }
-    ensures next { IfOk result (λ n. IsNextBy config.now (held_by window.old) facts.now n) }
-    ensures noted { let latest = window.old.latest in IfOk result (λ n. demands.new ≡ demands_after facts.now
+    requires ready { IsReady config.now (held_by recent.old) facts.now }
+    ensures next { IfOk result (λ n. IsNextBy config.now (held_by recent.old) facts.now n) }
+    ensures noted { let latest = recent.old.latest in IfOk result (λ n. demands.new ≡ demands_after facts.now
         (waits_by latest n.marks n.at) (taken_from latest n) demands.old.total demands.old) }
-    ensures held { IfOk result (λ n. IsHeldAfter facts.now n.at (held_by window.old) (held_by window.new)) }
+    ensures held { IfOk result (λ n. IsHeldAfter facts.now n.at (held_by recent.old) (held_by recent.new)) }
 {
-    let latest = &window.latest;
+    let latest = &recent.latest;
     let from = issue_from(config, latest);
-    let free = window.stations.first(pool, config.stations(pool), from);
+    let free = recent.stations.first(pool, config.stations(pool), from);
     let issued = Issued {
         from,
         cycle: free.cycle,
@@ -258,12 +258,12 @@ pub(crate) fn ask_operation<A: Allocator>(
     note_issue(demands, latest, pool, &issued);
     // Two calls, so that an operation without an access reads no accesses.
     let Some(_) = facts.bytes else {
-        return run_issued(window, demands, config, facts, pool, unit, issued);
+        return run_issued(recent, demands, config, facts, pool, unit, issued);
     };
     let base = end_of(latest, facts.j);
     let address = address_after(latest, base, free.cycle);
     let next = run_issued(
-        window,
+        recent,
         demands,
         config,
         facts,
@@ -274,7 +274,7 @@ pub(crate) fn ask_operation<A: Allocator>(
             ..issued
         },
     )?;
-    keep_access(&mut window.accesses, facts, &next.at)?;
+    keep_access(&mut recent.accesses, facts, &next.at)?;
     Ok(next)
 }
 
@@ -282,19 +282,19 @@ pub(crate) fn ask_operation<A: Allocator>(
 #[cold]
 #[inline(never)]
 pub(crate) fn ask_rest<A: Allocator>(
-    window: &mut Window<A>,
+    recent: &mut Recent<A>,
     demands: &mut Demands,
     config: &Config,
     facts: &Facts,
 ) -> Result<Next, AllocError>
-    requires ready { IsReady config.now (held_by window.old) facts.now }
-    ensures next { IfOk result (λ n. IsNextBy config.now (held_by window.old) facts.now n) }
-    ensures noted { let latest = window.old.latest in IfOk result (λ n. demands.new ≡ demands_after facts.now
+    requires ready { IsReady config.now (held_by recent.old) facts.now }
+    ensures next { IfOk result (λ n. IsNextBy config.now (held_by recent.old) facts.now n) }
+    ensures noted { let latest = recent.old.latest in IfOk result (λ n. demands.new ≡ demands_after facts.now
         (waits_by latest n.marks n.at) (taken_from latest n) demands.old.total demands.old) }
-    ensures held { IfOk result (λ n. IsHeldAfter facts.now n.at (held_by window.old) (held_by window.new)) }
+    ensures held { IfOk result (λ n. IsHeldAfter facts.now n.at (held_by recent.old) (held_by recent.new)) }
 {
-    let turn = next_turn(config, window, facts);
+    let turn = next_turn(config, recent, facts);
     demands.note(facts, &turn.waits, &turn.taken);
-    window.keep(facts, &turn.next.at)?;
+    recent.keep(facts, &turn.next.at)?;
     Ok(turn.next)
 }

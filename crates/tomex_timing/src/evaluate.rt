@@ -7,16 +7,16 @@ ghost use Rattle.tomex_timing.specs.Recurrence.{AreTimed};
 ghost use Rattle.tomex_timing.specs.Search.{history, times_in, total_of};
 ghost use Rattle.tomex_steps.specs.declared.step.Step.{Step};
 ghost use Rattle.tomex_timing.specs.Waiting.{AreWithin};
-ghost use Rattle.tomex_timing.specs.Window.{AreFacts};
+ghost use Rattle.tomex_timing.specs.Recent.{AreFacts};
 
 use crate::asking::{ask_operation, ask_rest};
 use crate::demands::Demands;
 use crate::needs::Needs;
 use crate::next::next_step;
 use crate::part::Waits;
+use crate::recent::{Facts, Recent, facts_of};
 use crate::times::Times;
 use crate::turn::next_turn;
-use crate::window::{Facts, Window, facts_of};
 use std::alloc::{AllocError, Allocator};
 use tomex_config::Config;
 use tomex_rvexec::Step;
@@ -37,12 +37,12 @@ pub fn times<A: Allocator + Clone>(
     ensures bound { IfOk result (λ v. total_of v.items ≤ 67 * length steps.now) }
 {
     let mut result = Vec::new(alloc.clone()?);
-    let mut window = Window::new(&alloc, &alloc);
+    let mut recent = Recent::new(&alloc, &alloc);
     config.keeps_limits();
     for step in steps {
         let facts = Facts::of(step);
-        let at = next_step(config, &window, &facts).at;
-        window.keep(&facts, &at)?;
+        let at = next_step(config, &recent, &facts).at;
+        recent.keep(&facts, &at)?;
         result.push(at)?;
     }
     Ok(result)
@@ -62,12 +62,12 @@ pub fn waits<A: Allocator + Clone>(
     ensures bound { IfOk result (λ v. All (AreWithin (67 * length steps.now)) v.items) }
 {
     let mut result: Vec<Waits, A> = Vec::new(alloc.clone()?);
-    let mut window = Window::new(&alloc, &alloc);
+    let mut recent = Recent::new(&alloc, &alloc);
     config.keeps_limits();
     for step in steps {
         let facts = Facts::of(step);
-        let turn = next_turn(config, &window, &facts);
-        window.keep(&facts, &turn.next.at)?;
+        let turn = next_turn(config, &recent, &facts);
+        recent.keep(&facts, &turn.next.at)?;
         result.push(turn.waits)?;
     }
     Ok(result)
@@ -96,13 +96,13 @@ pub(crate) fn needs_of<A: Allocator>(
     ensures exact { IfOk result
         (λ n. (steps : List Step) → AreFacts steps facts.now → AreNeeds config.now (history config.now steps) n) }
 {
-    let mut window = Window::new(alloc, alloc);
+    let mut recent = Recent::new(alloc, alloc);
     let mut needs = Needs::none();
     config.keeps_limits();
     for step in facts {
-        let turn = next_turn(config, &window, step);
+        let turn = next_turn(config, &recent, step);
         needs.note(step, &turn.waits, &turn.taken, &turn.next.at);
-        window.keep(step, &turn.next.at)?;
+        recent.keep(step, &turn.next.at)?;
     }
     Ok(needs)
 }
@@ -118,17 +118,17 @@ pub(crate) fn demands_of<A: Allocator>(
     ensures exact { IfOk result (λ d. (steps : List Step) → AreFacts steps facts.now
         → AreDemands config.now (history config.now steps) d) }
 {
-    let mut window = Window::new(alloc, alloc);
+    let mut recent = Recent::new(alloc, alloc);
     let mut demands = Demands::none();
     config.keeps_limits();
     for step in facts {
         if let (Some(pool), Some(unit)) = (step.pool, step.unit) {
-            ask_operation(&mut window, &mut demands, config, step, pool, unit)?;
+            ask_operation(&mut recent, &mut demands, config, step, pool, unit)?;
         } else {
-            ask_rest(&mut window, &mut demands, config, step)?;
+            ask_rest(&mut recent, &mut demands, config, step)?;
         }
     }
-    demands.total = window.latest.end;
+    demands.total = recent.latest.end;
     Ok(demands)
 }
 

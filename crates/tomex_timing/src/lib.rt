@@ -14,12 +14,12 @@ mod laws;
 mod needs;
 mod next;
 mod part;
+mod recent;
 mod run;
 mod tables;
 mod times;
 mod turn;
 mod waiting;
-mod window;
 
 pub use demands::{Demand, Demands};
 pub use laws::{

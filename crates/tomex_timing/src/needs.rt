@@ -10,9 +10,9 @@ ghost use Rattle.tomex_timing.specs.Waiting.{AreWithin, IsWithin, nothing_needed
 ghost use Rattle.tomex_timing.specs.Waiting.{needs_after, stations_after, units_after};
 
 use crate::part::{Need, Part, Waits};
+use crate::recent::Facts;
 use crate::times::Times;
 use crate::waiting::Taken;
-use crate::window::Facts;
 use tomex_config::Config;
 use tomex_rvdec::{PoolId, UnitId};
 

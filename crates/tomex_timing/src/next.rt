@@ -6,11 +6,11 @@ ghost use Rattle.tomex_rvdec.specs.Parts.{place_of_unit};
 ghost use Rattle.tomex_timing.specs.Ahead.{IsIdle, IsNextBy, IsReady, TakesBus, TakesStation, end_in, held_by};
 ghost use Rattle.tomex_reservations.specs.Reservations.{bus_line, end_at, taken_at};
 ghost use Rattle.tomex_timing.specs.History.{cycle_of};
-ghost use Rattle.tomex_timing.specs.Window.{address_among, is_memory_pool, issue_from, ready_from};
+ghost use Rattle.tomex_timing.specs.Recent.{address_among, is_memory_pool, issue_from, ready_from};
 
 use crate::accesses::past_conflicts;
+use crate::recent::{Facts, Latest, Recent};
 use crate::times::Times;
-use crate::window::{Facts, Latest, Window};
 use std::alloc::Allocator;
 use tomex_config::Config;
 use tomex_reservations::{BUSES, ReservationTable, Room, Stations};
@@ -174,27 +174,27 @@ fn without_unit(from: u64, issue: u64, address: Option<u64>, station: Option<u8>
 /// The next step.
 // Inlined, as are the other calls of the loops over a run's steps: what a loop doesn't use isn't made.
 #[inline(always)]
-pub(crate) fn next_step<A: Allocator>(config: &Config, window: &Window<A>, facts: &Facts) -> Next
-    requires { IsReady config.now (held_by window.now) facts.now }
-    ensures { IsNextBy config.now (held_by window.now) facts.now result }
+pub(crate) fn next_step<A: Allocator>(config: &Config, recent: &Recent<A>, facts: &Facts) -> Next
+    requires { IsReady config.now (held_by recent.now) facts.now }
+    ensures { IsNextBy config.now (held_by recent.now) facts.now result }
 {
-    let latest = &window.latest;
+    let latest = &recent.latest;
     let j = end_of(latest, facts.j);
     let k = end_of(latest, facts.k);
     let from = issue_from(config, latest);
-    let (issue, station) = station_of(config, &window.stations, facts.pool, from, latest.end);
+    let (issue, station) = station_of(config, &recent.stations, facts.pool, from, latest.end);
     let address = address_of(latest, facts.pool, j, issue);
     let Some(unit) = facts.unit else {
         return without_unit(from, issue, address, station);
     };
     let operands = issue.max(j.max(k)) + 1;
     let ready = ready_of(issue, address, j, k);
-    let clear = past_conflicts(&window.accesses, facts, ready, latest.end);
-    let start = window
+    let clear = past_conflicts(&recent.accesses, facts, ready, latest.end);
+    let start = recent
         .table
         .first(unit.place(), config.units(unit), clear, latest.end);
     let finish = start.cycle + u64::from(config.latency(unit)) - 1;
-    let end = end_after(config, &window.table, facts.dest, finish, latest.end);
+    let end = end_after(config, &recent.table, facts.dest, finish, latest.end);
     Next {
         at: Times {
             issue,

@@ -8,7 +8,7 @@ ghost use Rattle.tomex_timing.specs.Search.{history};
 use crate::demands::Demands;
 use crate::evaluate::{demands_of, needs_of};
 use crate::needs::Needs;
-use crate::window::{Facts, facts_of};
+use crate::recent::{Facts, facts_of};
 use std::alloc::{AllocError, Allocator, Global};
 use std::marker::Model;
 use tomex_config::Config;
@@ -24,7 +24,7 @@ pub struct Run<A: Allocator = Global> {
 impl<A: Allocator> Model for Run<A> {
     ghost use Rattle.std.specs.Prelude.{List};
     ghost use Rattle.tomex_steps.specs.declared.step.Step.{Step};
-    ghost use Rattle.tomex_timing.specs.Window.{AreFacts};
+    ghost use Rattle.tomex_timing.specs.Recent.{AreFacts};
 
     ghost Value = { List Step };
 

@@ -6,8 +6,8 @@ ghost use Rattle.tomex_timing.specs.Waiting.{taken_from, waits_by};
 
 use crate::next::{Next, next_step};
 use crate::part::Waits;
+use crate::recent::{Facts, Recent};
 use crate::waiting::{Taken, parts_taken_by, waits_of};
-use crate::window::{Facts, Window};
 use std::alloc::Allocator;
 use tomex_config::Config;
 
@@ -22,17 +22,17 @@ pub(crate) struct Turn {
 /// The next step by what is held of the earlier ones. It can be kept then.
 // Inlined: a loop that doesn't use the waits makes none.
 #[inline(always)]
-pub(crate) fn next_turn<A: Allocator>(config: &Config, window: &Window<A>, facts: &Facts) -> Turn
-    requires { IsReady config.now (held_by window.now) facts.now }
-    ensures next { IsNextBy config.now (held_by window.now) facts.now result.next }
-    ensures waits { result.waits ≡ waits_by window.now.latest result.next.marks result.next.at }
-    ensures taken { result.taken ≡ taken_from window.now.latest result.next }
-    ensures keeps { CanKeep facts.now result.next.at (held_by window.now) }
+pub(crate) fn next_turn<A: Allocator>(config: &Config, recent: &Recent<A>, facts: &Facts) -> Turn
+    requires { IsReady config.now (held_by recent.now) facts.now }
+    ensures next { IsNextBy config.now (held_by recent.now) facts.now result.next }
+    ensures waits { result.waits ≡ waits_by recent.now.latest result.next.marks result.next.at }
+    ensures taken { result.taken ≡ taken_from recent.now.latest result.next }
+    ensures keeps { CanKeep facts.now result.next.at (held_by recent.now) }
 {
-    let next = next_step(config, window, facts);
+    let next = next_step(config, recent, facts);
     Turn {
         next,
-        waits: waits_of(&window.latest, &next),
-        taken: parts_taken_by(&window.latest, &next),
+        waits: waits_of(&recent.latest, &next),
+        taken: parts_taken_by(&recent.latest, &next),
     }
 }

@@ -5,7 +5,7 @@ ghost use Rattle.tomex_timing.specs.Waiting.{waits_by, taken_from};
 
 use crate::next::Next;
 use crate::part::Waits;
-use crate::window::Latest;
+use crate::recent::Latest;
 
 /// The amount of each part that one step takes, including what others take of it at the same time: the stations up to
 /// its own, the operations that start with it, the results that end with it, the steps that issue with it.

@@ -10,7 +10,7 @@ use Rattle.tomex_config.specs.Configuration.{Configuration, IsWithinLimits}
 use Rattle.tomex_timing.specs.declared.times.Done.{Done}
 use Rattle.tomex_timing.specs.Recurrence.{conflicts}
 use Rattle.tomex_timing.proofs.Limits.{width_low}
-use Rattle.tomex_timing.proofs.Settled.{AllBy}
+use Rattle.tomex_timing.proofs.AfterEnd.{AllBy}
 use Rattle.tomex_floor.specs.declared.latest.Latest.{Latest}
 use Rattle.tomex_floor.specs.Floor.{floor_of, floors_by_width, floors_of, latency_of}
 use Rattle.tomex_floor.specs.Kept.{AreConflicts, AreLatest, histories, history_after}

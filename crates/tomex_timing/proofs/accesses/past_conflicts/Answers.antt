@@ -2,7 +2,7 @@
 use Rattle.std.proofs.Common.{ℕ, ◌≡◌, true, refl, List, [], ◌∷◌, None, nat_le}
 use Rattle.std.specs.List.{list_all}
 use Rattle.tomex_timing.specs.declared.accesses.Access.{Access}
-use Rattle.tomex_timing.specs.declared.window.Facts.{Facts}
+use Rattle.tomex_timing.specs.declared.recent.Facts.{Facts}
 use Rattle.tomex_timing.specs.Ahead.{is_past}
 use Rattle.tomex_timing.proofs.Bools.{and_true}
 use Rattle.tomex_timing.proofs.accesses.past_conflicts.Goals as goal

@@ -9,8 +9,8 @@ use Rattle.tomex_timing.proofs.evaluate.demands_of.Goals.{in-Some-Some+in_ok-ask
 
 pub loop-step-init : goal.loop-step-init
 loop-step-init g c = λ steps are. record {
-  shown = rw c.new-window.ensures empty_summary;
-  demands = rw (c.none-demands.ensures, ap (λ (held : Held). held.latest.end) c.new-window.ensures)
+  shown = rw c.new-recent.ensures empty_summary;
+  demands = rw (c.none-demands.ensures, ap (λ (held : Held). held.latest.end) c.new-recent.ensures)
       (demands_none c.args.config.now);
 }
 
@@ -36,9 +36,9 @@ loop-step-preserved g c = λ steps are.
       | in-Some-Some+in_ok-ask_operation w ↦
           let e = w.in_ok-ask_operation.ensures in
           let turn = asked_turn (turn_of at.1 before.shown e.next) before.demands e.held e.noted in
-          rw (w.window-is, w.demands-is) (record { shown = turn.0; demands = turn.1 })
+          rw (w.recent-is, w.demands-is) (record { shown = turn.0; demands = turn.1 })
       | in_default+in_ok-ask_rest w ↦
           let e = w.in_ok-ask_rest.ensures in
           let turn = asked_turn (turn_of at.1 before.shown e.next) before.demands e.held e.noted in
-          rw (w.window-is, w.demands-is) (record { shown = turn.0; demands = turn.1 })
+          rw (w.recent-is, w.demands-is) (record { shown = turn.0; demands = turn.1 })
     ]

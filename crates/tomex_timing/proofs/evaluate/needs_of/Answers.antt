@@ -7,7 +7,7 @@ use Rattle.tomex_timing.proofs.evaluate.needs_of.Goals as goal
 
 pub loop-step-init : goal.loop-step-init
 loop-step-init g c = λ steps are. record {
-  shown = rw c.new-window.ensures empty_summary;
+  shown = rw c.new-recent.ensures empty_summary;
   needs = rw c.none-needs.ensures (needs_none c.args.config.now);
 }
 

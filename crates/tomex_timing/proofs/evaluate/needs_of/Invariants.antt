@@ -4,12 +4,12 @@ use Rattle.tomex_steps.specs.declared.step.Step.{Step}
 use Rattle.tomex_timing.specs.Ahead.{held_by}
 use Rattle.tomex_timing.specs.Needs.{AreNeeds}
 use Rattle.tomex_timing.specs.Search.{history}
-use Rattle.tomex_timing.specs.Window.{AreFacts}
+use Rattle.tomex_timing.specs.Recent.{AreFacts}
 use Rattle.tomex_timing.proofs.Summary.{IsSummary}
 use Rattle.tomex_timing.proofs.evaluate.needs_of.Given as goal
 
 abbrev pub invariant-loop-step : goal.invariant-loop-step
 invariant-loop-step g l = (steps : List Step) → AreFacts steps l.facts → record {
-  shown : IsSummary (history l.config (take l.step-index steps)) (held_by l.window);
+  shown : IsSummary (history l.config (take l.step-index steps)) (held_by l.recent);
   needs : AreNeeds l.config (history l.config (take l.step-index steps)) l.needs;
 }

@@ -9,7 +9,7 @@ use Rattle.tomex_timing.proofs.evaluate.times.Goals as goal
 
 pub loop-step-init : goal.loop-step-init
 loop-step-init g c = record {
-  shown = rw c.new-window.ensures empty_summary;
+  shown = rw c.new-recent.ensures empty_summary;
   times = c.new-result.ensures.items;
 }
 

@@ -7,6 +7,6 @@ use Rattle.tomex_timing.proofs.evaluate.times.Given as goal
 
 abbrev pub invariant-loop-step : goal.invariant-loop-step
 invariant-loop-step g l = record {
-  shown : IsSummary (history l.config (take l.step-index l.steps)) (held_by l.window);
+  shown : IsSummary (history l.config (take l.step-index l.steps)) (held_by l.recent);
   times : l.result.items ≡ times_in l.config (take l.step-index l.steps);
 }

@@ -8,6 +8,6 @@ use Rattle.tomex_timing.proofs.evaluate.waits.Given as goal
 
 abbrev pub invariant-loop-step : goal.invariant-loop-step
 invariant-loop-step g l = record {
-  shown : IsSummary (history l.config (take l.step-index l.steps)) (held_by l.window);
+  shown : IsSummary (history l.config (take l.step-index l.steps)) (held_by l.recent);
   waits : l.result.items ≡ waits_in l.config (take l.step-index l.steps);
 }

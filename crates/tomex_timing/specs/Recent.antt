@@ -10,8 +10,8 @@ use Rattle.tomex_steps.specs.declared.step.Operand.{Operand}
 use Rattle.tomex_steps.specs.declared.step.Step.{Step}
 use Rattle.tomex_config.specs.Configuration.{Configuration}
 use Rattle.tomex_timing.specs.declared.times.Times.{Times}
-use Rattle.tomex_timing.specs.declared.window.Facts.{Facts}
-use Rattle.tomex_timing.specs.declared.window.Latest.{Latest}
+use Rattle.tomex_timing.specs.declared.recent.Facts.{Facts}
+use Rattle.tomex_timing.specs.declared.recent.Latest.{Latest}
 use Rattle.tomex_timing.specs.History.{cycle_of}
 
 abbrev pub register_of : Option Operand → Option ℕ

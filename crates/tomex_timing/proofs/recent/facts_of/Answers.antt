@@ -1,7 +1,7 @@
 -- One step's facts more.
 use Rattle.std.proofs.Common.{rules, ◌≡◌, slice_index_or}
 use Rattle.tomex_timing.proofs.Turns.{facts_more}
-use Rattle.tomex_timing.proofs.window.facts_of.Goals as goal
+use Rattle.tomex_timing.proofs.recent.facts_of.Goals as goal
 
 pub loop-step-preserved : goal.loop-step-preserved
 loop-step-preserved g c =

@@ -1,5 +1,5 @@
 use Rattle.std.proofs.Common.{rules}
-use Rattle.tomex_timing.proofs.window.Facts.of.Goals as goal
+use Rattle.tomex_timing.proofs.recent.Facts.of.Goals as goal
 
 pub returns-clause-facts : goal.returns-clause-facts
 returns-clause-facts c = search rules fits 100

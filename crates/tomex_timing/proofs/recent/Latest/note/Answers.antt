@@ -1,6 +1,6 @@
 use Rattle.std.proofs.Common.{arith}
 use Rattle.std.proofs.lemmas.Grind.{common_steps}
-use Rattle.tomex_timing.proofs.window.Latest.note.Goals as goal
+use Rattle.tomex_timing.proofs.recent.Latest.note.Goals as goal
 
 pub returns : goal.returns
 returns c = grind (arith, common_steps)

@@ -5,7 +5,7 @@ ghost use Rattle.std.specs.Prelude.{◌≡◌, ◌<◌, ◌≤◌, ◌^◌, ◌+
 ghost use Rattle.std.specs.Option.{ForSome};
 ghost use Rattle.tomex_timing.specs.Ahead.{CanKeep, CanReserve, IsHeldAfter, IsTableAfter, accesses_after};
 ghost use Rattle.tomex_timing.specs.Ahead.{held_by, nothing_held};
-ghost use Rattle.tomex_timing.specs.Window.{AreFacts, facts_of, register_of, HasRegisters, nothing_yet, latest_after};
+ghost use Rattle.tomex_timing.specs.Recent.{AreFacts, facts_of, register_of, HasRegisters, nothing_yet, latest_after};
 
 use crate::accesses::Access;
 use crate::times::Times;
@@ -46,7 +46,7 @@ pub(crate) struct Latest {
 /// All that is kept. There is no list of steps: each question about them is answered from one of
 /// these fields.
 #[derive(Drop)]
-pub(crate) struct Window<A: Allocator> {
+pub(crate) struct Recent<A: Allocator> {
     pub latest: Latest,
     /// The units and buses that are taken.
     pub table: ReservationTable<A>,
@@ -198,12 +198,12 @@ pub(crate) fn keep_access<A: Allocator>(
     Ok(())
 }
 
-impl<A: Allocator> Window<A> {
+impl<A: Allocator> Recent<A> {
     /// The state before the first step, with memory from the two allocators.
-    pub fn new(table: A, accesses: A) -> Window<A>
+    pub fn new(table: A, accesses: A) -> Recent<A>
         ensures { held_by result ≡ nothing_held }
     {
-        Window {
+        Recent {
             latest: Latest::none(),
             table: ReservationTable::new(table),
             stations: Stations::none(),
