@@ -12,7 +12,7 @@ use Rattle.tomex_values.specs.declared.place.Place.TheVariants as place
 use Rattle.tomex_values.specs.Table.{known_keys}
 use Rattle.tomex_values.specs.Lists.{counts_at, tables_at}
 use Rattle.tomex_document.specs.Units.{UnitTables, unit_tables, options_of}
-use Rattle.tomex_document.specs.Axes.{Counts, axis_counts, axes_of}
+use Rattle.tomex_document.specs.Axes.{Counts, axis_counts, axes_of, with_options}
 use Rattle.tomex_document.specs.Document.{Document, members_of, outline_of, document_of}
 use Rattle.tomex_document.specs.Grid.{HasGrid}
 use Rattle.tomex_values.proofs.Outcomes.{same_value, first_value}
@@ -159,21 +159,7 @@ axes_of_are members unit axes given =
     let divs = options_of_are units.Div tables.div div have.div div_is in
     let mems = options_of_are units.Mem tables.mem mem have.mem mem_is in
     let brus = options_of_are units.Bru tables.bru bru have.bru bru_is in
-    let found : Lists = record {
-      alu = counts.alu;
-      mul = counts.mul;
-      div = counts.div;
-      load = counts.load;
-      store = counts.store;
-      bru = counts.bru;
-      alu_units = alu;
-      mul_units = mul;
-      div_units = div;
-      mem_units = mem;
-      bru_units = bru;
-      buses = counts.buses;
-      width = counts.width;
-    } in
+    let found = with_options counts alu mul div mem bru in
     let lawful : AreAxes found = spans found are.alu are.mul are.div are.load are.store are.bru alus muls divs mems brus
     are.buses are.width in
     subst (λ (ls : Lists). AreAxes ls) (same_value found axes (Ok found) refl given_7) lawful

@@ -61,22 +61,26 @@ unit_options unit whole = do
   bru ← options_of units.Bru tables.bru
   Ok (whole alu mul div mem bru)
 
+-- the axes, of counts and of the options of each kind of unit
+abbrev pub with_options : Counts → (alu mul div mem bru : List UnitOption) → Lists
+with_options counts alu mul div mem bru = record {
+  alu = counts.alu;
+  mul = counts.mul;
+  div = counts.div;
+  load = counts.load;
+  store = counts.store;
+  bru = counts.bru;
+  alu_units = alu;
+  mul_units = mul;
+  div_units = div;
+  mem_units = mem;
+  bru_units = bru;
+  buses = counts.buses;
+  width = counts.width;
+}
+
 -- the places of the axes, and then those of the unit
 unfoldable pub axes_of : Members → Members → Reading Lists
 axes_of axes unit = do
   counts ← axis_counts axes
-  unit_options unit (λ alu_units mul_units div_units mem_units bru_units. record {
-    alu = counts.alu;
-    mul = counts.mul;
-    div = counts.div;
-    load = counts.load;
-    store = counts.store;
-    bru = counts.bru;
-    alu_units = alu_units;
-    mul_units = mul_units;
-    div_units = div_units;
-    mem_units = mem_units;
-    bru_units = bru_units;
-    buses = counts.buses;
-    width = counts.width;
-  })
+  unit_options unit (λ alu mul div mem bru. with_options counts alu mul div mem bru)
