@@ -1,13 +1,12 @@
 //! The facts that the floor reads of a step.
 
-ghost use Rattle.std.specs.Prelude.{◌≡◌, ◌<◌, IfSome};
-ghost use Rattle.std.specs.Option.{ForSome};
+ghost use Rattle.std.specs.Prelude.{◌≡◌};
 ghost use Rattle.tomex_timing.specs.History.{is_memory};
-ghost use Rattle.tomex_timing.specs.Recent.{register_of};
 ghost use Rattle.tomex_floor.specs.Kept.{AreInRange, facts_of};
 
 use tomex_rvdec::{PoolId, UnitId};
-use tomex_rvexec::{ByteRange, Operand, Step};
+use tomex_rvexec::{ByteRange, Step};
+use tomex_timing::register_of;
 
 /// The facts that the floor reads of a step, taken from its instruction only once for all widths.
 #[derive(Clone, Copy)]
@@ -21,18 +20,6 @@ pub(crate) struct Facts {
     pub is_memory: bool,
     pub is_store: bool,
     pub is_branch: bool,
-}
-
-/// The register of an operand.
-fn register_of(operand: Option<Operand>) -> Option<u8>
-    requires { ForSome operand (λ o. o.register < 32) }
-    ensures value { result ≡ register_of operand }
-    ensures register { IfSome result (λ r. r < 32) }
-{
-    match operand {
-        None => None,
-        Some(operand) => Some(operand.register),
-    }
 }
 
 /// True if a step is a load or store.

@@ -55,7 +55,8 @@ pub(crate) struct Recent<A: Allocator> {
     pub accesses: Vec<Access, A>,
 }
 
-fn register_of(operand: Option<Operand>) -> Option<u8>
+/// The register of an operand.
+pub fn register_of(operand: Option<Operand>) -> Option<u8>
     requires { ForSome operand (λ o. o.register < 32) }
     ensures value { result ≡ register_of operand }
     ensures register { IfSome result (λ r. r < 32) }
