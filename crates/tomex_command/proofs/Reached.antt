@@ -6,7 +6,7 @@ use Rattle.tomex_config.specs.Configuration.{Configuration}
 use Rattle.tomex_timing.specs.Tables.{Tables}
 use Rattle.tomex_timing.specs.Tables.{tables_of}
 use Rattle.tomex_cycle.specs.declared.progress.Progress.TheVariants.{Running}
-use Rattle.tomex_cycle.specs.Run.{run_of, total}
+use Rattle.tomex_timing.specs.Run.{run_of, total}
 use Rattle.tomex_cycle.specs.Seen.{Seen, seen_after}
 use Rattle.tomex_study.specs.Program.{Workload, IsProgram}
 use Rattle.tomex_row_runs.proofs.Machines.{Advances, advanced_from}

@@ -2,7 +2,7 @@
 use Rattle.std.specs.Prelude.{◌≡◌, ◌<◌, ◌≤◌, ℕ, List}
 use Rattle.tomex_config.specs.Configuration.{Configuration}
 use Rattle.tomex_timing.specs.Tables.{tables_of}
-use Rattle.tomex_cycle.specs.Run.{run_of, total}
+use Rattle.tomex_timing.specs.Run.{run_of, total}
 use Rattle.tomex_study.specs.Program.{Workload}
 use Rattle.tomex_texts.specs.TablesText.{tables_text_of}
 use Rattle.tomex_command.specs.declared.failure.Failure.{Failure}

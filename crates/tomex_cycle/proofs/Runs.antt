@@ -14,7 +14,8 @@ use Rattle.tomex_cycle.proofs.Words.{◌≡◌, ◌∙◌, true, false, arith, r
 use Rattle.tomex_cycle.proofs.Words.{inr, length, subst, Bool, Option, reverse-reverse, step_comes, steps_to_end}
 use Rattle.tomex_cycle.proofs.Words.{timed_of, history, timed_is, InReach, in_reach, can_start_is, CanStart}
 use Rattle.tomex_rvexec.specs.History.{history as first_steps}
-use Rattle.tomex_cycle.specs.Run.{run_of, first_timed}
+use Rattle.tomex_cycle.specs.Run.{first_timed}
+use Rattle.tomex_timing.specs.Run.{run_of}
 use Rattle.tomex_cycle.proofs.Places.{busy_at, older_up_to}
 use Rattle.tomex_cycle.specs.declared.fetch.Fetch.TheVariants.{Waits}
 use Rattle.tomex_cycle.proofs.Orders.{empty_order, empty_set, order_is}

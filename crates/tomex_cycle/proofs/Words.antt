@@ -96,8 +96,10 @@ pub use Rattle.tomex_cycle.specs.Issue.{IsIssuing, IssuesNext, IssuesOn, HaveIss
 pub use Rattle.tomex_cycle.specs.Phases.{IsIssuedTo, IsSnapshot, IsYetToIssue, MakesAddress, MakesEnds, MakesIssue}
 pub use Rattle.tomex_cycle.specs.Phases.{MakesStarts, is_done, AddressHappens, EndsHappen, StartsHappen}
 pub use Rattle.tomex_cycle.specs.Run.{AreIssuedBy, ArePast, EndsWithinLimit, IsNextCycle, IsUpTo, RunEndsAfter, byte_at}
-pub use Rattle.tomex_cycle.specs.Run.{steps_in, total}
-unfoldable pub use Rattle.tomex_cycle.specs.Run.{first_timed, run_of}
+pub use Rattle.tomex_cycle.specs.Run.{steps_in}
+pub use Rattle.tomex_timing.specs.Run.{total}
+unfoldable pub use Rattle.tomex_cycle.specs.Run.{first_timed}
+unfoldable pub use Rattle.tomex_timing.specs.Run.{run_of}
 pub use Rattle.tomex_cycle.specs.Seen.{Seen, seen, seen_after, is_end, Machine}
 pub use Rattle.tomex_cycle.specs.Settled.{AllSettled, IsSettled}
 pub use Rattle.tomex_cycle.specs.Sound.{IsSound}

@@ -2,7 +2,8 @@
 use Rattle.std.specs.Prelude.{ℕ, ◌≡◌, ◌≢◌, ◌≤◌, max}
 use Rattle.tomex_cycle.specs.declared.progress.Progress.TheVariants.{Running}
 use Rattle.tomex_cycle.specs.Events.{IsCounted}
-use Rattle.tomex_cycle.specs.Run.{EndsWithinLimit, run_of}
+use Rattle.tomex_cycle.specs.Run.{EndsWithinLimit}
+use Rattle.tomex_timing.specs.Run.{run_of}
 use Rattle.tomex_cycle.specs.Seen.{Machine, seen, seen_after}
 
 -- The machine has advanced to the cycle `to`, or less far if it has ended or faulted. If its program ends within the

@@ -1,4 +1,4 @@
--- The run of an image on a configuration: its steps with their times, the youngest first.
+-- What is known of the run of an image on a configuration: of all its steps, and of those that have issued by a cycle.
 use Rattle.std.specs.Prelude.{◌≡◌, ℕ, ◌+◌, ◌<◌, ◌≤◌, nat_le, ◌&&◌, if◌then◌else◌, List, [], ◌∷◌, None, ⊤}
 use Rattle.tomex_image.specs.Image.{Loaded, IsLoaded}
 use Rattle.tomex_rvexec.specs.declared.outcome.EndKind.{EndKind}
@@ -7,21 +7,11 @@ use Rattle.tomex_rvexec.specs.Flow.{IsAllowed, end_of}
 use Rattle.tomex_steps.specs.Results.{byte_in, overwrites, stored_byte}
 use Rattle.tomex_rvexec.specs.History.{Follows, history as first_steps}
 use Rattle.tomex_rvexec.specs.Machine.{State}
-use Rattle.tomex_rvexec.specs.Run.{EndsWithin, RunEnds, most_steps, start_of}
-use Rattle.tomex_rvexec.specs.Trace.{steps_from}
+use Rattle.tomex_rvexec.specs.Run.{EndsWithin, RunEnds, most_steps}
 use Rattle.tomex_config.specs.Configuration.{Configuration, IsWithinLimits}
 use Rattle.tomex_timing.specs.declared.times.Done.{Done}
-use Rattle.tomex_timing.specs.History.{greatest_end}
 use Rattle.tomex_timing.specs.Recurrence.{AreTimed}
-use Rattle.tomex_timing.specs.Search.{timed_of, history}
-
--- the whole run of a program that ends within the most steps
-unfoldable pub run_of : Configuration → Loaded → List Done
-run_of config i = history config (steps_from most_steps (start_of i))
-
--- the cycles that it takes
-abbrev pub total : Configuration → Loaded → ℕ
-total config i = greatest_end (run_of config i)
+use Rattle.tomex_timing.specs.Search.{timed_of}
 
 -- what contracts say about a machine holds for these programs
 abbrev pub EndsWithinLimit : Loaded → Type 0

@@ -4,7 +4,8 @@ use Rattle.tomex_image.specs.Image.{Loaded}
 use Rattle.tomex_config.specs.Configuration.{Configuration}
 use Rattle.tomex_cycle.specs.declared.progress.Progress.{Progress}
 use Rattle.tomex_cycle.specs.declared.progress.Progress.TheVariants.{Running, Ended, Faulted}
-use Rattle.tomex_cycle.specs.Run.{EndsWithinLimit, total}
+use Rattle.tomex_cycle.specs.Run.{EndsWithinLimit}
+use Rattle.tomex_timing.specs.Run.{total}
 
 -- the cycle is the one that the machine has reached, and the status is the one after it
 pub record Machine : Type 0 where

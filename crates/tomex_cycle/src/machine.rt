@@ -3,7 +3,8 @@
 ghost use Rattle.std.specs.Prelude.{◌≡◌, ◌≢◌, ◌<◌, ◌≤◌, ◌+◌, ◌^◌, IfErr, IfOk, true};
 ghost use Rattle.tomex_rvexec.specs.Run.{IsEnd, most_steps};
 ghost use Rattle.tomex_timing.specs.Tables.{tables_of};
-ghost use Rattle.tomex_cycle.specs.Run.{EndsWithinLimit, run_of};
+ghost use Rattle.tomex_cycle.specs.Run.{EndsWithinLimit};
+ghost use Rattle.tomex_timing.specs.Run.{run_of};
 ghost use Rattle.tomex_cycle.specs.Advancing.{AdvancesTo};
 ghost use Rattle.tomex_cycle.specs.Events.{GoesOn};
 ghost use Rattle.tomex_cycle.specs.Seen.{IsInStep, before_first_cycle, is_end, seen, seen_after};

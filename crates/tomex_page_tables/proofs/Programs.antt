@@ -1,7 +1,7 @@
 -- The programs whose own cycles are shown, and their totals.
 use Rattle.std.proofs.Common.{◌≡◌, ◌∙◌, ap, cond, sym, ℕ, ◌<◌, ◌≤◌, Bool, List, [], ◌∷◌, ◌++◌, length, map, refl}
 use Rattle.std.proofs.lemmas.Bool.{le-ltb, lt-ltb}
-use Rattle.tomex_cycle.specs.Run.{total}
+use Rattle.tomex_timing.specs.Run.{total}
 use Rattle.tomex_row_runs.specs.Cycles.{totals_on}
 use Rattle.tomex_study.specs.Program.{Workload}
 use Rattle.tomex_study.specs.Study.{DesignSpace}

@@ -26,7 +26,7 @@ use Rattle.tomex_timing.specs.Needs.{Serves, count_of}
 use Rattle.tomex_timing.specs.Search.{history}
 use Rattle.tomex_timing.proofs.Limits.{unit_in}
 use Rattle.tomex_timing.proofs.SameTimes.{serves_history}
-use Rattle.tomex_cycle.specs.Run.{run_of, total}
+use Rattle.tomex_timing.specs.Run.{run_of, total}
 use Rattle.tomex_study.specs.Program.{Workload}
 use Rattle.tomex_row_runs.specs.Cycles.{cycles_on}
 use Rattle.tomex_prices.specs.declared.price.Price.{Price}

@@ -7,7 +7,7 @@ use Rattle.std.proofs.lemmas.List.{append-nil, drop_all}
 use Rattle.std.proofs.lemmas.Option.{get_or_from_slice_get, slice_get_within}
 use Rattle.std.proofs.lemmas.Slice.Zip.{AllZip-long}
 use Rattle.tomex_config.specs.Configuration.{Configuration, plain}
-use Rattle.tomex_cycle.specs.Run.{total}
+use Rattle.tomex_timing.specs.Run.{total}
 use Rattle.tomex_study.specs.Program.{Workload}
 use Rattle.tomex_study.specs.Study.{DesignSpace}
 use Rattle.tomex_pareto.specs.declared.front_row.FrontRow.{FrontRow}

@@ -5,7 +5,7 @@ use Rattle.std.proofs.Common.{Some, None, refl}
 use Rattle.std.specs.Prelude.{sum, ◌/◌}
 use Rattle.std.proofs.lemmas.Bool.{le-ltb, lt-ltb}
 use Rattle.tomex_config.specs.Configuration.{Configuration, IsWithinLimits}
-use Rattle.tomex_cycle.specs.Run.{total}
+use Rattle.tomex_timing.specs.Run.{total}
 use Rattle.tomex_study.specs.Program.{Workload, IsProgram}
 use Rattle.tomex_row_runs.specs.Cycles.{cycles_on, plain_on, totals_on, weighted_cycles}
 use Rattle.tomex_row_runs.specs.Looks.{last_look, made_at_last_look}

@@ -5,7 +5,7 @@ use Rattle.tomex_image.specs.Image.{Loaded}
 use Rattle.tomex_rvexec.specs.Run.{EndsWithin}
 use Rattle.tomex_config.specs.Configuration.{Configuration, IsWithinLimits}
 use Rattle.tomex_cycle.specs.declared.progress.Progress.TheVariants.{Running, Ended}
-use Rattle.tomex_cycle.specs.Run.{total}
+use Rattle.tomex_timing.specs.Run.{total}
 use Rattle.tomex_cycle.specs.Seen.{Seen, seen_after, is_end}
 use Rattle.tomex_study.specs.Program.{Workload, IsProgram}
 use Rattle.tomex_row_runs.proofs.Totals.{total_bound, ends_at_most}

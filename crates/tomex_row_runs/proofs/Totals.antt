@@ -17,7 +17,7 @@ use Rattle.tomex_config.specs.Configuration.{Configuration, IsWithinLimits}
 use Rattle.tomex_timing.specs.History.{greatest_end}
 use Rattle.tomex_timing.specs.Search.{history, times_in, total_of}
 use Rattle.tomex_timing.proofs.Histories.{history_bound, total_of-history}
-use Rattle.tomex_cycle.specs.Run.{run_of, total}
+use Rattle.tomex_timing.specs.Run.{run_of, total}
 use Rattle.tomex_study.specs.Program.{Workload, IsProgram}
 use Rattle.tomex_row_runs.specs.Cycles.{cycles_on, plain_on, totals_on, weighted_cycles}
 use Rattle.tomex_row_runs.specs.Looks.{LastLookSeesMost, last_look}

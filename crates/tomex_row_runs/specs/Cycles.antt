@@ -1,7 +1,7 @@
 -- The cycles of a study's configurations.
 use Rattle.std.specs.Prelude.{ℕ, ◌+◌, ◌-◌, ◌*◌, min, List, [], ◌∷◌, map, sum_by}
 use Rattle.tomex_config.specs.Configuration.{Configuration}
-use Rattle.tomex_cycle.specs.Run.{total}
+use Rattle.tomex_timing.specs.Run.{total}
 use Rattle.tomex_study.specs.Program.{Workload}
 use Rattle.tomex_study.specs.Study.{DesignSpace}
 

@@ -4,7 +4,7 @@ use Rattle.std.specs.Prelude.{All, IfSome}
 use Rattle.tomex_rvexec.specs.Run.{start_of}
 use Rattle.tomex_rvexec.specs.Trace.{steps_from}
 use Rattle.tomex_config.specs.Configuration.{Configuration}
-use Rattle.tomex_cycle.specs.Run.{total}
+use Rattle.tomex_timing.specs.Run.{total}
 use Rattle.tomex_plateaus.specs.Kept.{Kept, HasLearnt}
 use Rattle.tomex_plateaus.specs.Plateaus.{total_known}
 use Rattle.tomex_study.specs.Program.{Workload, IsProgram}

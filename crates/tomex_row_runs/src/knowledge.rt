@@ -1,7 +1,7 @@
 //! What a worker knows about a study's programs.
 
 ghost use Rattle.std.specs.Prelude.{◌≡◌, ◌<◌, ◌≤◌, ℕ, length, take, slice_get, IfOk, OnOk, OnErr, All, Some, None};
-ghost use Rattle.tomex_cycle.specs.Run.{total};
+ghost use Rattle.tomex_timing.specs.Run.{total};
 ghost use Rattle.tomex_row_runs.specs.Cycles.{totals_on};
 ghost use Rattle.tomex_row_runs.specs.Knowledge.{AreLearnt, AreTotals, IsLearntAt, IsTotalAt, OnlyAt, known_totals_on};
 ghost use Rattle.tomex_row_runs.specs.Knowledge.{nothing_known};

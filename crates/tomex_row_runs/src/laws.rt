@@ -5,7 +5,7 @@ ghost use Rattle.tomex_rvexec.specs.Run.{start_of};
 ghost use Rattle.tomex_rvexec.specs.Trace.{steps_from};
 ghost use Rattle.tomex_config.specs.Configuration.{Configuration};
 ghost use Rattle.tomex_timing.specs.Search.{times_in, total_of};
-ghost use Rattle.tomex_cycle.specs.Run.{total};
+ghost use Rattle.tomex_timing.specs.Run.{total};
 ghost use Rattle.tomex_row_runs.specs.Looks.{LastLookSeesMost};
 ghost use Rattle.tomex_study.specs.Program.{Workload, IsProgram};
 

@@ -1,7 +1,7 @@
 //! The runs of programs on configurations, one after another, by one machine.
 
 ghost use Rattle.std.specs.Prelude.{◌≡◌, ◌≤◌, length, IfOk, All, None};
-ghost use Rattle.tomex_cycle.specs.Run.{total};
+ghost use Rattle.tomex_timing.specs.Run.{total};
 ghost use Rattle.tomex_cycle.specs.Seen.{before_first_cycle, seen};
 ghost use Rattle.tomex_study.specs.Program.{IsProgram};
 ghost use Rattle.tomex_row_runs.specs.Cycles.{cycles_on};

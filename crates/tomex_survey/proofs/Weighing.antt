@@ -10,7 +10,7 @@ use Rattle.tomex_config.specs.Configuration.{Configuration, IsWithinLimits, plai
 use Rattle.tomex_pareto.specs.Finished.{finished_from}
 use Rattle.tomex_pareto.specs.Front.{front_of, rows_from}
 use Rattle.tomex_pareto.specs.declared.front_row.FrontRow.{FrontRow}
-use Rattle.tomex_cycle.specs.Run.{total}
+use Rattle.tomex_timing.specs.Run.{total}
 use Rattle.tomex_row_runs.specs.Cycles.{cycles_of, cycles_on, totals_on}
 use Rattle.tomex_row_runs.specs.StudyFront.{front_of_study}
 use Rattle.tomex_row_runs.proofs.Totals.{all_cycles, cycles_more, next_cycles, total_at}

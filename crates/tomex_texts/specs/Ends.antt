@@ -7,7 +7,7 @@ use Rattle.tomex_rvexec.specs.History.{state_after}
 use Rattle.tomex_rvexec.specs.Run.{most_steps, start_of}
 use Rattle.tomex_rvexec.specs.Trace.{steps_from}
 use Rattle.tomex_config.specs.Configuration.{Configuration}
-use Rattle.tomex_cycle.specs.Run.{total}
+use Rattle.tomex_timing.specs.Run.{total}
 use Rattle.tomex_study.specs.Program.{Workload}
 use Rattle.tomex_study.specs.declared.watch.WatchRange.{WatchRange}
 use Rattle.tomex_texts.specs.declared.ends.ProgramEnd.{ProgramEnd}

@@ -9,7 +9,7 @@ use Rattle.tomex_rvexec.specs.Texts.{hex2, hex8, name_of_end}
 use Rattle.tomex_config.specs.Configuration.{Configuration, option_of, plain}
 use Rattle.tomex_config.specs.Cost.{all_pools, all_units}
 use Rattle.tomex_config.specs.Configuration.{stations_of}
-use Rattle.tomex_cycle.specs.Run.{total}
+use Rattle.tomex_timing.specs.Run.{total}
 use Rattle.tomex_study.specs.Program.{Workload}
 use Rattle.tomex_study.specs.Study.{DesignSpace}
 use Rattle.tomex_row_runs.specs.StudyFront.{front_of_study}

@@ -3,6 +3,7 @@ pub mod Station
 pub mod Recurrence
 pub mod Tests
 pub mod Search
+pub mod Run
 pub mod Needs
 pub mod Tables
 pub mod Recent

@@ -1,6 +1,6 @@
 //! The command `tables`.
 ghost use Rattle.std.specs.Prelude.{◌≡◌, ◌<◌, IfOk, IfErr};
-ghost use Rattle.tomex_cycle.specs.Run.{total};
+ghost use Rattle.tomex_timing.specs.Run.{total};
 ghost use Rattle.tomex_command.specs.TablesLines.{IsTablesOf, IsTablesFailure, IsTextAfter, IsUnshown};
 
 use super::chosen::{Chosen, choose_in};

@@ -1,6 +1,6 @@
 -- Each row of the front has an end of the program.
 use Rattle.std.proofs.Common.{◌∙◌, ap, sym, arith, [], ◌∷◌, ◌++◌, length}
-use Rattle.tomex_cycle.specs.Run.{total}
+use Rattle.tomex_timing.specs.Run.{total}
 use Rattle.tomex_front_views.specs.FrontTable.{cycles_on, config_of}
 use Rattle.tomex_report.proofs.Cycles.{cycles_more, cycles_whole, has_end_at}
 use Rattle.tomex_report.proofs.front_view.program_cycles.Goals as goal

@@ -1,6 +1,6 @@
 -- The cycles so far, and those to come.
 use Rattle.std.proofs.Common.{◌≡◌, ◌++◌, drop, map}
-use Rattle.tomex_cycle.specs.Run.{total}
+use Rattle.tomex_timing.specs.Run.{total}
 use Rattle.tomex_front_views.specs.FrontTable.{config_of}
 use Rattle.tomex_report.proofs.front_view.program_cycles.Given as goal
 
