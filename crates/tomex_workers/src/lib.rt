@@ -3,8 +3,6 @@
 #![tactic(auto)]
 
 mod desk;
-mod gate;
 mod working;
 
-pub use gate::{Gate, OpenGate};
 pub use working::work;
