@@ -1,3 +1,4 @@
 pub mod Csv
 pub mod Aligned
 pub mod Hundredths
+pub mod Names

@@ -4,7 +4,7 @@ ghost use Rattle.std.specs.Prelude.{◌≡◌, ◌++◌, OnOk, string_bytes};
 ghost use Rattle.tomex_html.specs.Html.{html_char, html_name};
 
 use std::alloc::{AllocError, Allocator};
-use tomex_streams::push_shown;
+use tomex_csv_text::push_shown;
 
 /// Adds a character of a name.
 #[tactic(auto, unfolding(crate::specs::Html::html_char))]

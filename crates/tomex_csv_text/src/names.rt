@@ -1,6 +1,7 @@
-//! Names of files, as they are shown.
+//! Names, as they are shown.
+
 ghost use Rattle.std.specs.Prelude.{◌≡◌, ◌++◌, IfOk, OnOk, string_bytes};
-ghost use Rattle.tomex_streams.specs.Names.{shown_char, shown_name};
+ghost use Rattle.tomex_csv_text.specs.Names.{shown_char, shown_name};
 
 use std::alloc::{AllocError, Allocator, Global};
 use std::fmt::Write;
