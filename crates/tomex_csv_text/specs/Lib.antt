@@ -2,3 +2,4 @@ pub mod Csv
 pub mod Aligned
 pub mod Hundredths
 pub mod Names
+pub mod Growth
