@@ -1,4 +1,4 @@
--- The text of a file's name in a line.
+-- The text of a name in a line.
 use Rattle.std.specs.Prelude.{ℕ, ◌==◌, false, List, ◌++◌, codes, if◌then◌else◌}
 use Rattle.std.specs.Char.{encode_utf8, is_control}
 use Rattle.std.specs.Fmt.{digits}

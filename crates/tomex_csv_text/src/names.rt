@@ -1,13 +1,15 @@
-//! Names of files, as they are shown.
-ghost use Rattle.std.specs.Prelude.{◌≡◌, ◌++◌, IfOk, OnOk, string_bytes};
-ghost use Rattle.tomex_streams.specs.Names.{shown_char, shown_name};
+//! Names, as they are shown.
+
+ghost use Rattle.std.specs.Prelude.{◌≡◌, IfOk, OnOk, string_bytes};
+ghost use Rattle.tomex_csv_text.specs.Names.{shown_char, shown_name};
+ghost use Rattle.tomex_csv_text.specs.Growth.{Appends};
 
 use std::alloc::{AllocError, Allocator, Global};
 use std::fmt::Write;
 
 /// Adds a character: a control character as `char::escape_debug` writes it, any other as it is.
 pub fn push_shown<A: Allocator>(text: &mut String<A>, letter: char) -> Result<(), AllocError>
-    ensures { OnOk result (string_bytes text.new ≡ string_bytes text.old ++ shown_char letter) }
+    ensures { OnOk result (Appends (shown_char letter) text.old text.new) }
 {
     match letter {
         '\0' => text.push_str("\\0"),

@@ -5,8 +5,8 @@ use Rattle.std.proofs.lemmas.Iterator.{YieldsList-from_chars}
 use Rattle.std.proofs.lemmas.Iterator.Consumers.{YieldsList-end}
 use Rattle.std.proofs.lemmas.Grind.{flat_map-append}
 use Rattle.std.proofs.lemmas.List.{append-nil, map-id}
-use Rattle.tomex_streams.specs.Names.{shown_char}
-use Rattle.tomex_streams.proofs.names.shown_name.Goals as goal
+use Rattle.tomex_csv_text.specs.Names.{shown_char}
+use Rattle.tomex_csv_text.proofs.names.shown_name.Goals as goal
 
 pub loop-letter-preserved : goal.loop-letter-preserved
 loop-letter-preserved c =
