@@ -1,5 +1,6 @@
 //! The program's input and output: files, which are read whole; sinks, which may take less than
 //! they are given; and the names of files, as they are shown.
+//! Tests: tomex_tests_lines.
 #![tactic(auto)]
 
 mod files;
