@@ -1,5 +1,6 @@
 //! Prices: the values of one price, all others as stated, for which a row of the front stays on it;
 //! the percentage by which all may be wrong at once; and the table of both.
+//! Tests: tomex_tests_surveys.
 #![tactic(auto)]
 
 mod counts;

@@ -2,6 +2,7 @@
 //! and the ranges of memory that a report shows; and studies with each program's cycles on each row.
 //!
 //! Nothing here reads a file or runs a machine: callers make a study of parts that they have.
+//! Tests: tomex_tests_studies.
 #![tactic(auto)]
 
 mod gate;

@@ -1,6 +1,7 @@
 //! Explorations of studies: workers take configurations, run them and mark them on a board that
 //! they share, and the front is that of the marks. Runs whose cycles are known, or that can't
 //! change the front, are skipped.
+//! Tests: tomex_tests_sweeps, tomex_tests_memory.
 #![tactic(auto)]
 
 mod crew;

@@ -1,5 +1,6 @@
 //! The texts of reports: the ends of programs on a configuration, the columns and fields of the
 //! front report, the times report of a program, and the text of a machine's tables.
+//! Tests: tomex_tests_reports, tomex_tests_memory.
 #![tactic(auto)]
 
 mod end_texts;
