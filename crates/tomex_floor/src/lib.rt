@@ -6,7 +6,6 @@
 
 mod accesses;
 mod evaluate;
-mod facts;
 mod latest;
 mod laws;
 mod next;
