@@ -13,6 +13,6 @@ mod price;
 mod product;
 
 pub use axis::Axes;
-pub use config::{Config, UnitOption};
+pub use config::{Config, UnitOption, same_option};
 pub use price::{Prices, cost};
 pub use product::{GridError, grid};

@@ -43,7 +43,7 @@ fn fill_place(
     ensures { OnOk result (fields_of fields.new ≡ with_function file.now place.now function.now) }
 {
     fields.clear();
-    push_instruction(fields, scratch, &place.first)?;
+    push_instruction(fields, scratch, place.first.pc, place.first.instr)?;
     push_function(fields, heap, file, function)?;
     push_sum(fields, scratch, &place.sum)
 }

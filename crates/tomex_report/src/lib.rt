@@ -9,6 +9,7 @@ mod answering;
 mod crew;
 mod front_text;
 mod front_view;
+mod program_ends;
 mod replaying;
 mod study;
 mod survey_error;

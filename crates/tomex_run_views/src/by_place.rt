@@ -30,7 +30,7 @@ fn fill_place(
     ensures { OnOk result (fields_of fields.new ≡ place_fields place.now) }
 {
     fields.clear();
-    push_instruction(fields, scratch, &place.first)?;
+    push_instruction(fields, scratch, place.first.pc, place.first.instr)?;
     push_sum(fields, scratch, &place.sum)
 }
 

@@ -5,9 +5,7 @@
 
 mod rows;
 mod stretches;
-mod surveyed;
 mod surveying;
 mod totals;
 
-pub use surveyed::Survey;
 pub use surveying::survey;

@@ -7,6 +7,7 @@
 mod crew;
 mod exhaustive;
 mod exploring;
+mod finished;
 mod leftovers;
 mod outcome;
 mod stacks;
@@ -18,5 +19,7 @@ pub use stacks::{Stacks, UsualStacks};
 pub use tomex_board::Mark;
 pub use tomex_pareto::{FrontRow, front_is_the_undominated_rows};
 pub use tomex_row_runs::limit_changes_no_total;
-pub use tomex_study::{Program, ProgramError, Study, WatchRange, can_watch, watched_bytes};
-pub use tomex_workers::{Gate, OpenGate, work};
+pub use tomex_study::{
+    Gate, OpenGate, Program, ProgramError, Study, WatchRange, can_watch, watched_bytes,
+};
+pub use tomex_workers::work;

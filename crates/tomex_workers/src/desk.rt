@@ -4,7 +4,7 @@ ghost use Rattle.std.specs.Prelude.{◌≡◌, ◌<◌, ◌≤◌, ◌∷◌, []
 ghost use Rattle.std.specs.Prelude.{slice_get, slice_index, Some};
 ghost use Rattle.tomex_board.specs.Views.{KnowsNotOpen};
 ghost use Rattle.tomex_config.specs.Configuration.{Configuration};
-ghost use Rattle.tomex_row_runs.specs.Cycles.{cycles_of};
+ghost use Rattle.tomex_study.specs.Cycles.{cycles_of};
 ghost use Rattle.tomex_row_runs.specs.Knowledge.{AreTotalsOn};
 ghost use Rattle.tomex_row_runs.specs.Looks.{IsKnownRow};
 ghost use Rattle.tomex_workers.specs.Plans.{IsPlanOf};

@@ -4,8 +4,6 @@
 #![tactic(auto)]
 
 mod desk;
-mod gate;
 mod working;
 
-pub use gate::{Gate, OpenGate};
 pub use working::work;
