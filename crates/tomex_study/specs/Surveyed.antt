@@ -10,7 +10,7 @@ abbrev pub AreTotalsOf : DesignSpace → List (List ℕ) → Type 0
 AreTotalsOf s totals = map (take (length s.programs)) totals ≡ totals_of s
 
 -- the totals, all rows and the front are the study's
-pub record IsSurveyed (s : DesignSpace) (totals : List (List ℕ)) (rows front : List FrontRow) : Type 0 where
+pub record IsSurvey (s : DesignSpace) (totals : List (List ℕ)) (rows front : List FrontRow) : Type 0 where
   pub totals_are : AreTotalsOf s totals
   pub rows_are : rows ≡ all_rows s
   pub front_is : front ≡ front_of_study s

@@ -26,13 +26,13 @@ pub struct Surveyed<'s, A: Allocator = Global> {
 
 impl<'s, A: Allocator> Model for Surveyed<'s, A> {
     ghost use Rattle.tomex_study.specs.Study.{DesignSpace};
-    ghost use Rattle.tomex_study.specs.Surveyed.{IsSurveyed};
+    ghost use Rattle.tomex_study.specs.Surveyed.{IsSurvey};
 
     ghost Value = { DesignSpace };
 
     ghost view = { λ s. s.study.now };
 
-    ghost invariant = { λ s. IsSurveyed s.study.now s.totals.items s.rows.items s.front.items };
+    ghost invariant = { λ s. IsSurvey s.study.now s.totals.items s.rows.items s.front.items };
 }
 
 impl<'s, A: Allocator> Surveyed<'s, A> {

@@ -10,12 +10,11 @@ ghost use Rattle.tomex_row_runs.specs.Looks.{IsKnownRow};
 ghost use Rattle.tomex_workers.specs.Plans.{IsPlanOf};
 ghost use Rattle.tomex_workers.specs.Seats.{Continues};
 
-use crate::gate::Gate;
 use std::alloc::{AllocError, Allocator};
 use tomex_board::{Board, Plan, Seat};
 use tomex_lanes::Lane;
 use tomex_row_runs::{Knowledge, KnownRow, the_last_look_sees_most};
-use tomex_study::Study;
+use tomex_study::{Gate, Study};
 
 /// The things that a worker uses: the study, the board that it shares with the others, the gate to
 /// which it reports its rows, and its number.

@@ -8,11 +8,7 @@ use Rattle.tomex_study.specs.Study.{DesignSpace, IsStudy, config_at}
 use Rattle.tomex_study.specs.StudyFront.{all_rows}
 use Rattle.tomex_worth.specs.Changes.{change, changes_at, changes_of, differ_at, part_at}
 use Rattle.tomex_worth.specs.declared.changes.Change.{Change}
-
-all_flat_map : {X Y : Type 0} (P : Y → Type 0) (f : X → List Y) (xs : List X) → ((x : X) → All P (f x))
-    → All P (flat_map f xs)
-all_flat_map P f [] each = All-nil P
-all_flat_map P f (x ∷ xs) each = All-append P (f x) (flat_map f xs) (each x) (all_flat_map P f xs each)
+use Rattle.tomex_tables.proofs.Each.{all_flat_map}
 
 -- changes are rows of the study
 pub changes_within : (s : DesignSpace) (own : FrontRow) → IsStudy s
