@@ -1,5 +1,6 @@
 //! The elements of reports: CSV records, by the crate `csv` with its defaults, aligned texts, numbers
 //! of hundredths, and names as they are shown.
+//! Tests: tomex_tests_reports, tomex_tests_surveys.
 #![tactic(auto)]
 
 mod aligned;

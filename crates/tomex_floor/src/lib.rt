@@ -2,11 +2,11 @@
 //! same latencies and at most the same issue width takes fewer.
 //!
 //! `specs/Floor.antt` is the definition, over the recurrence of `tomex_timing`; `specs/Laws.antt` says what it bounds.
+//! Tests: tomex_tests_timing.
 #![tactic(auto)]
 
 mod accesses;
 mod evaluate;
-mod facts;
 mod latest;
 mod laws;
 mod next;

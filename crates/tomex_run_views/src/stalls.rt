@@ -22,7 +22,6 @@ use tomex_config::Config;
 use tomex_csv_text::{into_text, push_decimal, push_names, put_record};
 use tomex_floor::floors;
 use tomex_study::Program;
-use tomex_timing::evaluate::needs;
 use tomex_timing::{Needs, Part};
 
 /// Writes the names of the columns.
@@ -239,8 +238,8 @@ pub fn stalls_report<A: Allocator + Clone>(
     ensures { IfOk result (λ text.
         IsStallsReport config.now (steps_from program.now.limit (start_of program.now.image)) text.items) }
 {
-    let steps = program.steps();
-    let needs = needs(alloc.clone()?, steps, config)?;
-    let floors = floors(alloc.clone()?, steps, config)?;
+    let run = program.run();
+    let needs = run.needs(&alloc, config)?;
+    let floors = floors(alloc.clone()?, run, config)?;
     text_of_needs(alloc, heap, config, &needs, &floors)
 }

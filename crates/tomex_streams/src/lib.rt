@@ -1,5 +1,6 @@
 //! The program's input and output: files, which are read whole, and sinks, which may take less than
 //! they are given.
+//! Tests: tomex_tests_lines.
 #![tactic(auto)]
 
 mod files;

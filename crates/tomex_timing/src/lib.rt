@@ -4,6 +4,7 @@
 //! Sources: R. M. Tomasulo, "An Efficient Algorithm for Exploiting Multiple Arithmetic Units", 1967, and the chapter on
 //! Tomasulo's algorithm in Hennessy and Patterson's "Computer Architecture: A Quantitative Approach".
 //! `specs/Recurrence.antt` is the definition; `specs/Tables.antt` says what stations and registers show after a cycle.
+//! Tests: tomex_tests_timing.
 #![tactic(auto)]
 
 mod accesses;
@@ -31,7 +32,7 @@ pub use laws::{
 };
 pub use needs::Needs;
 pub use part::{Need, Part, Waits};
-pub use recent::register_of;
+pub use recent::Facts;
 pub use run::Run;
 pub use tables::{Busy, Field, Tables, Tag};
 pub use times::{Done, Times};
