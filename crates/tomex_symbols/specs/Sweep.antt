@@ -1,4 +1,4 @@
--- What a sweep over addresses in rising order knows about the symbols, which it visits in theirs.
+-- What a sweep over addresses in ascending order knows about the symbols, which it visits in theirs.
 use Rattle.std.specs.Prelude.{◌≡◌, ℕ, ◌+◌, ◌<◌, ◌≤◌, List, [], ◌∷◌, length, slice_index_or, take, All}
 use Rattle.std.specs.Prelude.{Bool, nat_eq, if◌then◌else◌, Option, Some, None}
 use Rattle.tomex_symbols.specs.declared.symbol.Symbol.{Symbol}
