@@ -15,7 +15,7 @@ use tomex_page_tables::{
     first_lines, push_list_start, push_more, push_percent_cell, push_row_link, push_signed_cell,
 };
 use tomex_pareto::FrontRow;
-use tomex_study::{Study, Surveyed};
+use tomex_study::Surveyed;
 use tomex_worth::{Change, changes_of, push_rate};
 
 /// Adds a row's number, which is a link if the row is shown.
@@ -67,16 +67,16 @@ fn push_rate_cell<A: Allocator>(
 #[tactic(auto, unfolding(crate::specs::Changed::to_cells))]
 fn push_to_cells<A: Allocator, B: Allocator>(
     text: &mut String<A>,
-    study: &Study<B>,
+    surveyed: &Surveyed<'_, B>,
     shown: &[FrontRow],
     change: Change,
 ) -> Result<(), AllocError>
-    requires { change.row.row < length study.now.rows }
+    requires { change.row.row < length surveyed.now.rows }
     ensures { OnOk result (string_bytes text.new
-        ≡ string_bytes text.old ++ to_cells study.now shown.now change) }
+        ≡ string_bytes text.old ++ to_cells surveyed.now shown.now change) }
 {
     let number = change.row.row;
-    push_entry_cell(text, false, &study.rows()[number], change.part)?;
+    push_entry_cell(text, false, surveyed.config(number), change.part)?;
     push_row_cell(text, shown, number)
 }
 
@@ -99,49 +99,49 @@ fn push_gain_cells<A: Allocator>(
 /// Adds the cells of a change.
 fn push_change_cells<A: Allocator, B: Allocator>(
     text: &mut String<A>,
-    study: &Study<B>,
+    surveyed: &Surveyed<'_, B>,
     shown: &[FrontRow],
     own: FrontRow,
     change: Change,
 ) -> Result<(), AllocError>
-    requires { change.row.row < length study.now.rows }
+    requires { change.row.row < length surveyed.now.rows }
     ensures { OnOk result (string_bytes text.new ≡ string_bytes text.old
-        ++ (to_cells study.now shown.now change ++ gain_cells own change.row)) }
+        ++ (to_cells surveyed.now shown.now change ++ gain_cells own change.row)) }
 {
-    push_to_cells(text, study, shown, change)?;
+    push_to_cells(text, surveyed, shown, change)?;
     push_gain_cells(text, own, change.row)
 }
 
 #[tactic(auto, unfolding(crate::specs::Changed::change_row, tomex_html::specs::Tables::table_row))]
 fn push_change_row<A: Allocator, B: Allocator>(
     text: &mut String<A>,
-    study: &Study<B>,
+    surveyed: &Surveyed<'_, B>,
     shown: &[FrontRow],
     own: FrontRow,
     change: Change,
 ) -> Result<(), AllocError>
-    requires { change.row.row < length study.now.rows }
+    requires { change.row.row < length surveyed.now.rows }
     ensures { OnOk result (string_bytes text.new
-        ≡ string_bytes text.old ++ change_row study.now shown.now own change) }
+        ≡ string_bytes text.old ++ change_row surveyed.now shown.now own change) }
 {
     push_list_start(text, change.part)?;
-    push_change_cells(text, study, shown, own, change)?;
+    push_change_cells(text, surveyed, shown, own, change)?;
     text.push_str("</tr>\n")
 }
 
 fn push_change_rows<A: Allocator, B: Allocator>(
     text: &mut String<A>,
-    study: &Study<B>,
+    surveyed: &Surveyed<'_, B>,
     shown: &[FrontRow],
     own: FrontRow,
     changes: &[Change],
 ) -> Result<(), AllocError>
-    requires { All (λ c. c.row.row < length study.now.rows) changes.now }
+    requires { All (λ c. c.row.row < length surveyed.now.rows) changes.now }
     ensures { OnOk result (string_bytes text.new ≡ string_bytes text.old
-        ++ flat_map (change_row study.now shown.now own) changes.now) }
+        ++ flat_map (change_row surveyed.now shown.now own) changes.now) }
 {
     for change in changes {
-        push_change_row(text, study, shown, own, *change)?;
+        push_change_row(text, surveyed, shown, own, *change)?;
     }
     Ok(())
 }
@@ -164,7 +164,7 @@ pub fn push_changes_table<A: Allocator, B: Allocator>(
     let names = ["Part", "To", "Row", "Cost", "Cycles", "%", "Rate"];
     text.push_str("<div>")?;
     push_table_head(text, " class=\"a\"", "With one part changed", &names)?;
-    push_change_rows(text, surveyed.study(), shown, own, first_lines(lines))?;
+    push_change_rows(text, surveyed, shown, own, first_lines(lines))?;
     push_table_end(text)?;
     push_more(text, "worth", lines.len())?;
     write!(text, "</div>\n")

@@ -7,5 +7,5 @@ use Rattle.tomex_page_rows.proofs.changed.push_change_rows.Given as goal
 
 abbrev pub invariant-loop-change : goal.invariant-loop-change
 invariant-loop-change g l =
-    string_bytes l.text ++ flat_map (change_row l.study l.shown l.own) (drop l.change-index l.changes)
-    ≡ string_bytes l.fn.text ++ flat_map (change_row l.study l.shown l.own) l.changes
+    string_bytes l.text ++ flat_map (change_row l.surveyed l.shown l.own) (drop l.change-index l.changes)
+    ≡ string_bytes l.fn.text ++ flat_map (change_row l.surveyed l.shown l.own) l.changes
