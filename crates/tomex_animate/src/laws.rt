@@ -3,7 +3,7 @@
 ghost use Rattle.tomex_animate.specs.Laws.{BusyStationsHaveRows, EntriesAreTheHistory, LinksLeadToViews};
 ghost use Rattle.tomex_animate.specs.Laws.{ViewsAreOfCycles};
 
-/// A page is of the history that the text of tables is of, and each station that tables show as busy has a row in a
+/// A page shows the same history as the text of `tables`, and each station that tables show as busy has a row in a
 /// view.
 pub fn views_are_tables()
     ensures history { EntriesAreTheHistory }

@@ -1,4 +1,5 @@
 //! The arguments of a command line as `clap` read them, and lines that ask for no command.
+//! Tests: tomex_tests_lines, tomex_tests_commands.
 #![tactic(auto)]
 
 mod fault;

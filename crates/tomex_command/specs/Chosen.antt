@@ -47,7 +47,7 @@ IsChoiceFailure file study number name NoSuchRow = IsUnchosenIn file study numbe
 IsChoiceFailure file study number name NoSuchProgram = IsUnchosenIn file study number name NoSuchProgram
 IsChoiceFailure file study number name failure = IsStudyFailure file study failure
 
--- the file of the first program of a name, of files that are in the order of the programs
+-- the file of the first program with this name; files are in the order of the programs
 pub record IsFileOf (study : DesignSpace) (contents : List (List ℕ)) (name : List ℕ) (bytes : List ℕ) : Type 0 where
   pub place : ℕ
   pub place_is : position (λ p. bytes_eq p.name name) study.programs ≡ Some place

@@ -9,11 +9,11 @@ use Rattle.tomex_command.specs.declared.failure.Failure.TheVariants.{NoSuchRefus
 use Rattle.tomex_arguments.specs.declared.fault.LineFault.{LineFault}
 use Rattle.tomex_arguments.specs.declared.fault.LineFault.TheVariants.{Help, Usage}
 use Rattle.tomex_arguments.specs.declared.fault.LineFault.TheVariants as faults
-use Rattle.tomex_streams.specs.Names.{shown_name}
+use Rattle.tomex_csv_text.specs.Names.{shown_name}
 use Rattle.tomex_streams.specs.Sinks.{Seen, IsWhole, IsCut, IsWritten}
 use Rattle.tomex_command.specs.Statuses.{status_of_failure}
 
--- the text of a failure; that of a refused run or study is its own, of which nothing is said here
+-- the text of a failure; nothing is stated about the texts of refused runs and studies
 abbrev pub IsTextOf : Failure → List ℕ → Type 0
 IsTextOf BadWindow text = text ≡ codes "bad window"
 IsTextOf (Run refusal) text = Unit {0}

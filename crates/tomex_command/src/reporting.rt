@@ -8,7 +8,8 @@ ghost use Rattle.tomex_command.specs.Reporting.{line_of};
 use crate::failure::Failure;
 use std::alloc::{AllocError, Global};
 use tomex_arguments::LineFault;
-use tomex_streams::{Sink, shown_name, write_all_of};
+use tomex_csv_text::shown_name;
+use tomex_streams::{Sink, write_all_of};
 
 /// Writes a text as far as the sink takes it.
 fn write_text<W: Sink>(sink: &mut W, text: &[u8])

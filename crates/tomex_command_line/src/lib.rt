@@ -1,5 +1,6 @@
 //! The command line: what it may ask for, and the report of what is wrong with it. No other part of the program knows
 //! of `clap`.
+//! Tests: tomex_tests_lines.
 #![tactic(auto)]
 
 mod line;

@@ -1,5 +1,5 @@
 -- A configuration of the machine: its parts, and their limits.
-use Rattle.std.specs.Prelude.{◌≡◌, ℕ, ◌&&◌, Bool, true, nat_le, List, [], ◌∷◌, length}
+use Rattle.std.specs.Prelude.{◌≡◌, ℕ, ◌&&◌, ◌==◌, Bool, true, nat_le, List, [], ◌∷◌, length}
 use Rattle.std.specs.Prelude.{slice_index, slice_index_or, slice_set, All}
 use Rattle.tomex_rvdec.specs.Parts.{place_of_pool, place_of_unit}
 use Rattle.tomex_rvdec.specs.declared.pool.PoolId.{PoolId}
@@ -30,6 +30,10 @@ is_option most o = is_between 1 most o.units && is_between 1 64 o.latency && nat
 abbrev pub most_units : UnitId → ℕ
 most_units Bru = 1
 most_units unit = 8
+
+-- units, latency and price are equal
+abbrev pub same_option : UnitOption → UnitOption → Bool
+same_option a b = a.units == b.units && a.latency == b.latency && a.price == b.price
 
 -- one unit of latency 1 and price 0
 abbrev pub plain_option : UnitOption

@@ -4,7 +4,7 @@ ghost use Rattle.std.specs.Prelude.{◌≡◌, ◌≤◌, ◌↔◌, true, IsSom
 ghost use Rattle.std.specs.List.{list_all};
 ghost use Rattle.tomex_config.specs.Configuration.{IsWithinLimits, is_between, is_option, most_units, plain};
 ghost use Rattle.tomex_config.specs.Configuration.{config_of, stations_of, option_of, with_stations, with_option};
-ghost use Rattle.tomex_config.specs.Configuration.{with_buses, with_width};
+ghost use Rattle.tomex_config.specs.Configuration.{same_option, with_buses, with_width};
 
 use std::marker::Model;
 use tomex_rvdec::{PoolId, UnitId};
@@ -16,6 +16,13 @@ pub struct UnitOption {
     pub units: u8,
     pub latency: u8,
     pub price: u32,
+}
+
+/// True if two options have the same units, latency and price.
+pub fn same_option(a: UnitOption, b: UnitOption) -> bool
+    ensures { result ≡ same_option a b }
+{
+    a.units == b.units && a.latency == b.latency && a.price == b.price
 }
 
 /// A configuration within the limits: 1 to 16 reservation stations in each pool, 1 to 8 units of

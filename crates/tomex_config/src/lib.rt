@@ -4,6 +4,7 @@
 //! Source of the parts: R. M. Tomasulo, "An Efficient Algorithm for Exploiting Multiple Arithmetic
 //! Units", 1967, and the chapter on Tomasulo's algorithm in Hennessy and Patterson's "Computer
 //! Architecture: A Quantitative Approach".
+//! Tests: tomex_tests_studies, tomex_tests_memory.
 #![tactic(auto)]
 
 mod axis;
@@ -12,6 +13,6 @@ mod price;
 mod product;
 
 pub use axis::Axes;
-pub use config::{Config, UnitOption};
+pub use config::{Config, UnitOption, same_option};
 pub use price::{Prices, cost};
 pub use product::{GridError, grid};

@@ -1,3 +1,5 @@
 pub mod Csv
 pub mod Aligned
 pub mod Hundredths
+pub mod Names
+pub mod Growth

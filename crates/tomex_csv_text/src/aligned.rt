@@ -1,16 +1,16 @@
 //! Texts that are aligned, to the right or to the left.
 
-ghost use Rattle.std.specs.Prelude.{◌≡◌, ◌++◌, codes, OnOk, string_bytes};
+ghost use Rattle.std.specs.Prelude.{codes, OnOk};
 ghost use Rattle.std.specs.Fmt.{decimal};
 ghost use Rattle.std.specs.List.{repeat};
 ghost use Rattle.tomex_csv_text.specs.Aligned.{left_aligned, right_aligned};
+ghost use Rattle.tomex_csv_text.specs.Growth.{Appends};
 
 use std::alloc::{AllocError, Allocator};
 use std::fmt::Write;
 
 fn push_spaces<A: Allocator>(text: &mut String<A>, count: usize) -> Result<(), AllocError>
-    ensures { OnOk result (string_bytes text.new
-        ≡ string_bytes text.old ++ repeat count (codes " ")) }
+    ensures { OnOk result (Appends (repeat count (codes " ")) text.old text.new) }
 {
     let mut left = count;
     while left > 0 {
@@ -26,8 +26,7 @@ pub fn push_aligned<A: Allocator>(
     width: usize,
     word: &str,
 ) -> Result<(), AllocError>
-    ensures { OnOk result (string_bytes text.new
-        ≡ string_bytes text.old ++ right_aligned width word.now) }
+    ensures { OnOk result (Appends (right_aligned width word.now) text.old text.new) }
 {
     push_spaces(text, width.saturating_sub(word.as_bytes().len()))?;
     text.push_str(word)
@@ -39,8 +38,7 @@ pub fn push_left_aligned<A: Allocator>(
     width: usize,
     word: &str,
 ) -> Result<(), AllocError>
-    ensures { OnOk result (string_bytes text.new
-        ≡ string_bytes text.old ++ left_aligned width word.now) }
+    ensures { OnOk result (Appends (left_aligned width word.now) text.old text.new) }
 {
     text.push_str(word)?;
     push_spaces(text, width.saturating_sub(word.as_bytes().len()))
@@ -53,8 +51,7 @@ pub fn push_aligned_number<A: Allocator>(
     width: usize,
     number: u64,
 ) -> Result<(), AllocError>
-    ensures { OnOk result (string_bytes text.new
-        ≡ string_bytes text.old ++ right_aligned width (decimal number)) }
+    ensures { OnOk result (Appends (right_aligned width (decimal number)) text.old text.new) }
 {
     scratch.clear();
     write!(scratch, "{number}")?;

@@ -9,7 +9,7 @@ ghost use Rattle.tomex_rvexec.specs.Texts.{hex8};
 use csv::ByteRecord;
 use std::alloc::AllocError;
 use std::fmt::Write;
-use tomex_rvexec::Step;
+use tomex_rvdec::Instr;
 
 /// Adds a field of decimal digits.
 pub fn push_decimal(
@@ -27,18 +27,18 @@ pub fn push_decimal(
     fields.push_field(scratch.as_bytes())
 }
 
-/// Adds a step: its address in eight hexadecimal digits, and its instruction.
+/// Adds an instruction, after its address in eight hexadecimal digits.
 pub fn push_instruction(
     fields: &mut ByteRecord,
     scratch: &mut String,
-    step: &Step,
+    pc: u32,
+    instr: Instr,
 ) -> Result<(), AllocError>
     requires { partial_of fields.old ≡ [] }
     ensures fields { OnOk result (fields_of fields.new
-        ≡ fields_of fields.old ++ hex8 step.now.pc ∷ instr_text step.now.instr ∷ []) }
+        ≡ fields_of fields.old ++ hex8 pc ∷ instr_text instr ∷ []) }
     ensures whole { OnOk result (partial_of fields.new ≡ []) }
 {
-    let (pc, instr) = (step.pc, step.instr);
     scratch.clear();
     write!(scratch, "{pc:08x}")?;
     fields.push_field(scratch.as_bytes())?;

@@ -1,8 +1,9 @@
 //! Records, written one after another into a text.
 
-ghost use Rattle.std.specs.Prelude.{◌≡◌, ◌++◌, IfOk, OnOk};
+ghost use Rattle.std.specs.Prelude.{◌≡◌, IfOk, OnOk};
 ghost use Rattle.csv.specs.Records.{fields_of};
 ghost use Rattle.tomex_csv_text.specs.Csv.{IsReady, record_text, text_written};
+ghost use Rattle.tomex_csv_text.specs.Growth.{Writes};
 
 use csv::{ByteRecord, Writer};
 use std::alloc::{AllocError, Allocator};
@@ -14,8 +15,7 @@ pub fn put_record<A: Allocator>(
 ) -> Result<(), AllocError>
     requires { IsReady writer.old }
     ensures ready { OnOk result (IsReady writer.new) }
-    ensures text { OnOk result (text_written (λ v. v.items) writer.new
-        ≡ text_written (λ v. v.items) writer.old ++ record_text (fields_of fields.now)) }
+    ensures text { OnOk result (Writes (record_text (fields_of fields.now)) writer.old writer.new) }
 {
     match writer.write_byte_record(fields) {
         Ok(()) => Ok(()),

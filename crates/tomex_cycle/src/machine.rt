@@ -176,8 +176,8 @@ impl<'a, A: Allocator> Machine<'a, A> {
 
     /// Makes cycles, and skips quiet ones, until the cycle is `to` or the machine ends or faults.
     ///
-    /// The one place where cycles are made: so the compiler puts what a cycle does into this loop, and what each
-    /// caller does is no part of it. It answers nothing, since an answer's place would be kept through the loop.
+    /// The only loop that makes cycles: the compiler inlines a cycle here, and nothing of the callers. It returns
+    /// nothing, since a result would occupy a register throughout.
     #[inline(never)]
     fn run_to(&mut self, to: u64)
         requires running { self.old.status ≡ Progress.Running }

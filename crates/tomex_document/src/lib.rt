@@ -1,5 +1,6 @@
 //! The document of a study, before its programs' files are read: TOML, whose places and keys are
 //! tested one after another.
+//! Tests: tomex_tests_documents.
 #![tactic(auto)]
 
 mod document;

@@ -2,6 +2,7 @@
 //! same latencies and at most the same issue width takes fewer.
 //!
 //! `specs/Floor.antt` is the definition, over the recurrence of `tomex_timing`; `specs/Laws.antt` says what it bounds.
+//! Tests: tomex_tests_timing.
 #![tactic(auto)]
 
 mod accesses;

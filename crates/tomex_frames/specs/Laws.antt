@@ -54,8 +54,8 @@ says words t e = bytes_eq words (doing_text (doing_in t e))
 abbrev pub cycles_with : List ℕ → ℕ → Entry → ℕ
 cycles_with words last e = count_by (λ t. says words t e) (range_with_len 1 last)
 
--- A step's row names each cause in as many cycles as the step waits by it. Its address cycle, in which the row says so,
--- is one in which it waits for an operand or its address.
+-- A step's row shows each cause for as many cycles as the step waits for it. Its address cycle counts as a wait for its
+-- operand or its address.
 pub record ShowsWaits (last : ℕ) (e : Entry) : Type 0 where
   pub branch : cycles_with (codes "waits: branch") last e ≡ e.waits.branch
   pub width : cycles_with (codes "waits: width") last e ≡ e.waits.width

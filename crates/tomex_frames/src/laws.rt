@@ -11,8 +11,8 @@ pub fn no_step_is_lost()
     ensures next { NextIsListed }
 {}
 
-/// In as many cycles as a step waits by a cause its row says so. The address cycle of a load or store is one in which
-/// it waits for an operand or its address.
+/// A step's row shows each cause for as many cycles as the step waits for it. The address cycle of a load or store
+/// counts as a wait for an operand or its address.
 pub fn steps_show_their_waits()
     ensures { StepsShowTheirWaits }
 {}

@@ -17,6 +17,7 @@ use Rattle.tomex_front_views.specs.declared.table.heading.Heading.TheVariants.{S
 use Rattle.tomex_front_views.specs.declared.table.heading.Heading.TheVariants.{Cycles}
 use Rattle.tomex_front_views.specs.declared.table.heading.Setting.{Setting}
 use Rattle.tomex_tables.specs.Table.{TableColumn}
+use Rattle.tomex_tables.proofs.Each.{all_flat_map, all_if, all_map}
 
 -- an entry for each of the rows
 abbrev pub HasEntries : List FrontRow → TableColumn → Type 0
@@ -38,19 +39,6 @@ rate_long front = rates_long None front
 program_long : (s : DesignSpace) (front : List FrontRow) (p : Workload) → HasEntries front (program_column s front p)
 unfolding cycles_on
 program_long s front p = length-map (cycles_on s front p) _ ∙ length-map front _
-
-all_map : {X Y : Type 0} (P : Y → Type 0) (f : X → Y) (xs : List X) → ((x : X) → P (f x)) → All P (map f xs)
-all_map P f [] each = All-nil P
-all_map P f (x ∷ xs) each = All-cons P (f x) (map f xs) (each x) (all_map P f xs each)
-
-all_flat_map : {X Y : Type 0} (P : Y → Type 0) (f : X → List Y) (xs : List X) → ((x : X) → All P (f x))
-    → All P (flat_map f xs)
-all_flat_map P f [] each = All-nil P
-all_flat_map P f (x ∷ xs) each = All-append P (f x) (flat_map f xs) (each x) (all_flat_map P f xs each)
-
-all_if : {Y : Type 0} (P : Y → Type 0) (ys : List Y) (b : Bool) → All P ys → All P (if b then ys else [])
-all_if P ys true each = each
-all_if P ys false each = All-nil P
 
 setting_long : (s : DesignSpace) (front : List FrontRow) (setting : Setting)
     → All (HasEntries front) (setting_columns s front setting)

@@ -5,7 +5,7 @@ use Rattle.std.specs.Prelude.{ℕ, ◌==◌, Bool, if◌then◌else◌, List, �
 use Rattle.std.specs.Fmt.{decimal}
 use Rattle.std.specs.List.{flat_map, list_any}
 use Rattle.tomex_pareto.specs.declared.front_row.FrontRow.{FrontRow}
-use Rattle.tomex_row_runs.specs.StudyFront.{all_rows, front_of_study}
+use Rattle.tomex_study.specs.StudyFront.{all_rows, front_of_study}
 use Rattle.tomex_study.specs.Study.{DesignSpace}
 use Rattle.tomex_front_views.specs.Axes.{axes_of}
 use Rattle.tomex_front_views.specs.Dots.{dots_line}

@@ -5,7 +5,7 @@ use Rattle.std.specs.Prelude.{ℕ, ◌+◌, ◌-◌, ◌*◌, ◌==◌, nat_le, 
 use Rattle.std.specs.Prelude.{List, [], ◌∷◌, ◌++◌, codes, length, Option, Some, None}
 use Rattle.std.specs.List.{flat_map}
 use Rattle.std.specs.Fmt.{decimal}
-use Rattle.tomex_row_runs.specs.StudyFront.{front_of_study}
+use Rattle.tomex_study.specs.StudyFront.{front_of_study}
 use Rattle.tomex_study.specs.Study.{DesignSpace}
 use Rattle.tomex_pareto.specs.declared.front_row.FrontRow.{FrontRow}
 use Rattle.tomex_front_views.specs.Axes.{axes_of, point_of, ticks_of, x_of, y_of}

@@ -1,9 +1,9 @@
 -- The picture of a study's front over all of its rows.
 use Rattle.std.specs.Prelude.{ℕ, List, ◌++◌, length}
 use Rattle.tomex_pareto.specs.declared.front_row.FrontRow.{FrontRow}
-use Rattle.tomex_row_runs.specs.StudyFront.{front_of_study}
+use Rattle.tomex_study.specs.StudyFront.{front_of_study}
 use Rattle.tomex_study.specs.Study.{DesignSpace}
-use Rattle.tomex_row_runs.specs.StudyFront.{all_rows}
+use Rattle.tomex_study.specs.StudyFront.{all_rows}
 use Rattle.tomex_front_views.specs.Axes.{axes_of}
 use Rattle.tomex_front_views.specs.Dots.{dots_line}
 use Rattle.tomex_front_views.specs.Plot.{lines_text, rows_text, scales_text, shade, sheet, size_text, staircase}

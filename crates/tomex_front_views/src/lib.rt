@@ -1,4 +1,5 @@
 //! The front of a study for people: as a table, and as one picture.
+//! Tests: tomex_tests_surveys, tomex_tests_study_commands.
 #![tactic(auto)]
 
 mod plot;

@@ -156,7 +156,7 @@ fn text_of_listing<A: Allocator>(
 /// those at lower addresses; a record without a name follows if steps have no function, then the cycles after the
 /// last issue, and last the sums of the columns.
 ///
-/// `file` is the whole file of the program. What `csv` needs for its records it takes of `heap`.
+/// `file` is the whole file of the program. `csv` allocates its records in `heap`.
 pub fn stalls_by_function<A: Allocator + Clone>(
     alloc: A,
     heap: Global,

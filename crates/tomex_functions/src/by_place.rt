@@ -43,7 +43,7 @@ fn fill_place(
     ensures { OnOk result (fields_of fields.new ≡ with_function file.now place.now function.now) }
 {
     fields.clear();
-    push_instruction(fields, scratch, &place.first)?;
+    push_instruction(fields, scratch, place.first.pc, place.first.instr)?;
     push_function(fields, heap, file, function)?;
     push_sum(fields, scratch, &place.sum)
 }
@@ -146,7 +146,7 @@ fn text_of_counted<A: Allocator>(
 /// The stalls report of a program on a configuration by place in the program, with the function of each: the records of
 /// [`stalls_by_pc`](tomex_run_views::stalls_by_pc) with a column more.
 ///
-/// `file` is the whole file of the program. What `csv` needs for its records it takes of `heap`.
+/// `file` is the whole file of the program. `csv` allocates its records in `heap`.
 pub fn stalls_by_pc_and_function<A: Allocator + Clone>(
     alloc: A,
     heap: Global,

@@ -1,4 +1,5 @@
 //! The functions of a program, as texts show them, and where in them the cycles of a run go.
+//! Tests: tomex_tests_symbols, tomex_tests_commands.
 #![tactic(auto)]
 
 mod by_function;

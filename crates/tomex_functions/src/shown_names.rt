@@ -8,7 +8,7 @@ ghost use Rattle.tomex_functions.specs.ShownNames.{name_field, shown_byte, shown
 use csv::ByteRecord;
 use std::alloc::{AllocError, Global};
 use std::fmt::Write;
-use tomex_streams::{push_shown, shown_name};
+use tomex_csv_text::{push_shown, shown_name};
 use tomex_symbols::{Symbol, name_of};
 
 /// How many bytes of a name are shown.

@@ -2,6 +2,7 @@
 //! to the next.
 //!
 //! Source: the HTML Living Standard, in its XML syntax.
+//! Tests: tomex_tests_pages.
 #![tactic(auto)]
 
 mod constants;

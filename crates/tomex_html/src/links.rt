@@ -1,6 +1,7 @@
 //! Views, of which a page shows one, and the links from one to the next.
 
-ghost use Rattle.std.specs.Prelude.{◌≡◌, ◌++◌, OnOk, string_bytes};
+ghost use Rattle.std.specs.Prelude.{OnOk};
+ghost use Rattle.tomex_csv_text.specs.Growth.{Appends};
 ghost use Rattle.tomex_html.specs.Html.{id_text, link_or_text, links};
 
 use std::alloc::{AllocError, Allocator};
@@ -44,7 +45,7 @@ pub struct Links {
 
 /// Adds the name of a link that others lead to, if it has one.
 fn push_id<A: Allocator>(text: &mut String<A>, id: Option<Anchor>) -> Result<(), AllocError>
-    ensures { OnOk result (string_bytes text.new ≡ string_bytes text.old ++ id_text id) }
+    ensures { OnOk result (Appends (id_text id) text.old text.new) }
 {
     if let Some(id) = id {
         write!(text, " id=\"{id}\"")?;
@@ -59,8 +60,7 @@ fn push_link<A: Allocator>(
     to: Option<Anchor>,
     words: &str,
 ) -> Result<(), AllocError>
-    ensures { OnOk result (string_bytes text.new
-        ≡ string_bytes text.old ++ link_or_text id to words.now) }
+    ensures { OnOk result (Appends (link_or_text id to words.now) text.old text.new) }
 {
     match to {
         Some(to) => {
@@ -80,7 +80,7 @@ fn push_link<A: Allocator>(
 /// Adds a view's links: to the first view, to the one before, to the one after, and to the last one.
 #[tactic(auto, unfolding(crate::specs::Html::links))]
 pub fn push_links<A: Allocator>(text: &mut String<A>, view: Links) -> Result<(), AllocError>
-    ensures { OnOk result (string_bytes text.new ≡ string_bytes text.old ++ links view) }
+    ensures { OnOk result (Appends (links view) text.old text.new) }
 {
     let first = view.before.map(|_| Anchor::Next(view.first));
     let previous = view.before.map(|before| Anchor::Previous(before));

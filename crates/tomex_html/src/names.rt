@@ -1,15 +1,16 @@
 //! Names in pages.
 
-ghost use Rattle.std.specs.Prelude.{◌≡◌, ◌++◌, OnOk, string_bytes};
+ghost use Rattle.std.specs.Prelude.{OnOk};
+ghost use Rattle.tomex_csv_text.specs.Growth.{Appends};
 ghost use Rattle.tomex_html.specs.Html.{html_char, html_name};
 
 use std::alloc::{AllocError, Allocator};
-use tomex_streams::push_shown;
+use tomex_csv_text::push_shown;
 
 /// Adds a character of a name.
 #[tactic(auto, unfolding(crate::specs::Html::html_char))]
 fn push_char<A: Allocator>(text: &mut String<A>, letter: char) -> Result<(), AllocError>
-    ensures { OnOk result (string_bytes text.new ≡ string_bytes text.old ++ html_char letter) }
+    ensures { OnOk result (Appends (html_char letter) text.old text.new) }
 {
     match letter {
         '&' => text.push_str("&amp;"),
@@ -22,7 +23,7 @@ fn push_char<A: Allocator>(text: &mut String<A>, letter: char) -> Result<(), All
 
 /// Adds a name, which may have any characters. No part of it is read as markup.
 pub fn push_name<A: Allocator>(text: &mut String<A>, name: &str) -> Result<(), AllocError>
-    ensures { OnOk result (string_bytes text.new ≡ string_bytes text.old ++ html_name name.now) }
+    ensures { OnOk result (Appends (html_name name.now) text.old text.new) }
 {
     for letter in name.chars() {
         push_char(text, letter)?;

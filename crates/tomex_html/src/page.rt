@@ -1,6 +1,7 @@
 //! The start and the end of pages.
 
-ghost use Rattle.std.specs.Prelude.{◌≡◌, ◌++◌, OnOk, string_bytes};
+ghost use Rattle.std.specs.Prelude.{OnOk};
+ghost use Rattle.tomex_csv_text.specs.Growth.{Appends};
 ghost use Rattle.tomex_html.specs.Html.{page_end, page_start};
 
 use crate::constants::{base_css, frame_css, head_html};
@@ -15,8 +16,7 @@ pub fn push_page_start<A: Allocator>(
     title: &str,
     style: &str,
 ) -> Result<(), AllocError>
-    ensures { OnOk result (string_bytes text.new
-        ≡ string_bytes text.old ++ page_start title.now style.now) }
+    ensures { OnOk result (Appends (page_start title.now style.now) text.old text.new) }
 {
     let (head, base, frame) = (head_html(), base_css(), frame_css());
     write!(
@@ -28,7 +28,7 @@ pub fn push_page_start<A: Allocator>(
 /// Adds the end of a page.
 #[tactic(auto, unfolding(crate::specs::Html::page_end))]
 pub fn push_page_end<A: Allocator>(text: &mut String<A>) -> Result<(), AllocError>
-    ensures { OnOk result (string_bytes text.new ≡ string_bytes text.old ++ page_end) }
+    ensures { OnOk result (Appends page_end text.old text.new) }
 {
     text.push_str("</body>\n</html>\n")
 }

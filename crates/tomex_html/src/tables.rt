@@ -1,7 +1,8 @@
 //! Cells and rows of tables.
 
-ghost use Rattle.std.specs.Prelude.{◌≡◌, ◌++◌, [], OnOk, string_bytes};
+ghost use Rattle.std.specs.Prelude.{◌≡◌, [], OnOk};
 ghost use Rattle.std.specs.List.{flat_map};
+ghost use Rattle.tomex_csv_text.specs.Growth.{Appends};
 ghost use Rattle.tomex_html.specs.Html.{cell_start, changed_cell, is_new, table_end, td};
 ghost use Rattle.tomex_html.specs.Tables.{number_cell, row_start};
 
@@ -28,8 +29,7 @@ pub fn push_changed_cell<A: Allocator>(
     was: &str,
     now: &str,
 ) -> Result<(), AllocError>
-    ensures { OnOk result (string_bytes text.new
-        ≡ string_bytes text.old ++ changed_cell was.now now.now) }
+    ensures { OnOk result (Appends (changed_cell was.now now.now) text.old text.new) }
 {
     text.push_str(cell_start(is_new(was, now)))?;
     text.push_str(now)?;
@@ -39,7 +39,7 @@ pub fn push_changed_cell<A: Allocator>(
 /// Adds the start of a row, up to its cells.
 #[tactic(auto, unfolding(crate::specs::Tables::row_start))]
 pub fn push_row_start<A: Allocator>(text: &mut String<A>, head: &str) -> Result<(), AllocError>
-    ensures { OnOk result (string_bytes text.new ≡ string_bytes text.old ++ row_start head.now) }
+    ensures { OnOk result (Appends (row_start head.now) text.old text.new) }
 {
     write!(text, "<tr><th scope=\"row\">{head}</th>")
 }
@@ -47,15 +47,14 @@ pub fn push_row_start<A: Allocator>(text: &mut String<A>, head: &str) -> Result<
 /// Adds a cell with a number.
 #[tactic(auto, unfolding(crate::specs::Tables::number_cell))]
 pub fn push_number<A: Allocator>(text: &mut String<A>, number: u64) -> Result<(), AllocError>
-    ensures { OnOk result (string_bytes text.new ≡ string_bytes text.old ++ number_cell number) }
+    ensures { OnOk result (Appends (number_cell number) text.old text.new) }
 {
     write!(text, "<td>{number}</td>")
 }
 
 /// Adds a cell for each number.
 pub fn push_numbers<A: Allocator>(text: &mut String<A>, numbers: &[u64]) -> Result<(), AllocError>
-    ensures { OnOk result (string_bytes text.new
-        ≡ string_bytes text.old ++ flat_map number_cell numbers.now) }
+    ensures { OnOk result (Appends (flat_map number_cell numbers.now) text.old text.new) }
 {
     for number in numbers {
         push_number(text, *number)?;
@@ -65,7 +64,7 @@ pub fn push_numbers<A: Allocator>(text: &mut String<A>, numbers: &[u64]) -> Resu
 
 /// Adds an empty cell.
 pub fn push_empty<A: Allocator>(text: &mut String<A>) -> Result<(), AllocError>
-    ensures { OnOk result (string_bytes text.new ≡ string_bytes text.old ++ td []) }
+    ensures { OnOk result (Appends (td []) text.old text.new) }
 {
     text.push_str("<td></td>")
 }
@@ -73,7 +72,7 @@ pub fn push_empty<A: Allocator>(text: &mut String<A>) -> Result<(), AllocError>
 /// Adds the end of a table.
 #[tactic(auto, unfolding(crate::specs::Html::table_end))]
 pub fn push_table_end<A: Allocator>(text: &mut String<A>) -> Result<(), AllocError>
-    ensures { OnOk result (string_bytes text.new ≡ string_bytes text.old ++ table_end) }
+    ensures { OnOk result (Appends table_end text.old text.new) }
 {
     text.push_str("</tbody></table></div>\n")
 }

@@ -1,5 +1,6 @@
 //! Windows of memory, and the images that are loaded into them: flat files of raw bytes, and ELF
 //! files of 32 bits.
+//! Tests: tomex_tests_in_order.
 #![tactic(auto)]
 
 mod elf;

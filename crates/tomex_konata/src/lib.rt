@@ -1,4 +1,5 @@
 //! A run's steps as a log of the viewer Konata: the lines of each cycle in which something happens.
+//! Tests: tomex_tests_commands.
 #![tactic(auto)]
 
 mod entries;

@@ -10,11 +10,11 @@ use Rattle.std.proofs.lemmas.List.FromFn.{get_or-map-range_with_len, length-map-
 use Rattle.tomex_pareto.specs.Front.{front_of}
 use Rattle.tomex_pareto.specs.Pareto.{ComesBefore}
 use Rattle.tomex_pareto.specs.declared.front_row.FrontRow.{FrontRow}
-use Rattle.tomex_pareto.proofs.Finished.{rows_apart}
+use Rattle.tomex_pareto.proofs.Rows.{rows_apart}
 use Rattle.tomex_pareto.proofs.Pareto.{AreApart as AreNumbered, Has, IsSortedFront, all_has, front_is, has_at}
 use Rattle.tomex_pareto.proofs.Pareto.{rises_pairs}
-use Rattle.tomex_row_runs.specs.Cycles.{cycles_of}
-use Rattle.tomex_row_runs.specs.StudyFront.{all_rows, front_of_study}
+use Rattle.tomex_study.specs.Cycles.{cycles_of}
+use Rattle.tomex_study.specs.StudyFront.{all_rows, front_of_study}
 use Rattle.tomex_study.specs.Study.{DesignSpace}
 use Rattle.tomex_front_views.specs.LinkedPlot.{is_shown}
 use Rattle.tomex_page_tables.specs.Shown.{chosen_row, chosen_place, no_row, row_of, shown_rows}

@@ -7,7 +7,7 @@ use Rattle.tomex_config.specs.Configuration.{Configuration}
 use Rattle.tomex_html.specs.Html.{html_name, links, page_end, page_start}
 use Rattle.tomex_html.specs.declared.links.Links.{Links}
 use Rattle.tomex_pareto.specs.declared.front_row.FrontRow.{FrontRow}
-use Rattle.tomex_row_runs.specs.StudyFront.{front_of_study}
+use Rattle.tomex_study.specs.StudyFront.{front_of_study}
 use Rattle.tomex_study.specs.Program.{Workload}
 use Rattle.tomex_study.specs.Study.{DesignSpace}
 use Rattle.tomex_front_views.specs.LinkedPlot.{linked_picture_of}

@@ -2,6 +2,7 @@
 //! the front, with its parts, what one part changed brings, the prices with which it stays, and its runs.
 //!
 //! Source: the HTML Living Standard, in its XML syntax.
+//! Tests: tomex_tests_study_pages.
 #![tactic(auto)]
 
 mod charts;

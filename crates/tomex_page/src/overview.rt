@@ -2,7 +2,6 @@
 
 ghost use Rattle.std.specs.Prelude.{◌≡◌, ◌++◌, IfOk, OnOk, string_bytes};
 ghost use Rattle.tomex_page.specs.Page.{all_in_picture, counts_text, left_out, overview, page_head, title_of};
-ghost use Rattle.tomex_row_runs.specs.StudyFront.{all_rows, front_of_study};
 
 use crate::constants::page_css;
 use std::alloc::{AllocError, Allocator, Global};
@@ -11,7 +10,7 @@ use tomex_front_views::push_linked_picture;
 use tomex_html::{push_name, push_page_start};
 use tomex_page_tables::{MOST_ROWS, push_lists_table, push_programs_table};
 use tomex_pareto::FrontRow;
-use tomex_study::Study;
+use tomex_study::Surveyed;
 
 /// Adds the number of rows, and how many of them are on the front.
 #[tactic(auto, unfolding(crate::specs::Page::counts_text))]
@@ -60,24 +59,21 @@ pub fn push_page_head<A: Allocator>(
 
 /// Adds the picture of all rows next to what was asked.
 ///
-/// `rows` are all rows of the study, `front` those of its front, `shown` those of the front that are shown.
+/// `shown` are the rows of the front that are shown.
 #[tactic(auto, unfolding(crate::specs::Page::overview))]
 pub fn push_overview<A: Allocator + Clone>(
     text: &mut String<A>,
     alloc: &A,
     heap: Global,
-    study: &Study<A>,
-    rows: &[FrontRow],
-    front: &[FrontRow],
+    surveyed: &Surveyed<'_, A>,
     shown: &[FrontRow],
 ) -> Result<(), AllocError>
-    requires rows { rows.now ≡ all_rows study.now }
-    requires front { front.now ≡ front_of_study study.now }
     ensures { OnOk result (string_bytes text.new
-        ≡ string_bytes text.old ++ overview study.now shown.now) }
+        ≡ string_bytes text.old ++ overview surveyed.now shown.now) }
 {
+    let study = surveyed.study();
     text.push_str("<div class=\"w\">")?;
-    push_linked_picture(text, alloc.clone()?, heap, study, rows, front, shown)?;
+    push_linked_picture(text, alloc.clone()?, heap, surveyed, shown)?;
     text.push_str("</div>\n<div>\n")?;
     push_programs_table(text, study)?;
     push_lists_table(text, heap, study)?;

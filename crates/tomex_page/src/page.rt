@@ -3,8 +3,7 @@
 ghost use Rattle.std.specs.Prelude.{◌≡◌, ◌<◌, ◌++◌, length, All, IfOk, OnOk, string_bytes};
 ghost use Rattle.std.specs.List.{Contains};
 ghost use Rattle.tomex_page.specs.Page.{page_of, page_over, rows_text};
-ghost use Rattle.tomex_row_runs.specs.StudyFront.{all_rows, front_of_study};
-ghost use Rattle.tomex_survey.specs.Totals.{totals_of};
+ghost use Rattle.tomex_study.specs.StudyFront.{front_of_study};
 
 use crate::constants::page_help;
 use crate::overview::{push_left_out, push_overview, push_page_head};
@@ -15,8 +14,7 @@ use tomex_html::push_page_end;
 use tomex_page_rows::PriceBook;
 use tomex_page_tables::{push_front_table, shown_rows};
 use tomex_pareto::FrontRow;
-use tomex_study::Study;
-use tomex_survey::Survey;
+use tomex_study::Surveyed;
 
 /// Adds the front, and the views of the rows that are shown.
 #[tactic(auto, unfolding(crate::specs::Page::rows_text))]
@@ -24,23 +22,19 @@ fn push_rows<A: Allocator, B: Allocator + Clone>(
     text: &mut String<A>,
     alloc: &B,
     heap: Global,
-    study: &Study<B>,
-    survey: &Survey<B>,
+    surveyed: &Surveyed<'_, B>,
     shown: &[FrontRow],
 ) -> Result<(), AllocError>
-    requires totals { survey.now.totals ≡ totals_of study.now }
-    requires rows { survey.now.rows ≡ all_rows study.now }
-    requires shown { All (Contains (front_of_study study.now)) shown.now }
-    requires within { All (λ r. r.row < length study.now.rows) shown.now }
+    requires shown { All (Contains (front_of_study surveyed.now)) shown.now }
+    requires within { All (λ r. r.row < length surveyed.now.rows) shown.now }
     ensures { OnOk result (string_bytes text.new
-        ≡ string_bytes text.old ++ rows_text study.now (length survey.now.front) shown.now) }
+        ≡ string_bytes text.old ++ rows_text surveyed.now (length (front_of_study surveyed.now)) shown.now) }
 {
-    let rows = survey.rows();
-    let book = PriceBook::new(heap, study, rows, shown)?;
-    push_left_out(text, survey.front().len())?;
-    push_front_table(text, heap, study, survey, shown)?;
+    let book = PriceBook::new(heap, surveyed, shown)?;
+    push_left_out(text, surveyed.front().len())?;
+    push_front_table(text, heap, surveyed, shown)?;
     text.push_str("<div class=\"v\">\n")?;
-    push_sections(text, alloc, heap, study, rows, &book, shown)?;
+    push_sections(text, alloc, heap, surveyed, &book, shown)?;
     write!(text, "</div>\n</main>\n")
 }
 
@@ -51,22 +45,18 @@ fn push_page<A: Allocator + Clone>(
     alloc: &A,
     heap: Global,
     name: &str,
-    study: &Study<A>,
-    survey: &Survey<A>,
+    surveyed: &Surveyed<'_, A>,
     shown: &[FrontRow],
 ) -> Result<(), AllocError>
-    requires totals { survey.now.totals ≡ totals_of study.now }
-    requires rows { survey.now.rows ≡ all_rows study.now }
-    requires front { survey.now.front ≡ front_of_study study.now }
-    requires shown { All (Contains (front_of_study study.now)) shown.now }
-    requires within { All (λ r. r.row < length study.now.rows) shown.now }
+    requires shown { All (Contains (front_of_study surveyed.now)) shown.now }
+    requires within { All (λ r. r.row < length surveyed.now.rows) shown.now }
     ensures { OnOk result (string_bytes text.new ≡ string_bytes text.old
-        ++ page_over name.now study.now survey.now.front shown.now) }
+        ++ page_over name.now surveyed.now (front_of_study surveyed.now) shown.now) }
 {
-    let (rows, front) = (survey.rows(), survey.front());
-    push_page_head(text, heap, name, front.len(), study.rows().len())?;
-    push_overview(text, alloc, heap, study, rows, front, shown)?;
-    push_rows(text, alloc, heap, study, survey, shown)?;
+    let (front, rows) = (surveyed.front().len(), surveyed.rows().len());
+    push_page_head(text, heap, name, front, rows)?;
+    push_overview(text, alloc, heap, surveyed, shown)?;
+    push_rows(text, alloc, heap, surveyed, shown)?;
     text.push_str(page_help())?;
     push_page_end(text)
 }
@@ -82,25 +72,12 @@ pub fn study_page<A: Allocator + Clone>(
     alloc: A,
     heap: Global,
     name: &str,
-    study: &Study<A>,
-    survey: &Survey<A>,
+    surveyed: &Surveyed<'_, A>,
 ) -> Result<Vec<u8, A>, AllocError>
-    requires totals { survey.now.totals ≡ totals_of study.now }
-    requires rows { survey.now.rows ≡ all_rows study.now }
-    requires front { survey.now.front ≡ front_of_study study.now }
-    ensures { IfOk result (λ text. text.items ≡ page_of name.now study.now) }
+    ensures { IfOk result (λ text. text.items ≡ page_of name.now surveyed.now) }
 {
-    study.keeps_limits();
-    let shown = shown_rows(heap, survey.front())?;
+    let shown = shown_rows(heap, surveyed.front())?;
     let mut text = String::new(alloc.clone()?);
-    push_page(
-        &mut text,
-        &alloc,
-        heap,
-        name,
-        study,
-        survey,
-        shown.as_slice(),
-    )?;
+    push_page(&mut text, &alloc, heap, name, surveyed, shown.as_slice())?;
     Ok(text.into_bytes())
 }

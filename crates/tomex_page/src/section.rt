@@ -7,7 +7,6 @@ ghost use Rattle.tomex_page.specs.Page.{section_start};
 ghost use Rattle.tomex_page.specs.Page.{section_tables, view_of};
 ghost use Rattle.tomex_page_tables.specs.Shown.{no_row};
 ghost use Rattle.tomex_page_rows.specs.Stays.{AreFound};
-ghost use Rattle.tomex_row_runs.specs.StudyFront.{all_rows};
 
 use crate::runs::push_runs;
 use std::alloc::{AllocError, Allocator, Global};
@@ -19,7 +18,7 @@ use tomex_page_rows::{
 };
 use tomex_page_tables::{ShownRow, row_of};
 use tomex_pareto::FrontRow;
-use tomex_study::Study;
+use tomex_study::{Study, Surveyed};
 
 /// A row between its neighbours among the rows that are shown.
 #[derive(Drop)]
@@ -86,25 +85,23 @@ fn push_head<A: Allocator>(
 fn push_tables<A: Allocator, B: Allocator>(
     text: &mut String<A>,
     heap: Global,
-    study: &Study<B>,
-    rows: &[FrontRow],
+    surveyed: &Surveyed<'_, B>,
     book: &PriceBook,
     shown: &[FrontRow],
     place: usize,
     view: &View,
 ) -> Result<(), AllocError>
-    requires rows { rows.now ≡ all_rows study.now }
-    requires book { AreFound study.now shown.now book.now }
+    requires book { AreFound surveyed.now shown.now book.now }
     requires place { place < length shown.now }
-    requires within { All (λ r. r.row < length study.now.rows) shown.now }
+    requires within { All (λ r. r.row < length surveyed.now.rows) shown.now }
     requires here { view.now.here.row ≡ slice_index_or shown.now place no_row }
     ensures { OnOk result (string_bytes text.new
-        ≡ string_bytes text.old ++ section_tables study.now shown.now view.now) }
+        ≡ string_bytes text.old ++ section_tables surveyed.now shown.now view.now) }
 {
     push_against(text, &view.before, &view.here)?;
-    push_parts_table(text, &study.prices(), &view.before, &view.here)?;
-    push_changes_table(text, heap, study, rows, shown, view.here.row)?;
-    push_prices_table(text, study, rows, book, shown, place)
+    push_parts_table(text, &surveyed.study().prices(), &view.before, &view.here)?;
+    push_changes_table(text, heap, surveyed, shown, view.here.row)?;
+    push_prices_table(text, surveyed, book, shown, place)
 }
 
 /// Adds the programs' runs on a row.
@@ -130,24 +127,22 @@ fn push_section<A: Allocator, B: Allocator + Clone>(
     text: &mut String<A>,
     alloc: &B,
     heap: Global,
-    study: &Study<B>,
-    rows: &[FrontRow],
+    surveyed: &Surveyed<'_, B>,
     book: &PriceBook,
     shown: &[FrontRow],
     place: usize,
     view: &View,
 ) -> Result<(), AllocError>
-    requires rows { rows.now ≡ all_rows study.now }
-    requires book { AreFound study.now shown.now book.now }
+    requires book { AreFound surveyed.now shown.now book.now }
     requires place { place < length shown.now }
-    requires within { All (λ r. r.row < length study.now.rows) shown.now }
+    requires within { All (λ r. r.row < length surveyed.now.rows) shown.now }
     requires here { view.now.here.row ≡ slice_index_or shown.now place no_row }
     ensures { OnOk result (string_bytes text.new
-        ≡ string_bytes text.old ++ row_section study.now shown.now view.now) }
+        ≡ string_bytes text.old ++ row_section surveyed.now shown.now view.now) }
 {
     push_head(text, shown, view)?;
-    push_tables(text, heap, study, rows, book, shown, place, view)?;
-    push_section_runs(text, alloc, heap, study, &view.here.config)
+    push_tables(text, heap, surveyed, book, shown, place, view)?;
+    push_section_runs(text, alloc, heap, surveyed.study(), &view.here.config)
 }
 
 /// Adds a view for each row that is shown.
@@ -155,17 +150,16 @@ pub fn push_sections<A: Allocator, B: Allocator + Clone>(
     text: &mut String<A>,
     alloc: &B,
     heap: Global,
-    study: &Study<B>,
-    rows: &[FrontRow],
+    surveyed: &Surveyed<'_, B>,
     book: &PriceBook,
     shown: &[FrontRow],
 ) -> Result<(), AllocError>
-    requires rows { rows.now ≡ all_rows study.now }
-    requires book { AreFound study.now shown.now book.now }
-    requires within { All (λ r. r.row < length study.now.rows) shown.now }
+    requires book { AreFound surveyed.now shown.now book.now }
+    requires within { All (λ r. r.row < length surveyed.now.rows) shown.now }
     ensures { OnOk result (string_bytes text.new
-        ≡ string_bytes text.old ++ row_sections study.now shown.now None shown.now) }
+        ≡ string_bytes text.old ++ row_sections surveyed.now shown.now None shown.now) }
 {
+    let study = surveyed.study();
     let mut before = None;
     for (place, row) in shown.iter().enumerate() {
         let view = View {
@@ -173,7 +167,7 @@ pub fn push_sections<A: Allocator, B: Allocator + Clone>(
             here: row_of(study, *row),
             after: shown.get(place + 1).copied(),
         };
-        push_section(text, alloc, heap, study, rows, book, shown, place, &view)?;
+        push_section(text, alloc, heap, surveyed, book, shown, place, &view)?;
         before = Some(row_of(study, *row));
     }
     Ok(())

@@ -6,7 +6,8 @@ use Rattle.tomex_html.specs.Html.{table_end, td}
 use Rattle.tomex_pareto.specs.declared.front_row.FrontRow.{FrontRow}
 use Rattle.tomex_study.specs.Study.{DesignSpace}
 use Rattle.tomex_front_views.specs.LinkedPlot.{is_shown, link_to}
-use Rattle.tomex_worth.specs.Changes.{changes_of, config_at}
+use Rattle.tomex_worth.specs.Changes.{changes_of}
+use Rattle.tomex_study.specs.Study.{config_at}
 use Rattle.tomex_worth.specs.Differences.{percent, signed_difference}
 use Rattle.tomex_worth.specs.Worth.{entry_text, name_of_list, rate_text}
 use Rattle.tomex_worth.specs.declared.changes.Change.{Change}

@@ -4,7 +4,6 @@ ghost use Rattle.std.specs.Prelude.{◌≡◌, ◌<◌, ◌++◌, length, All, O
 ghost use Rattle.std.specs.List.{flat_map};
 ghost use Rattle.tomex_html.specs.Html.{td};
 ghost use Rattle.tomex_page_rows.specs.Changed.{change_row, changes_table, gain_cells, row_text, to_cells};
-ghost use Rattle.tomex_row_runs.specs.StudyFront.{all_rows};
 ghost use Rattle.tomex_worth.specs.Worth.{rate_text};
 
 use crate::parts::push_entry_cell;
@@ -16,7 +15,7 @@ use tomex_page_tables::{
     first_lines, push_list_start, push_more, push_percent_cell, push_row_link, push_signed_cell,
 };
 use tomex_pareto::FrontRow;
-use tomex_study::Study;
+use tomex_study::{Study, Surveyed};
 use tomex_worth::{Change, changes_of, push_rate};
 
 /// Adds a row's number, which is a link if the row is shown.
@@ -152,23 +151,20 @@ fn push_change_rows<A: Allocator, B: Allocator>(
 pub fn push_changes_table<A: Allocator, B: Allocator>(
     text: &mut String<A>,
     heap: Global,
-    study: &Study<B>,
-    rows: &[FrontRow],
+    surveyed: &Surveyed<'_, B>,
     shown: &[FrontRow],
     own: FrontRow,
 ) -> Result<(), AllocError>
-    requires own { own.row < length study.now.rows }
-    requires rows { rows.now ≡ all_rows study.now }
+    requires { own.row < length surveyed.now.rows }
     ensures { OnOk result (string_bytes text.new
-        ≡ string_bytes text.old ++ changes_table study.now shown.now own) }
+        ≡ string_bytes text.old ++ changes_table surveyed.now shown.now own) }
 {
-    study.keeps_limits();
-    let changes = changes_of(heap, study, rows, own)?;
+    let changes = changes_of(heap, surveyed, own)?;
     let lines = changes.as_slice();
     let names = ["Part", "To", "Row", "Cost", "Cycles", "%", "Rate"];
     text.push_str("<div>")?;
     push_table_head(text, " class=\"a\"", "With one part changed", &names)?;
-    push_change_rows(text, study, shown, own, first_lines(lines))?;
+    push_change_rows(text, surveyed.study(), shown, own, first_lines(lines))?;
     push_table_end(text)?;
     push_more(text, "worth", lines.len())?;
     write!(text, "</div>\n")

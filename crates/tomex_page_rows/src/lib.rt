@@ -2,6 +2,7 @@
 //! prices with which it stays.
 //!
 //! Source: the HTML Living Standard, in its XML syntax.
+//! Tests: tomex_tests_study_pages.
 #![tactic(auto)]
 
 mod changed;

@@ -10,7 +10,7 @@ ghost use Rattle.tomex_html.specs.Tables.{number_cell, row_start};
 ghost use Rattle.tomex_prices.specs.Interval.{range_text};
 ghost use Rattle.tomex_prices.specs.Price.{name_of_price};
 ghost use Rattle.tomex_prices.specs.Studies.{interval_of};
-ghost use Rattle.tomex_row_runs.specs.StudyFront.{all_rows, front_of_study};
+ghost use Rattle.tomex_study.specs.StudyFront.{front_of_study};
 
 use std::alloc::{AllocError, Allocator, Global};
 use std::fmt::Write;
@@ -19,7 +19,7 @@ use tomex_html::{push_number, push_table_end, push_table_head};
 use tomex_page_tables::{first_lines, push_more};
 use tomex_pareto::FrontRow;
 use tomex_prices::{Price, PriceRange, interval_of, percent, prices, relevant_prices, rows_with};
-use tomex_study::Study;
+use tomex_study::Surveyed;
 
 /// A price, its stated value, and the range in which each row that is shown stays on the front.
 #[derive(Drop)]
@@ -59,19 +59,18 @@ impl Model for PriceBook {
 /// The range of a price in which each row that is shown stays on the front.
 fn ranges_of<A: Allocator>(
     heap: Global,
-    study: &Study<A>,
-    rows: &[FrontRow],
+    surveyed: &Surveyed<'_, A>,
     shown: &[FrontRow],
     price: Price,
 ) -> Result<Ranges, AllocError>
-    requires rows { rows.now ≡ all_rows study.now }
-    requires shown { All (Contains (front_of_study study.now)) shown.now }
-    ensures { IfOk result (λ r. r ≡ ranges_of study.now shown.now price) }
+    requires { All (Contains (front_of_study surveyed.now)) shown.now }
+    ensures { IfOk result (λ r. r ≡ ranges_of surveyed.now shown.now price) }
 {
-    let apart = rows_with(heap, study, rows, price)?;
+    let study = surveyed.study();
+    let priced = rows_with(heap, surveyed, price)?;
     let mut ranges = Vec::with_capacity(heap, shown.len())?;
     for row in shown {
-        ranges.push(interval_of(study, price, apart.as_slice(), *row))?;
+        ranges.push(interval_of(study, price, priced.as_slice(), *row))?;
     }
     Ok(Ranges {
         price,
@@ -83,40 +82,36 @@ fn ranges_of<A: Allocator>(
 /// The same for several prices.
 fn all_ranges<A: Allocator>(
     heap: Global,
-    study: &Study<A>,
-    rows: &[FrontRow],
+    surveyed: &Surveyed<'_, A>,
     shown: &[FrontRow],
     prices: &[Price],
 ) -> Result<Vec<Ranges>, AllocError>
-    requires rows { rows.now ≡ all_rows study.now }
-    requires shown { All (Contains (front_of_study study.now)) shown.now }
-    ensures { IfOk result (λ v. v.items ≡ map (ranges_of study.now shown.now) prices.now) }
+    requires { All (Contains (front_of_study surveyed.now)) shown.now }
+    ensures { IfOk result (λ v. v.items ≡ map (ranges_of surveyed.now shown.now) prices.now) }
 {
     let mut all = Vec::with_capacity(heap, prices.len())?;
     for price in prices {
-        all.push(ranges_of(heap, study, rows, shown, *price)?)?;
+        all.push(ranges_of(heap, surveyed, shown, *price)?)?;
     }
     Ok(all)
 }
 
 impl PriceBook {
-    /// The prices of a study. `rows` are all rows of it, `shown` those of its front that are shown.
+    /// The prices of a study. `shown` are the rows of its front that are shown.
     #[tactic(auto, unfolding(crate::specs::Stays::shown_prices))]
     pub fn new<A: Allocator>(
         heap: Global,
-        study: &Study<A>,
-        rows: &[FrontRow],
+        surveyed: &Surveyed<'_, A>,
         shown: &[FrontRow],
     ) -> Result<PriceBook, AllocError>
-        requires rows { rows.now ≡ all_rows study.now }
-        requires shown { All (Contains (front_of_study study.now)) shown.now }
+        requires { All (Contains (front_of_study surveyed.now)) shown.now }
         ensures { IfOk result
-            (λ b. AreFound study.now shown.now b) }
+            (λ b. AreFound surveyed.now shown.now b) }
     {
-        let all = prices(heap, study)?;
-        let relevant = relevant_prices(heap, study)?;
+        let all = prices(heap, surveyed.study())?;
+        let relevant = relevant_prices(heap, surveyed.study())?;
         let some = first_lines(relevant.as_slice());
-        let ranges = all_ranges(heap, study, rows, shown, some)?;
+        let ranges = all_ranges(heap, surveyed, shown, some)?;
         Ok(PriceBook {
             all,
             relevant: relevant.len(),
@@ -251,22 +246,20 @@ fn push_off<A: Allocator>(text: &mut String<A>, percent: u64) -> Result<(), Allo
 
 /// Adds the table of the prices with which the row that is shown at a place stays on the front.
 ///
-/// `rows` are all rows of the study, `book` has its prices.
+/// `book` has the study's prices.
 #[tactic(auto, unfolding(crate::specs::Stays::prices_table))]
 pub fn push_prices_table<A: Allocator, B: Allocator>(
     text: &mut String<A>,
-    study: &Study<B>,
-    rows: &[FrontRow],
+    surveyed: &Surveyed<'_, B>,
     book: &PriceBook,
     shown: &[FrontRow],
     place: usize,
 ) -> Result<(), AllocError>
-    requires rows { rows.now ≡ all_rows study.now }
-    requires book { AreFound study.now shown.now book.now }
+    requires book { AreFound surveyed.now shown.now book.now }
     requires place { place < length shown.now }
-    requires within { All (λ r. r.row < length study.now.rows) shown.now }
+    requires within { All (λ r. r.row < length surveyed.now.rows) shown.now }
     ensures { OnOk result (string_bytes text.new ≡ string_bytes text.old
-        ++ prices_table study.now (slice_index_or shown.now place no_row)) }
+        ++ prices_table surveyed.now (slice_index_or shown.now place no_row)) }
 {
     let names = ["Price", "Now", "Stays"];
     text.push_str("<div>")?;
@@ -274,5 +267,5 @@ pub fn push_prices_table<A: Allocator, B: Allocator>(
     push_range_rows(text, place, book.ranges())?;
     push_table_end(text)?;
     push_more(text, "prices", book.relevant())?;
-    push_off(text, percent(study, book.all(), rows, shown[place]))
+    push_off(text, percent(surveyed, book.all(), shown[place]))
 }

@@ -2,12 +2,11 @@
 use Rattle.std.proofs.Common.{◌≡◌, ◌∙◌, ap, cond, sym, ℕ, ◌<◌, ◌≤◌, Bool, List, [], ◌∷◌, ◌++◌, length, map, refl}
 use Rattle.std.proofs.lemmas.Bool.{le-ltb, lt-ltb}
 use Rattle.tomex_timing.specs.Run.{total}
-use Rattle.tomex_row_runs.specs.Cycles.{totals_on}
+use Rattle.tomex_study.specs.Cycles.{total_at, totals_of, totals_on}
 use Rattle.tomex_study.specs.Program.{Workload}
 use Rattle.tomex_study.specs.Study.{DesignSpace}
-use Rattle.tomex_survey.specs.Totals.{totals_of}
-use Rattle.tomex_worth.proofs.Totals.{totals_there}
-use Rattle.tomex_worth.specs.Changes.{config_at}
+use Rattle.tomex_study.proofs.Rows.{totals_there}
+use Rattle.tomex_study.specs.Study.{config_at}
 use Rattle.std.proofs.Common.{get_or}
 use Rattle.std.specs.List.{flat_map}
 use Rattle.tomex_pareto.specs.declared.front_row.FrontRow.{FrontRow}
@@ -25,15 +24,15 @@ unfolding own_programs
 own_of_one s one = ap (λ (t : Bool). cond t s.programs []) (sym (le-ltb 1 (length s.programs) one))
 
 abbrev pub totals_at : DesignSpace → ℕ → List Workload → List ℕ
-totals_at s row programs = map (λ p. total (config_at s row) p.image) programs
+totals_at s row programs = map (λ p. total_at s p row) programs
 
 -- of several programs each has a total
-pub several_totals : (s : DesignSpace) (totals : List (List ℕ)) (given : List ℕ) (programs : List Workload) (row : ℕ)
-    → programs ≡ s.programs → 1 < length programs → totals ≡ totals_of s → row < length s.rows
-    → given ≡ get_or totals row [] → given ≡ totals_at s row (own_programs s)
+pub several_totals : (s : DesignSpace) (given : List ℕ) (programs : List Workload) (row : ℕ)
+    → programs ≡ s.programs → 1 < length programs → row < length s.rows
+    → given ≡ get_or (totals_of s) row [] → given ≡ totals_at s row (own_programs s)
 unfolding totals_on
-several_totals s totals given programs row are several is within given_is =
-    given_is ∙ (totals_there s totals row is within
+several_totals s given programs row are several within given_is =
+    given_is ∙ (totals_there s row within
     ∙ ap (totals_at s row) (own_of_several s (rw are at several)))
 
 -- a single program has no total

@@ -9,7 +9,6 @@ ghost use Rattle.tomex_page_tables.specs.Front.{more_cycles};
 ghost use Rattle.tomex_page_tables.specs.Front.{more_percent, own_cells, settings_of};
 ghost use Rattle.tomex_html.specs.Tables.{row_start};
 ghost use Rattle.tomex_page_tables.specs.Shown.{row_of};
-ghost use Rattle.tomex_survey.specs.Totals.{totals_of};
 ghost use Rattle.tomex_worth.specs.Differences.{percent, signed_difference};
 
 use crate::settings::{own_totals, push_front_heads, push_setting_cells, settings_of};
@@ -21,8 +20,7 @@ use tomex_html::{
     push_empty, push_head_end, push_number, push_numbers, push_table_end, push_table_start,
 };
 use tomex_pareto::FrontRow;
-use tomex_study::Study;
-use tomex_survey::Survey;
+use tomex_study::Surveyed;
 use tomex_worth::{push_percent, push_signed};
 
 /// Adds a cell with the difference from `a` to `b`.
@@ -136,61 +134,55 @@ fn push_link_head<A: Allocator>(text: &mut String<A>, row: usize) -> Result<(), 
 #[tactic(auto, unfolding(crate::specs::Front::front_cells))]
 fn push_front_cells<A: Allocator, B: Allocator>(
     text: &mut String<A>,
-    study: &Study<B>,
-    survey: &Survey<B>,
+    surveyed: &Surveyed<'_, B>,
     settings: &[Setting],
     before: &Option<ShownRow>,
     row: FrontRow,
 ) -> Result<(), AllocError>
-    requires row { row.row < length study.now.rows }
-    requires totals { survey.now.totals ≡ totals_of study.now }
-    requires settings { settings.now ≡ settings_of study.now }
+    requires row { row.row < length surveyed.now.rows }
+    requires settings { settings.now ≡ settings_of surveyed.now }
     ensures { OnOk result (string_bytes text.new
-        ≡ string_bytes text.old ++ front_cells study.now before.now (row_of study.now row)) }
+        ≡ string_bytes text.old ++ front_cells surveyed.now before.now (row_of surveyed.now row)) }
 {
-    let here = row_of(study, row);
+    let here = row_of(surveyed.study(), row);
     push_own_cells(text, before, &here)?;
     push_setting_cells(text, before, &here, settings)?;
-    push_numbers(text, own_totals(study, survey, row.row))
+    push_numbers(text, own_totals(surveyed, row.row))
 }
 
 #[tactic(auto, unfolding(crate::specs::Front::front_row, tomex_html::specs::Tables::table_row))]
 fn push_front_row<A: Allocator, B: Allocator>(
     text: &mut String<A>,
-    study: &Study<B>,
-    survey: &Survey<B>,
+    surveyed: &Surveyed<'_, B>,
     settings: &[Setting],
     before: &Option<ShownRow>,
     row: FrontRow,
 ) -> Result<(), AllocError>
-    requires row { row.row < length study.now.rows }
-    requires totals { survey.now.totals ≡ totals_of study.now }
-    requires settings { settings.now ≡ settings_of study.now }
+    requires row { row.row < length surveyed.now.rows }
+    requires settings { settings.now ≡ settings_of surveyed.now }
     ensures { OnOk result (string_bytes text.new
-        ≡ string_bytes text.old ++ front_row study.now before.now (row_of study.now row)) }
+        ≡ string_bytes text.old ++ front_row surveyed.now before.now (row_of surveyed.now row)) }
 {
     push_link_head(text, row.row)?;
-    push_front_cells(text, study, survey, settings, before, row)?;
+    push_front_cells(text, surveyed, settings, before, row)?;
     text.push_str("</tr>\n")
 }
 
 fn push_front_rows<A: Allocator, B: Allocator>(
     text: &mut String<A>,
-    study: &Study<B>,
-    survey: &Survey<B>,
+    surveyed: &Surveyed<'_, B>,
     settings: &[Setting],
     shown: &[FrontRow],
 ) -> Result<(), AllocError>
-    requires within { All (λ r. r.row < length study.now.rows) shown.now }
-    requires totals { survey.now.totals ≡ totals_of study.now }
-    requires settings { settings.now ≡ settings_of study.now }
+    requires within { All (λ r. r.row < length surveyed.now.rows) shown.now }
+    requires settings { settings.now ≡ settings_of surveyed.now }
     ensures { OnOk result (string_bytes text.new
-        ≡ string_bytes text.old ++ front_rows study.now None shown.now) }
+        ≡ string_bytes text.old ++ front_rows surveyed.now None shown.now) }
 {
     let mut before = None;
     for row in shown {
-        push_front_row(text, study, survey, settings, &before, *row)?;
-        before = Some(row_of(study, *row));
+        push_front_row(text, surveyed, settings, &before, *row)?;
+        before = Some(row_of(surveyed.study(), *row));
     }
     Ok(())
 }
@@ -200,20 +192,18 @@ fn push_front_rows<A: Allocator, B: Allocator>(
 pub fn push_front_table<A: Allocator, B: Allocator>(
     text: &mut String<A>,
     heap: Global,
-    study: &Study<B>,
-    survey: &Survey<B>,
+    surveyed: &Surveyed<'_, B>,
     shown: &[FrontRow],
 ) -> Result<(), AllocError>
-    requires within { All (λ r. r.row < length study.now.rows) shown.now }
-    requires totals { survey.now.totals ≡ totals_of study.now }
+    requires { All (λ r. r.row < length surveyed.now.rows) shown.now }
     ensures { OnOk result (string_bytes text.new
-        ≡ string_bytes text.old ++ front_table study.now shown.now) }
+        ≡ string_bytes text.old ++ front_table surveyed.now shown.now) }
 {
-    let settings = settings_of(heap, study)?;
+    let settings = settings_of(heap, surveyed.study())?;
     let caption = "The front, and what each row has more than the one above";
     push_table_start(text, " class=\"a\" id=\"front\"", caption)?;
-    push_front_heads(text, study, settings.as_slice())?;
+    push_front_heads(text, surveyed.study(), settings.as_slice())?;
     push_head_end(text)?;
-    push_front_rows(text, study, survey, settings.as_slice(), shown)?;
+    push_front_rows(text, surveyed, settings.as_slice(), shown)?;
     push_table_end(text)
 }

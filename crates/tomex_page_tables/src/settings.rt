@@ -3,20 +3,17 @@
 
 ghost use Rattle.std.specs.Prelude.{◌≡◌, ◌<◌, ◌++◌, length, map, IfOk, OnOk, string_bytes};
 ghost use Rattle.std.specs.List.{flat_map};
-ghost use Rattle.tomex_timing.specs.Run.{total};
 ghost use Rattle.tomex_front_views.specs.FrontTable.{all_settings, config_of, name_of_setting};
 ghost use Rattle.tomex_page_tables.specs.Front.{column_heads, own_programs, setting_cell, settings_of, sets_anew};
 ghost use Rattle.tomex_html.specs.Tables.{column_head};
-ghost use Rattle.tomex_survey.specs.Totals.{totals_of};
-ghost use Rattle.tomex_worth.specs.Changes.{config_at};
+ghost use Rattle.tomex_study.specs.Cycles.{total_at};
 
 use crate::shown::ShownRow;
 use std::alloc::{AllocError, Allocator, Global};
 use std::fmt::Write;
 use tomex_front_views::Setting;
 use tomex_html::{cell_start, push_column_head, push_column_heads};
-use tomex_study::{Program, Study};
-use tomex_survey::Survey;
+use tomex_study::{Program, Study, Surveyed};
 
 fn all_settings() -> &'static [Setting]
     ensures { result.now ≡ all_settings }
@@ -93,17 +90,12 @@ fn own_programs<A: Allocator>(study: &Study<A>) -> &[Program<A>]
 }
 
 /// The own cycles on a row of the programs whose own cycles are shown.
-pub fn own_totals<'s, A: Allocator>(
-    study: &Study<A>,
-    survey: &'s Survey<A>,
-    row: usize,
-) -> &'s [u64]
-    requires row { row < length study.now.rows }
-    requires totals { survey.now.totals ≡ totals_of study.now }
-    ensures { result.now ≡ map (λ p. total (config_at study.now row) p.image) (own_programs study.now) }
+pub fn own_totals<'s, A: Allocator>(surveyed: &'s Surveyed<'_, A>, row: usize) -> &'s [u64]
+    requires { row < length surveyed.now.rows }
+    ensures { result.now ≡ map (λ p. total_at surveyed.now p row) (own_programs surveyed.now) }
 {
-    if study.programs().len() > 1 {
-        survey.totals(row)
+    if surveyed.study().programs().len() > 1 {
+        surveyed.totals(row)
     } else {
         &[]
     }

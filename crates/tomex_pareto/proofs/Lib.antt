@@ -1,4 +1,4 @@
 -- Lemmas of this crate.
 pub mod Pareto
 pub mod Passes
-pub mod Finished
+pub mod Rows

@@ -1,5 +1,4 @@
--- What contracts cite: the front as a function and as a relation, the pass that finds it, and which rows are finished.
+-- What contracts cite: the front as a function and as a relation, and the pass that finds it.
 pub mod Front
 pub mod Pareto
 pub mod Passing
-pub mod Finished

@@ -1,5 +1,6 @@
 //! The Pareto front of configurations by cost and cycles: those that no other configuration dominates. It is found
-//! from the marks of all configurations, without their programs.
+//! from their costs and cycles, without their programs.
+//! Tests: tomex_tests_sweeps, tomex_tests_surveys.
 #![tactic(auto)]
 
 mod front_row;

@@ -15,7 +15,8 @@ use Rattle.tomex_config.specs.declared.config.UnitOption.{UnitOption}
 use Rattle.tomex_study.specs.Study.{DesignSpace}
 use Rattle.tomex_prices.specs.declared.price.Price.{Price}
 use Rattle.tomex_prices.specs.declared.price.Price.TheVariants.{Station, Choice, Bus, Width}
-use Rattle.tomex_prices.specs.Price.{payments, same_option, amount}
+use Rattle.tomex_prices.specs.Price.{payments, amount}
+use Rattle.tomex_config.specs.Configuration.{same_option}
 use Rattle.tomex_prices.specs.Prices.{choices_of, options_of, prices_of}
 use Rattle.tomex_prices.proofs.Splitting.{same_are_one}
 

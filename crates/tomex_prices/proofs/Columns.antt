@@ -11,6 +11,7 @@ use Rattle.tomex_prices.specs.declared.table.Heading.{Heading}
 use Rattle.tomex_prices.specs.declared.table.Heading.TheVariants.{Row, Cost, Cycles}
 use Rattle.tomex_prices.specs.Prices.{relevant_prices_of}
 use Rattle.tomex_prices.specs.PricesTable.{columns_of, heading_column, percent_column, price_column}
+use Rattle.tomex_tables.proofs.Each.{all_map}
 
 -- an entry for each row of the front, and one before them
 abbrev pub HasEntries : List FrontRow → TableColumn → Type 0
@@ -27,10 +28,6 @@ percent_long s front = ap suc (length-map front _)
 price_long : (s : DesignSpace) (front : List FrontRow) (price : Price) → HasEntries front (price_column s front price)
 unfolding price_column
 price_long s front price = ap suc (length-map front _)
-
-all_map : {X Y : Type 0} (P : Y → Type 0) (f : X → Y) (xs : List X) → ((x : X) → P (f x)) → All P (map f xs)
-all_map P f [] each = All-nil P
-all_map P f (x ∷ xs) each = All-cons P (f x) (map f xs) (each x) (all_map P f xs each)
 
 pub columns_long : (s : DesignSpace) (front : List FrontRow) → All (HasEntries front) (columns_of s front)
 columns_long s front =

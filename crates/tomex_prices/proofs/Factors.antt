@@ -12,7 +12,7 @@ use Rattle.tomex_pareto.specs.declared.front_row.FrontRow.{FrontRow}
 use Rattle.tomex_pareto.specs.Pareto.{Dominates}
 use Rattle.tomex_pareto.proofs.Pareto.{Has, contains_has}
 use Rattle.tomex_study.specs.Study.{DesignSpace, IsStudy}
-use Rattle.tomex_row_runs.specs.StudyFront.{all_rows}
+use Rattle.tomex_study.specs.StudyFront.{all_rows}
 use Rattle.tomex_prices.specs.declared.price.Price.{Price}
 use Rattle.tomex_prices.specs.AllPrices.{AreWithin, Factors, IsStatedAtHundred, LeavesBeyondPercent, StaysIfHundred}
 use Rattle.tomex_prices.specs.AllPrices.{StaysWithinPercent, cost_times, row_times}

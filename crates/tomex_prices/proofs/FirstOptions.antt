@@ -9,7 +9,7 @@ use Rattle.tomex_config.specs.declared.config.UnitOption.{UnitOption}
 use Rattle.tomex_tables.proofs.Firsts.{filter_every, next_first}
 use Rattle.tomex_prices.specs.declared.price.Price.{Price}
 use Rattle.tomex_prices.specs.declared.price.Price.TheVariants.{Choice}
-use Rattle.tomex_prices.specs.Price.{same_option}
+use Rattle.tomex_config.specs.Configuration.{same_option}
 use Rattle.tomex_prices.specs.Prices.{choices_of, options_of}
 
 -- one of these rows has the option

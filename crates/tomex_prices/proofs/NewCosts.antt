@@ -10,15 +10,15 @@ use Rattle.tomex_config.specs.Cost.{cost_of}
 use Rattle.tomex_pareto.specs.Front.{front_of}
 use Rattle.tomex_pareto.specs.declared.front_row.FrontRow.{FrontRow}
 use Rattle.tomex_pareto.specs.Pareto.{Dominates}
-use Rattle.tomex_pareto.proofs.Finished.{row_at, rows_apart}
+use Rattle.tomex_pareto.proofs.Rows.{row_at, rows_apart}
 use Rattle.tomex_pareto.proofs.Pareto.{AllOf, AreApart, Has, IsFree, contains_has, front_is}
 use Rattle.tomex_study.specs.Study.{DesignSpace, IsStudy}
-use Rattle.tomex_row_runs.specs.Cycles.{cycles_of}
-use Rattle.tomex_row_runs.specs.StudyFront.{all_rows, front_of_study}
+use Rattle.tomex_study.specs.Cycles.{cycles_of}
+use Rattle.tomex_study.specs.StudyFront.{all_rows, front_of_study}
 use Rattle.tomex_prices.specs.Prices.{prices_of}
 use Rattle.tomex_prices.specs.Studies.{config_of}
 use Rattle.tomex_prices.proofs.AllCosts.{cost_is_shares, share}
-use Rattle.tomex_prices.proofs.AllRows.{as_many_costs}
+use Rattle.tomex_study.proofs.Rows.{as_many_rows}
 use Rattle.tomex_prices.proofs.OnFront.{has_number, number_has, same_row}
 use Rattle.tomex_prices.specs.Repriced.{is_on}
 
@@ -64,7 +64,7 @@ pub config_cost : (s : DesignSpace) (r : FrontRow) → IsStudy s → Has (all_ro
     → cost_of (config_of s r) s.prices ≡ r.cost
 config_cost s r is one =
     let at = row_at 0 s.costs (cycles_of s) r one in
-    let costs = as_many_costs s is in
+    let costs = as_many_rows s is in
     let low : at.k < length s.rows = (let w = at.within in omega arith) in
     let number : r.row ≡ at.k = (let n = at.number in omega arith) in
     subst (λ (k : ℕ). cost_of (get_or s.rows k plain) s.prices ≡ r.cost) (sym number)
@@ -76,7 +76,7 @@ pub row_shares : (s : DesignSpace) (r : FrontRow) → IsStudy s → Has (all_row
     → sum_by (share s.prices (config_of s r)) (prices_of s) ≡ r.cost
 row_shares s r is one =
     let at = row_at 0 s.costs (cycles_of s) r one in
-    let costs = as_many_costs s is in
+    let costs = as_many_rows s is in
     let low : r.row < length s.rows = (let w = at.within in let n = at.number in omega arith) in
     cost_is_shares s r.row low ∙ config_cost s r is one
 

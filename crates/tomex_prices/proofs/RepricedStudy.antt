@@ -9,11 +9,11 @@ use Rattle.tomex_config.specs.Configuration.{Configuration, plain}
 use Rattle.tomex_config.specs.Cost.{PriceList}
 use Rattle.tomex_pareto.specs.Front.{front_of, rows_from}
 use Rattle.tomex_pareto.specs.declared.front_row.FrontRow.{FrontRow}
-use Rattle.tomex_pareto.proofs.Finished.{IsAt}
+use Rattle.tomex_pareto.proofs.Rows.{IsAt}
 use Rattle.tomex_pareto.proofs.Pareto.{contains_has}
 use Rattle.tomex_study.specs.Study.{DesignSpace, IsStudy, costs_of}
-use Rattle.tomex_row_runs.specs.Cycles.{cycles_of}
-use Rattle.tomex_row_runs.specs.StudyFront.{front_of_study}
+use Rattle.tomex_study.specs.Cycles.{cycles_of}
+use Rattle.tomex_study.specs.StudyFront.{front_of_study}
 use Rattle.tomex_prices.specs.declared.intervals.PriceRange.{PriceRange}
 use Rattle.tomex_prices.specs.declared.price.Price.{Price}
 use Rattle.tomex_prices.specs.declared.price.TheConstants.{GREATEST_PRICE}
@@ -22,7 +22,8 @@ use Rattle.tomex_prices.specs.Interval.{interval, is_within}
 use Rattle.tomex_prices.specs.Price.{amount}
 use Rattle.tomex_prices.specs.Repriced.{costs_with, is_on, priced_from, with_price_apart}
 use Rattle.tomex_prices.specs.Studies.{IsOnStudyExactlyWithin, interval_of, space_with, row_with, rows_with}
-use Rattle.tomex_prices.proofs.AllRows.{as_many_costs, as_many_cycles, front_row_at}
+use Rattle.tomex_prices.proofs.AllRows.{front_row_at}
+use Rattle.tomex_study.proofs.Rows.{as_many_cycles, as_many_rows}
 use Rattle.tomex_prices.proofs.OnFront.{has_number}
 use Rattle.tomex_prices.proofs.Repricing.{on_repriced_within}
 use Rattle.tomex_prices.proofs.SameCycles.{all_cycles_same}
@@ -74,7 +75,7 @@ priced_at price prices n (suc k) (c ∷ cs) (y ∷ ys) d low less =
 pub row_at_apart : (s : DesignSpace) (price : Price) (r : FrontRow) → IsStudy s → IsAt 0 s.costs (cycles_of s) r
     → Contains (rows_with s price) (row_with s price r)
 row_at_apart s price r is at =
-    let costs = as_many_costs s is in
+    let costs = as_many_rows s is in
     let cycles = as_many_cycles s in
     let is_k : at.k ≡ r.row = (let n = at.number in omega arith) in
     let low : at.k < length s.rows = (let w = at.within in omega arith) in

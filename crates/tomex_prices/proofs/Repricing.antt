@@ -8,7 +8,7 @@ use Rattle.tomex_pareto.specs.Front.{front_of, rows_from}
 use Rattle.tomex_pareto.specs.Pareto.{AreNumbered}
 use Rattle.tomex_pareto.specs.declared.front_row.FrontRow.{FrontRow}
 use Rattle.tomex_pareto.proofs.Pareto.{distinct}
-use Rattle.tomex_pareto.proofs.Finished.{rows_apart}
+use Rattle.tomex_pareto.proofs.Rows.{rows_apart}
 use Rattle.tomex_study.specs.Study.{costs_of}
 use Rattle.tomex_prices.specs.declared.price.Price.{Price}
 use Rattle.tomex_prices.specs.Interval.{at_price}

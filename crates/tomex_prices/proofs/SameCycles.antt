@@ -28,11 +28,11 @@ use Rattle.tomex_timing.proofs.Limits.{unit_in}
 use Rattle.tomex_timing.proofs.SameTimes.{serves_history}
 use Rattle.tomex_timing.specs.Run.{run_of, total}
 use Rattle.tomex_study.specs.Program.{Workload}
-use Rattle.tomex_row_runs.specs.Cycles.{cycles_on}
+use Rattle.tomex_study.specs.Cycles.{cycles_on}
 use Rattle.tomex_prices.specs.declared.price.Price.{Price}
 use Rattle.tomex_prices.specs.declared.price.Price.TheVariants.{Station, Choice, Bus, Width as Issues}
 use Rattle.tomex_prices.specs.declared.price.TheConstants.{GREATEST_PRICE}
-use Rattle.tomex_prices.specs.Price.{same_option}
+use Rattle.tomex_config.specs.Configuration.{same_option}
 use Rattle.tomex_prices.specs.Repriced.{config_with}
 use Rattle.tomex_prices.proofs.Splitting.{same_are_one}
 

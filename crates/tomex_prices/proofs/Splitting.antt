@@ -14,7 +14,8 @@ use Rattle.tomex_config.specs.Configuration.{Configuration, option_of, plain_opt
 use Rattle.tomex_config.specs.Cost.{PriceList, cost_of, options_cost}
 use Rattle.tomex_prices.specs.declared.price.Price.{Price}
 use Rattle.tomex_prices.specs.declared.price.Price.TheVariants.{Station, Choice, Bus, Width}
-use Rattle.tomex_prices.specs.Price.{payments, same_option}
+use Rattle.tomex_prices.specs.Price.{payments}
+use Rattle.tomex_config.specs.Configuration.{same_option}
 use Rattle.tomex_prices.specs.Repriced.{CostsSplit, StatedCostsStay, cost_with}
 
 -- lists of six and of five

@@ -9,11 +9,11 @@ use Rattle.std.proofs.Math.Nat.{add-mul, div-mul-le_self, le_of_mul-le-mul_right
 use Rattle.std.proofs.Math.Nat.{mul-le-mul_right, mul_assoc, mul_comm}
 use Rattle.tomex_config.specs.Configuration.{plain}
 use Rattle.tomex_pareto.specs.declared.front_row.FrontRow.{FrontRow}
-use Rattle.tomex_pareto.proofs.Finished.{row_at}
+use Rattle.tomex_pareto.proofs.Rows.{row_at}
 use Rattle.tomex_pareto.proofs.Pareto.{Has, contains_has}
 use Rattle.tomex_study.specs.Study.{DesignSpace, IsStudy}
-use Rattle.tomex_row_runs.specs.Cycles.{cycles_of}
-use Rattle.tomex_row_runs.specs.StudyFront.{all_rows}
+use Rattle.tomex_study.specs.Cycles.{cycles_of}
+use Rattle.tomex_study.specs.StudyFront.{all_rows}
 use Rattle.tomex_prices.specs.declared.price.Price.{Price}
 use Rattle.tomex_prices.specs.declared.priced_row.PricedRow.{PricedRow}
 use Rattle.tomex_prices.specs.Interval.{cost_at, fall, least, most, rise, slack}
@@ -22,7 +22,7 @@ use Rattle.tomex_prices.specs.Prices.{prices_of}
 use Rattle.tomex_prices.specs.Studies.{config_of, interval_of, row_with, rows_with}
 use Rattle.tomex_prices.specs.Together.{IsShareOfWay, IsStatedAtStated, StaysByShares, Values, cost_at_values}
 use Rattle.tomex_prices.proofs.AllCosts.{share}
-use Rattle.tomex_prices.proofs.AllRows.{as_many_costs}
+use Rattle.tomex_study.proofs.Rows.{as_many_rows}
 use Rattle.tomex_prices.proofs.NewCosts.{config_cost, front_free, free_keeps, on_costed, premium, row_shares}
 use Rattle.tomex_prices.proofs.RepricedStudy.{row_at_apart}
 use Rattle.tomex_prices.proofs.Splitting.{costs_split, stated_costs_stay}
@@ -145,7 +145,7 @@ apart_cost : (s : DesignSpace) (price : Price) (r : FrontRow) → IsStudy s → 
     → cost_at (amount price s.prices) (row_with s price r) ≡ r.cost
 apart_cost s price r is one =
     let at = row_at 0 s.costs (cycles_of s) r one in
-    let costs = as_many_costs s is in
+    let costs = as_many_rows s is in
     let low : r.row < length s.rows = (let w = at.within in let n = at.number in omega arith) in
     let config = config_of s r in
     let within = is.limits r.row plain low in

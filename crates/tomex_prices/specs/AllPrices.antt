@@ -7,7 +7,7 @@ use Rattle.tomex_config.specs.Cost.{PriceList}
 use Rattle.tomex_pareto.specs.Front.{front_of}
 use Rattle.tomex_pareto.specs.declared.front_row.FrontRow.{FrontRow}
 use Rattle.tomex_study.specs.Study.{DesignSpace, IsStudy}
-use Rattle.tomex_row_runs.specs.StudyFront.{all_rows, front_of_study}
+use Rattle.tomex_study.specs.StudyFront.{all_rows, front_of_study}
 use Rattle.tomex_prices.specs.declared.price.Price.{Price}
 use Rattle.tomex_prices.specs.Percent.{percent_of}
 use Rattle.tomex_prices.specs.Price.{payments, amount}

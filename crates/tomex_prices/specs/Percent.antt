@@ -12,7 +12,7 @@ use Rattle.tomex_prices.specs.declared.price.Price.{Price}
 use Rattle.tomex_prices.specs.Price.{payments, amount}
 use Rattle.tomex_prices.specs.Prices.{prices_of}
 use Rattle.tomex_prices.specs.Studies.{config_of}
-use Rattle.tomex_row_runs.specs.StudyFront.{all_rows}
+use Rattle.tomex_study.specs.StudyFront.{all_rows}
 
 -- the cost of the parts that two configurations don't have in common, at these prices: each price as often as one of
 -- them pays it more than the other

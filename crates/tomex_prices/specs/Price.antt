@@ -8,10 +8,6 @@ use Rattle.tomex_config.specs.Cost.{PriceList, price_of}
 use Rattle.tomex_prices.specs.declared.price.Price.{Price}
 use Rattle.tomex_prices.specs.declared.price.Price.TheVariants.{Station, Choice, Bus, Width}
 
--- units, latency and price are equal
-abbrev pub same_option : UnitOption → UnitOption → Bool
-same_option a b = a.units == b.units && a.latency == b.latency && a.price == b.price
-
 -- how often a configuration pays a price: once for each of its stations of the pool, once or never for an option, once
 -- for each of its buses, once for each instruction that may issue in a cycle
 abbrev pub payments : Price → Configuration → ℕ

@@ -3,7 +3,7 @@ use Rattle.std.specs.Prelude.{◌≡◌, ◌<◌, ◌≤◌, true, false, length
 use Rattle.std.specs.List.{Contains}
 use Rattle.tomex_pareto.specs.declared.front_row.FrontRow.{FrontRow}
 use Rattle.tomex_study.specs.Study.{DesignSpace, IsStudy}
-use Rattle.tomex_row_runs.specs.StudyFront.{front_of_study}
+use Rattle.tomex_study.specs.StudyFront.{front_of_study}
 use Rattle.tomex_prices.specs.declared.price.Price.{Price}
 use Rattle.tomex_prices.specs.declared.price.TheConstants.{GREATEST_PRICE}
 use Rattle.tomex_prices.specs.Interval.{is_within}

@@ -8,7 +8,8 @@ use Rattle.tomex_config.specs.declared.config.UnitOption.{UnitOption}
 use Rattle.tomex_study.specs.Study.{DesignSpace}
 use Rattle.tomex_prices.specs.declared.price.Price.{Price}
 use Rattle.tomex_prices.specs.declared.price.Price.TheVariants.{Station, Choice, Bus, Width}
-use Rattle.tomex_prices.specs.Price.{payments, same_option}
+use Rattle.tomex_prices.specs.Price.{payments}
+use Rattle.tomex_config.specs.Configuration.{same_option}
 
 -- the options for a kind of unit that some row has, each once, in the order of the first rows that have them
 abbrev pub options_of : UnitId → List Configuration → List UnitOption

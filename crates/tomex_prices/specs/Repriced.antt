@@ -13,7 +13,8 @@ use Rattle.tomex_prices.specs.declared.price.Price.TheVariants.{Station, Choice,
 use Rattle.tomex_prices.specs.declared.price.TheConstants.{GREATEST_PRICE}
 use Rattle.tomex_prices.specs.declared.priced_row.PricedRow.{PricedRow}
 use Rattle.tomex_prices.specs.Interval.{interval, is_within}
-use Rattle.tomex_prices.specs.Price.{payments, same_option, amount}
+use Rattle.tomex_prices.specs.Price.{payments, amount}
+use Rattle.tomex_config.specs.Configuration.{same_option}
 
 -- the list of prices, and a configuration, with this price replaced by q
 abbrev pub list_with : Price → ℕ → PriceList → PriceList

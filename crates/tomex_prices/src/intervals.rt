@@ -3,7 +3,7 @@
 ghost use Rattle.std.specs.Prelude.{◌≡◌, ℕ, ◌≤◌, ◌<◌, ◌^◌, true, All, map};
 ghost use Rattle.std.specs.List.{Contains};
 ghost use Rattle.tomex_pareto.specs.Pareto.{AreNumbered};
-ghost use Rattle.tomex_row_runs.specs.StudyFront.{front_of_study};
+ghost use Rattle.tomex_study.specs.StudyFront.{front_of_study};
 ghost use Rattle.tomex_prices.specs.Interval.{IsSmall, at_price, cost_at, fall, interval, is_within};
 ghost use Rattle.tomex_prices.specs.Interval.{on_front, premium, rise, slack, stays};
 ghost use Rattle.tomex_prices.specs.Repriced.{is_on};

@@ -1,5 +1,6 @@
 //! Prices: the values of one price, all others as stated, for which a row of the front stays on it;
 //! the percentage by which all may be wrong at once; and the table of both.
+//! Tests: tomex_tests_surveys.
 #![tactic(auto)]
 
 mod counts;
@@ -19,7 +20,7 @@ pub use laws::{
     prices_may_move_by_shares, stated_prices_are_within, stays_exactly_within,
 };
 pub use percents::percent;
-pub use price::{GREATEST_PRICE, Price, same_option};
+pub use price::{GREATEST_PRICE, Price};
 pub use priced_row::{PricedRow, rows_with};
 pub use prices_error::PricesError;
 pub use study_prices::{prices, relevant_prices};

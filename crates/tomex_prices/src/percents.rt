@@ -3,13 +3,12 @@
 ghost use Rattle.std.specs.Prelude.{◌≡◌, ◌<◌, ◌≤◌, length};
 ghost use Rattle.tomex_prices.specs.Percent.{difference, percent_for, percent_of};
 ghost use Rattle.tomex_prices.specs.Prices.{prices_of};
-ghost use Rattle.tomex_row_runs.specs.StudyFront.{all_rows};
 
 use crate::price::Price;
 use std::alloc::Allocator;
 use tomex_config::{Config, Prices};
 use tomex_pareto::FrontRow;
-use tomex_study::Study;
+use tomex_study::Surveyed;
 
 /// The cost of the parts that two configurations don't have in common, at these prices.
 #[tactic(auto, unfolding(crate::specs::Percent::difference))]
@@ -27,21 +26,21 @@ fn difference(prices: &Prices, all: &[Price], a: &Config, b: &Config) -> u128
 /// The percentage by which the prices may be wrong if there is only one rival. `all` are the
 /// study's prices.
 fn percent_for<A: Allocator>(
-    study: &Study<A>,
+    surveyed: &Surveyed<'_, A>,
     all: &[Price],
     row: FrontRow,
     rival: FrontRow,
 ) -> u128
-    requires all { all.now ≡ prices_of study.now }
-    requires row { row.row < length study.now.rows }
-    requires rival { rival.row < length study.now.rows }
-    ensures { result ≡ percent_for study.now row rival }
+    requires all { all.now ≡ prices_of surveyed.now }
+    requires row { row.row < length surveyed.now.rows }
+    requires rival { rival.row < length surveyed.now.rows }
+    ensures { result ≡ percent_for surveyed.now row rival }
 {
     if rival.cycles > row.cycles {
         return 100;
     }
-    let (own, other) = (&study.rows()[row.row], &study.rows()[rival.row]);
-    let apart = difference(&study.prices(), all, own, other);
+    let (own, other) = (surveyed.config(row.row), surveyed.config(rival.row));
+    let apart = difference(&surveyed.study().prices(), all, own, other);
     if apart == 0 {
         return 100;
     }
@@ -54,24 +53,17 @@ fn percent_for<A: Allocator>(
 /// its own direction, such that a row of its front stays on the front: 0 to 99, or 100 if it stays
 /// at any prices. A price of 0 stays 0.
 ///
-/// `all` are the study's prices, `rows` all its rows.
+/// `all` are the study's prices.
 #[tactic(auto, unfolding(crate::specs::Percent::percent_of))]
-pub fn percent<A: Allocator>(
-    study: &Study<A>,
-    all: &[Price],
-    rows: &[FrontRow],
-    row: FrontRow,
-) -> u64
-    requires all { all.now ≡ prices_of study.now }
-    requires rows { rows.now ≡ all_rows study.now }
-    requires row { row.row < length study.now.rows }
-    ensures percent { result ≡ percent_of study.now row }
+pub fn percent<A: Allocator>(surveyed: &Surveyed<'_, A>, all: &[Price], row: FrontRow) -> u64
+    requires all { all.now ≡ prices_of surveyed.now }
+    requires row { row.row < length surveyed.now.rows }
+    ensures percent { result ≡ percent_of surveyed.now row }
     ensures range { result ≤ 100 }
 {
-    study.keeps_limits();
     let mut least = 100;
-    for rival in rows {
-        least = least.min(percent_for(study, all, row, *rival));
+    for rival in surveyed.rows() {
+        least = least.min(percent_for(surveyed, all, row, *rival));
     }
     least as u64
 }

@@ -1,10 +1,10 @@
 //! A price of a study.
 
 ghost use Rattle.std.specs.Prelude.{◌≡◌, ◌≤◌, ◌<◌, ◌^◌, Some};
-ghost use Rattle.tomex_prices.specs.Price.{name_of_price, payments, same_option, amount};
+ghost use Rattle.tomex_prices.specs.Price.{name_of_price, payments, amount};
 
 use std::fmt;
-use tomex_config::{Config, Prices, UnitOption};
+use tomex_config::{Config, Prices, UnitOption, same_option};
 use tomex_rvdec::{PoolId, UnitId};
 
 /// The greatest price that a study may state.
@@ -18,13 +18,6 @@ pub enum Price {
     Choice(UnitId, UnitOption),
     Bus,
     Width,
-}
-
-/// True if two options are the same.
-pub fn same_option(a: UnitOption, b: UnitOption) -> bool
-    ensures { result ≡ same_option a b }
-{
-    a.units == b.units && a.latency == b.latency && a.price == b.price
 }
 
 impl Price {

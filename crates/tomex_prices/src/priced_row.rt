@@ -4,13 +4,11 @@ ghost use Rattle.std.specs.Prelude.{◌≡◌, All, IfOk};
 ghost use Rattle.tomex_prices.specs.Interval.{IsSmall};
 ghost use Rattle.tomex_prices.specs.Repriced.{with_price_apart};
 ghost use Rattle.tomex_prices.specs.Studies.{rows_with};
-ghost use Rattle.tomex_row_runs.specs.StudyFront.{all_rows};
 
 use crate::price::Price;
 use std::alloc::{AllocError, Allocator};
 use tomex_config::{Config, Prices, cost};
-use tomex_pareto::FrontRow;
-use tomex_study::Study;
+use tomex_study::Surveyed;
 
 /// A row, with its cost except for one price.
 #[derive(Clone, Copy, Debug, PartialEq, Eq)]
@@ -47,22 +45,21 @@ pub(crate) fn with_price_apart(
     }
 }
 
-/// All rows of a study with a price apart. `rows` are all rows of the study.
+/// All rows of a study with a price apart.
 pub fn rows_with<A: Allocator, B: Allocator>(
     alloc: B,
-    study: &Study<A>,
-    rows: &[FrontRow],
+    surveyed: &Surveyed<'_, A>,
     price: Price,
 ) -> Result<Vec<PricedRow, B>, AllocError>
-    requires { rows.now ≡ all_rows study.now }
-    ensures rows { IfOk result (λ v. v.items ≡ rows_with study.now price) }
+    ensures rows { IfOk result (λ v. v.items ≡ rows_with surveyed.now price) }
     ensures small { IfOk result (λ v. All IsSmall v.items) }
 {
-    study.keeps_limits();
+    surveyed.keeps_limits();
+    let study = surveyed.study();
     let prices = study.prices();
-    let mut apart = Vec::with_capacity(alloc, rows.len())?;
+    let mut apart = Vec::with_capacity(alloc, study.rows().len())?;
     for (row, config) in study.rows().iter().enumerate() {
-        let cycles = rows[row].cycles;
+        let cycles = surveyed.row(row).cycles;
         apart.push(with_price_apart(price, &prices, row, config, cycles))?;
     }
     Ok(apart)

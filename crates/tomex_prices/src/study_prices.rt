@@ -4,13 +4,14 @@ ghost use Rattle.std.specs.Prelude.{◌≡◌, ◌≤◌, ◌==◌, ◌++◌, le
 ghost use Rattle.std.specs.List.{filter, flat_map, list_any};
 ghost use Rattle.tomex_config.specs.Configuration.{option_of};
 ghost use Rattle.tomex_config.specs.Cost.{all_pools, all_units};
-ghost use Rattle.tomex_prices.specs.Price.{payments, same_option};
+ghost use Rattle.tomex_prices.specs.Price.{payments};
+ghost use Rattle.tomex_config.specs.Configuration.{same_option};
 ghost use Rattle.tomex_prices.specs.Prices.{choices_of, is_relevant, prices_of, relevant_prices_of};
 ghost use Rattle.tomex_prices.specs.declared.price.Price.TheVariants.{Station};
 
-use crate::price::{Price, same_option};
+use crate::price::Price;
 use std::alloc::{AllocError, Allocator};
-use tomex_config::{Config, UnitOption};
+use tomex_config::{Config, UnitOption, same_option};
 use tomex_rvdec::{PoolId, UnitId};
 use tomex_study::Study;
 

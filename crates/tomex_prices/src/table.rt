@@ -1,12 +1,11 @@
 //! The table of a study's prices.
 
 ghost use Rattle.std.specs.Prelude.{◌≡◌, ◌↔◌, ◌*◌, ◌++◌, true, length, map, nat_lt, IfOk, IsErrOf, OnOk, string_bytes};
-ghost use Rattle.tomex_row_runs.specs.StudyFront.{front_of_study};
+ghost use Rattle.tomex_study.specs.StudyFront.{front_of_study};
 ghost use Rattle.tomex_prices.specs.Percent.{percent_text};
 ghost use Rattle.tomex_prices.specs.Prices.{prices_of, relevant_prices_of};
 ghost use Rattle.tomex_prices.specs.PricesTable.{columns_of, heading_column, is_too_large, name_of_heading, now_under};
 ghost use Rattle.tomex_prices.specs.PricesTable.{number_under, percent_column, price_column, prices_table_of};
-ghost use Rattle.tomex_row_runs.specs.StudyFront.{all_rows};
 
 use crate::counts::count_relevant;
 use crate::intervals::interval_of;
@@ -17,7 +16,7 @@ use crate::prices_error::PricesError;
 use crate::study_prices::{prices, relevant_prices};
 use std::alloc::{AllocError, Allocator, Global};
 use tomex_pareto::FrontRow;
-use tomex_study::Study;
+use tomex_study::Surveyed;
 use tomex_tables::{Column, table_of};
 
 /// The most intervals of one table.
@@ -92,20 +91,16 @@ fn percent_text(heap: Global, percent: u64) -> Result<String, AllocError>
 #[tactic(auto, unfolding(crate::specs::PricesTable::percent_column))]
 fn percent_column<A: Allocator>(
     heap: Global,
-    study: &Study<A>,
-    rows: &[FrontRow],
-    front: &[FrontRow],
+    surveyed: &Surveyed<'_, A>,
 ) -> Result<Column, AllocError>
-    requires rows { rows.now ≡ all_rows study.now }
-    requires front { front.now ≡ front_of_study study.now }
-    ensures { IfOk result (λ c. c ≡ percent_column study.now front.now) }
+    ensures { IfOk result (λ c. c ≡ percent_column surveyed.now (front_of_study surveyed.now)) }
 {
-    study.keeps_limits();
-    let all = prices(heap, study)?;
+    surveyed.keeps_limits();
+    let all = prices(heap, surveyed.study())?;
     let mut column = Column::new(heap, format!(in heap; "all")?);
     column.push(format!(in heap; "-")?)?;
-    for row in front {
-        let percent = percent(study, all.as_slice(), rows, *row);
+    for row in surveyed.front() {
+        let percent = percent(surveyed, all.as_slice(), *row);
         column.push(percent_text(heap, percent)?)?;
     }
     Ok(column)
@@ -114,20 +109,17 @@ fn percent_column<A: Allocator>(
 #[tactic(auto, unfolding(crate::specs::PricesTable::price_column))]
 fn price_column<A: Allocator>(
     heap: Global,
-    study: &Study<A>,
-    rows: &[FrontRow],
-    front: &[FrontRow],
+    surveyed: &Surveyed<'_, A>,
     price: Price,
 ) -> Result<Column, AllocError>
-    requires rows { rows.now ≡ all_rows study.now }
-    requires front { front.now ≡ front_of_study study.now }
-    ensures { IfOk result (λ c. c ≡ price_column study.now front.now price) }
+    ensures { IfOk result (λ c. c ≡ price_column surveyed.now (front_of_study surveyed.now) price) }
 {
-    let apart = rows_with(heap, study, rows, price)?;
+    let study = surveyed.study();
+    let apart = rows_with(heap, surveyed, price)?;
     let stated = price.amount(&study.prices());
     let mut column = Column::new(heap, format!(in heap; "{price}")?);
     column.push(format!(in heap; "{stated}")?)?;
-    for row in front {
+    for row in surveyed.front() {
         let range = interval_of(study, price, apart.as_slice(), *row);
         column.push(format!(in heap; "{range}")?)?;
     }
@@ -138,18 +130,14 @@ fn price_column<A: Allocator>(
 fn push_prices<A: Allocator>(
     columns: &mut Vec<Column>,
     heap: Global,
-    study: &Study<A>,
-    rows: &[FrontRow],
-    front: &[FrontRow],
+    surveyed: &Surveyed<'_, A>,
     relevant: &[Price],
 ) -> Result<(), AllocError>
-    requires rows { rows.now ≡ all_rows study.now }
-    requires front { front.now ≡ front_of_study study.now }
     ensures { OnOk result (columns.new.items
-        ≡ columns.old.items ++ map (price_column study.now front.now) relevant.now) }
+        ≡ columns.old.items ++ map (price_column surveyed.now (front_of_study surveyed.now)) relevant.now) }
 {
     for price in relevant {
-        columns.push(price_column(heap, study, rows, front, *price)?)?;
+        columns.push(price_column(heap, surveyed, *price)?)?;
     }
     Ok(())
 }
@@ -157,30 +145,25 @@ fn push_prices<A: Allocator>(
 fn push_columns<A: Allocator>(
     columns: &mut Vec<Column>,
     heap: Global,
-    study: &Study<A>,
-    rows: &[FrontRow],
-    front: &[FrontRow],
+    surveyed: &Surveyed<'_, A>,
 ) -> Result<(), AllocError>
-    requires rows { rows.now ≡ all_rows study.now }
-    requires front { front.now ≡ front_of_study study.now }
     ensures { OnOk result (columns.new.items
-        ≡ columns.old.items ++ columns_of study.now front.now) }
+        ≡ columns.old.items ++ columns_of surveyed.now (front_of_study surveyed.now)) }
 {
-    columns.push(heading_column(heap, front, Heading::Row)?)?;
-    columns.push(heading_column(heap, front, Heading::Cost)?)?;
-    columns.push(heading_column(heap, front, Heading::Cycles)?)?;
-    columns.push(percent_column(heap, study, rows, front)?)?;
-    let relevant = relevant_prices(heap, study)?;
-    push_prices(columns, heap, study, rows, front, relevant.as_slice())
+    columns.push(heading_column(heap, surveyed.front(), Heading::Row)?)?;
+    columns.push(heading_column(heap, surveyed.front(), Heading::Cost)?)?;
+    columns.push(heading_column(heap, surveyed.front(), Heading::Cycles)?)?;
+    columns.push(percent_column(heap, surveyed)?)?;
+    let relevant = relevant_prices(heap, surveyed.study())?;
+    push_prices(columns, heap, surveyed, relevant.as_slice())
 }
 
 /// True if there are too many intervals for a table. Allocates nothing.
 #[tactic(auto, unfolding(crate::specs::PricesTable::is_too_large))]
-fn is_too_large<A: Allocator>(study: &Study<A>, front: &[FrontRow]) -> bool
-    requires { front.now ≡ front_of_study study.now }
-    ensures { result ≡ is_too_large study.now }
+fn is_too_large<A: Allocator>(surveyed: &Surveyed<'_, A>) -> bool
+    ensures { result ≡ is_too_large surveyed.now }
 {
-    let intervals = front.len() as u128 * count_relevant(study) as u128;
+    let intervals = surveyed.front().len() as u128 * count_relevant(surveyed.study()) as u128;
     intervals > u128::from(MOST_INTERVALS)
 }
 
@@ -189,24 +172,19 @@ fn is_too_large<A: Allocator>(study: &Study<A>, front: &[FrontRow]) -> bool
 /// be wrong at once, and, for each price that rows pay differently often, the values for which the
 /// row stays.
 ///
-/// `rows` are all rows of the study, `front` those of its front. Everything except the text is
-/// allocated in `heap`.
+/// Everything except the text is allocated in `heap`.
 pub fn prices_table<A: Allocator>(
     alloc: A,
     heap: Global,
-    study: &Study<A>,
-    rows: &[FrontRow],
-    front: &[FrontRow],
+    surveyed: &Surveyed<'_, A>,
 ) -> Result<Vec<u8, A>, PricesError>
-    requires rows { rows.now ≡ all_rows study.now }
-    requires front { front.now ≡ front_of_study study.now }
-    ensures text { IfOk result (λ text. text.items ≡ prices_table_of study.now) }
-    ensures large { IsErrOf result PricesError.TooLarge ↔ (is_too_large study.now ≡ true) }
+    ensures text { IfOk result (λ text. text.items ≡ prices_table_of surveyed.now) }
+    ensures large { IsErrOf result PricesError.TooLarge ↔ (is_too_large surveyed.now ≡ true) }
 {
-    if is_too_large(study, front) {
+    if is_too_large(surveyed) {
         return Err(PricesError::TooLarge);
     }
     let mut columns = Vec::new(heap);
-    push_columns(&mut columns, heap, study, rows, front)?;
-    Ok(table_of(alloc, front.len() + 1, columns.as_slice())?)
+    push_columns(&mut columns, heap, surveyed)?;
+    Ok(table_of(alloc, surveyed.front().len() + 1, columns.as_slice())?)
 }

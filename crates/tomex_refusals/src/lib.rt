@@ -1,4 +1,5 @@
 //! The program's refusals: what each means, the usual causes, and what to do.
+//! Tests: tomex_tests_refusals.
 #![tactic(auto)]
 
 mod commands;

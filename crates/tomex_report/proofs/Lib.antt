@@ -1,3 +1,4 @@
 pub mod Oks
 pub mod Cycles
+pub mod Machines
 mod Surveyed

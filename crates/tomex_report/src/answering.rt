@@ -1,7 +1,7 @@
 //! From the bytes of a study to its report.
 
 ghost use Rattle.std.specs.Prelude.{◌≡◌, ◌≢◌, ◌≤◌, map, IfOk, IfErr};
-ghost use Rattle.tomex_row_runs.specs.StudyFront.{front_of_study};
+ghost use Rattle.tomex_study.specs.StudyFront.{front_of_study};
 ghost use Rattle.tomex_sweep.specs.declared.outcome.SweepError.TheVariants.{Memory, Worker};
 ghost use Rattle.tomex_report.specs.declared.answer_error.AnswerError.TheVariants.{Sweep};
 ghost use Rattle.tomex_report.specs.Answer.{IsAnswer, IsAnswerRefusal, IsOfSweep, IsAnswerIn, view_text};

@@ -2,7 +2,7 @@
 
 ghost use Rattle.std.specs.Prelude.{◌≡◌, ◌++◌, IfOk, OnOk};
 ghost use Rattle.std.specs.List.{AllZip, flat_map};
-ghost use Rattle.tomex_row_runs.specs.StudyFront.{front_of_study};
+ghost use Rattle.tomex_study.specs.StudyFront.{front_of_study};
 ghost use Rattle.tomex_csv_text.specs.Csv.{IsReady, text_written};
 ghost use Rattle.tomex_texts.specs.Ends.{IsProgramEnd};
 ghost use Rattle.tomex_texts.specs.RowEnds.{AreEndsOf};

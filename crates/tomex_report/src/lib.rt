@@ -1,6 +1,7 @@
 //! The input and the output of an exploration: studies, which are read from a document and its programs' files, the
 //! front report of a study and other views of its front, the times report of a program on one row, and the text of a
 //! machine's tables.
+//! Tests: tomex_tests_reports, tomex_tests_memory.
 #![tactic(auto)]
 
 mod answer_error;
@@ -8,6 +9,7 @@ mod answering;
 mod crew;
 mod front_text;
 mod front_view;
+mod program_ends;
 mod replaying;
 mod study;
 mod survey_error;

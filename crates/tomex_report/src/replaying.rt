@@ -4,12 +4,13 @@ ghost use Rattle.std.specs.Prelude.{◌≡◌, ◌<◌, length, All, IfOk};
 ghost use Rattle.std.specs.List.{AllZip};
 ghost use Rattle.tomex_texts.specs.RowEnds.{AreEndsOf};
 
+use crate::program_ends::each_end;
 use rayon::prelude::*;
 use std::alloc::{AllocError, Allocator};
 use std::thread::Threads;
 use tomex_study::Study;
 use tomex_sweep::FrontRow;
-use tomex_texts::{RowEnds, each_end};
+use tomex_texts::RowEnds;
 
 /// The ends of the programs on one row, which is run again.
 fn ends_of<A: Allocator + Clone>(

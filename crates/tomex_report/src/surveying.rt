@@ -3,8 +3,6 @@
 ghost use Rattle.std.specs.Prelude.{◌≡◌, ◌≤◌, false, map, IfErr, IfOk};
 ghost use Rattle.tomex_report.specs.Surveyed.{IsSurveyRefusal, IsSurveyed, IsTextOf, IsWithoutText};
 ghost use Rattle.tomex_report.specs.Surveyed.{lacks_row};
-ghost use Rattle.tomex_row_runs.specs.StudyFront.{all_rows, front_of_study};
-ghost use Rattle.tomex_survey.specs.Totals.{totals_of};
 
 use crate::crew::Crew;
 use crate::study::study_in;
@@ -15,9 +13,8 @@ use tomex_front_views::rows_picture;
 use tomex_page::study_page;
 use tomex_prices::prices_table;
 use tomex_rows::rows_report;
-use tomex_study::Study;
-use tomex_survey::{Survey, survey};
-use tomex_sweep::Gate;
+use tomex_study::{Gate, Study, Surveyed};
+use tomex_survey::survey;
 use tomex_worth::worth_table;
 
 /// A view of all rows of a study.
@@ -35,28 +32,23 @@ pub enum SurveyView<'a> {
     Page(&'a str),
 }
 
-/// The text of a survey.
+/// A view of a study.
 fn text_of<A: Allocator + Clone>(
     alloc: A,
     heap: Global,
-    study: &Study<A>,
-    survey: &Survey<A>,
+    surveyed: &Surveyed<'_, A>,
     view: SurveyView<'_>,
 ) -> Result<Vec<u8, A>, SurveyError>
-    requires totals { survey.now.totals ≡ totals_of study.now }
-    requires rows { survey.now.rows ≡ all_rows study.now }
-    requires front { survey.now.front ≡ front_of_study study.now }
-    requires row { lacks_row view study.now ≡ false }
-    ensures text { IfOk result (λ text. IsTextOf view.entry study.now text.items) }
-    ensures refused { IfErr result (IsWithoutText view.entry study.now) }
+    requires { lacks_row view surveyed.now ≡ false }
+    ensures text { IfOk result (λ text. IsTextOf view.entry surveyed.now text.items) }
+    ensures refused { IfErr result (IsWithoutText view.entry surveyed.now) }
 {
-    let (rows, front) = (survey.rows(), survey.front());
     match view {
-        SurveyView::Rows => Ok(rows_report(alloc, heap, study, survey)?),
-        SurveyView::Picture => Ok(rows_picture(alloc, heap, study, rows, front)?),
-        SurveyView::Worth(row) => Ok(worth_table(alloc, heap, study, survey, row)?),
-        SurveyView::Prices => Ok(prices_table(alloc, heap, study, rows, front)?),
-        SurveyView::Page(name) => Ok(study_page(alloc, heap, name, study, survey)?),
+        SurveyView::Rows => Ok(rows_report(alloc, heap, surveyed)?),
+        SurveyView::Picture => Ok(rows_picture(alloc, heap, surveyed)?),
+        SurveyView::Worth(row) => Ok(worth_table(alloc, heap, surveyed, row)?),
+        SurveyView::Prices => Ok(prices_table(alloc, heap, surveyed)?),
+        SurveyView::Page(name) => Ok(study_page(alloc, heap, name, surveyed)?),
     }
 }
 
@@ -94,6 +86,6 @@ pub fn answer_survey<R: Threads + Sync, A: Allocator + Clone + Send + Sync + Dro
     if lacks_row(&study, view) {
         return Err(SurveyError::NoSuchRow);
     }
-    let survey = survey(rt, alloc.clone()?, &study, crew.workers, crew.gate)?;
-    text_of(alloc, heap, &study, &survey, view)
+    let surveyed = survey(rt, alloc.clone()?, &study, crew.workers, crew.gate)?;
+    text_of(alloc, heap, &surveyed, view)
 }

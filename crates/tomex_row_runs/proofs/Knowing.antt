@@ -16,7 +16,7 @@ use Rattle.tomex_timing.specs.Search.{times_in, total_of}
 use Rattle.tomex_plateaus.specs.Kept.{Kept, HasLearnt}
 use Rattle.tomex_plateaus.specs.Plateaus.{total_known}
 use Rattle.tomex_timing.specs.Run.{total}
-use Rattle.tomex_row_runs.specs.Cycles.{totals_on}
+use Rattle.tomex_study.specs.Cycles.{totals_on}
 use Rattle.tomex_row_runs.specs.Knowledge.{AreLearnt, AreTotals, IsKnowledge, IsLearnt, IsLearntAt, IsTotalAt}
 use Rattle.tomex_row_runs.specs.Knowledge.{KnowledgeOf, OnlyAt, known_totals_on, nothing_known}
 use Rattle.tomex_study.specs.Program.{Workload, IsProgram}

@@ -7,7 +7,8 @@ use Rattle.std.proofs.lemmas.Bool.{le-ltb, lt-ltb}
 use Rattle.tomex_config.specs.Configuration.{Configuration, IsWithinLimits}
 use Rattle.tomex_timing.specs.Run.{total}
 use Rattle.tomex_study.specs.Program.{Workload, IsProgram}
-use Rattle.tomex_row_runs.specs.Cycles.{cycles_on, plain_on, totals_on, weighted_cycles}
+use Rattle.tomex_study.specs.Cycles.{cycles_on, totals_on}
+use Rattle.tomex_row_runs.specs.Looks.{plain_on, weighted_cycles}
 use Rattle.tomex_row_runs.specs.Looks.{last_look, made_at_last_look}
 use Rattle.tomex_row_runs.proofs.Totals.{cycles_bound, plain_bound, plain_sum, total_at, total_bound, weighed_all}
 use Rattle.tomex_row_runs.proofs.Totals.{weighed_past}

@@ -19,7 +19,8 @@ use Rattle.tomex_timing.specs.Search.{history, times_in, total_of}
 use Rattle.tomex_timing.proofs.Histories.{history_bound, total_of-history}
 use Rattle.tomex_timing.specs.Run.{run_of, total}
 use Rattle.tomex_study.specs.Program.{Workload, IsProgram}
-use Rattle.tomex_row_runs.specs.Cycles.{cycles_on, plain_on, totals_on, weighted_cycles}
+use Rattle.tomex_study.specs.Cycles.{cycles_on, totals_on}
+use Rattle.tomex_row_runs.specs.Looks.{plain_on, weighted_cycles}
 use Rattle.tomex_row_runs.specs.Looks.{LastLookSeesMost, last_look}
 use Rattle.std.specs.Prelude.{Option, None}
 

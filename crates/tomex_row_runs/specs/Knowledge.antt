@@ -9,7 +9,7 @@ use Rattle.tomex_plateaus.specs.Kept.{Kept, HasLearnt}
 use Rattle.tomex_plateaus.specs.Plateaus.{total_known}
 use Rattle.tomex_study.specs.Program.{Workload, IsProgram}
 use Rattle.tomex_study.specs.Study.{DesignSpace}
-use Rattle.tomex_row_runs.specs.Cycles.{totals_on}
+use Rattle.tomex_study.specs.Cycles.{totals_on}
 
 -- if a total is known at a program's place, it is the program's on the configuration
 pub record AreTotals (programs : List Workload) (config : Configuration) (totals : List (Option ℕ)) : Type 0 where

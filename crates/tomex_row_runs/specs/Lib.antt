@@ -1,6 +1,3 @@
--- Definitions that contracts cite: the cycles that configurations take, looks at them, and what a worker knows about
--- programs.
-pub mod Cycles
-pub mod StudyFront
+-- Definitions that contracts cite: looks at running configurations, and what a worker knows about programs.
 pub mod Looks
 pub mod Knowledge

@@ -1,11 +1,23 @@
 -- Looks at a running configuration. After each 1,024 cycles, while the run isn't over, a worker tests if the
 -- configuration can still be on the front: it can't if a finished one that costs no more took fewer weighted cycles
 -- than this one has made.
-use Rattle.std.specs.Prelude.{◌≡◌, ℕ, ◌-◌, ◌*◌, ◌/◌, ◌<◌, ◌≤◌, nat_lt, if◌then◌else◌, List, Option, Some, None}
+use Rattle.std.specs.Prelude.{◌≡◌, ℕ, ◌+◌, ◌-◌, ◌*◌, ◌/◌, ◌<◌, ◌≤◌, min, nat_lt, if◌then◌else◌, sum_by}
+use Rattle.std.specs.Prelude.{List, [], ◌∷◌, Option, Some, None}
 use Rattle.tomex_config.specs.Configuration.{Configuration}
+use Rattle.tomex_timing.specs.Run.{total}
 use Rattle.tomex_study.specs.Program.{Workload}
-use Rattle.tomex_row_runs.specs.Cycles.{cycles_on, plain_on, weighted_cycles}
+use Rattle.tomex_study.specs.Cycles.{cycles_on}
 use Rattle.tomex_row_runs.specs.declared.known_row.KnownRow.{KnownRow}
+
+-- the cycles that the programs' runs on a configuration make, one after another
+unfoldable pub plain_on : List Workload → Configuration → ℕ
+plain_on programs config = sum_by (λ p. total config p.image) programs
+
+-- the first n cycles that these runs make, each times its program's weight
+unfoldable pub weighted_cycles : List Workload → Configuration → ℕ → ℕ
+weighted_cycles [] config n = 0
+weighted_cycles (p ∷ ps) config n =
+    p.weight * min n (total config p.image) + weighted_cycles ps config (n - total config p.image)
 
 -- the last look at a run of n cycles: the greatest multiple of 1,024 before its end
 abbrev pub last_look : ℕ → ℕ

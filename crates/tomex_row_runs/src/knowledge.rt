@@ -2,7 +2,7 @@
 
 ghost use Rattle.std.specs.Prelude.{◌≡◌, ◌<◌, ◌≤◌, ℕ, length, take, slice_get, IfOk, OnOk, OnErr, All, Some, None};
 ghost use Rattle.tomex_timing.specs.Run.{total};
-ghost use Rattle.tomex_row_runs.specs.Cycles.{totals_on};
+ghost use Rattle.tomex_study.specs.Cycles.{totals_on};
 ghost use Rattle.tomex_row_runs.specs.Knowledge.{AreLearnt, AreTotals, IsLearntAt, IsTotalAt, OnlyAt, known_totals_on};
 ghost use Rattle.tomex_row_runs.specs.Knowledge.{nothing_known};
 ghost use Rattle.tomex_study.specs.Program.{IsProgram, Workload};

@@ -2,7 +2,8 @@
 
 ghost use Rattle.std.specs.Prelude.{◌≡◌, ◌<◌, ◌≤◌, ◌^◌, length, sum, All};
 ghost use Rattle.tomex_config.specs.Configuration.{Configuration, IsWithinLimits};
-ghost use Rattle.tomex_row_runs.specs.Cycles.{totals_on, weighted_cycles};
+ghost use Rattle.tomex_study.specs.Cycles.{totals_on};
+ghost use Rattle.tomex_row_runs.specs.Looks.{weighted_cycles};
 ghost use Rattle.tomex_row_runs.specs.Looks.{IsKnownRow};
 ghost use Rattle.tomex_study.specs.Program.{IsProgram};
 

@@ -1,5 +1,6 @@
 //! The cycles of configurations: by the cycle machine, or from evaluations of a study's programs on
 //! this and on other configurations.
+//! Tests: tomex_tests_sweeps, tomex_tests_reuse.
 #![tactic(auto)]
 
 mod knowledge;

@@ -4,7 +4,7 @@ ghost use Rattle.std.specs.Prelude.{◌≡◌, ◌≤◌, length, IfOk, All, Non
 ghost use Rattle.tomex_timing.specs.Run.{total};
 ghost use Rattle.tomex_cycle.specs.Seen.{before_first_cycle, seen};
 ghost use Rattle.tomex_study.specs.Program.{IsProgram};
-ghost use Rattle.tomex_row_runs.specs.Cycles.{cycles_on};
+ghost use Rattle.tomex_study.specs.Cycles.{cycles_on};
 
 use std::alloc::{AllocError, Allocator};
 use tomex_config::Config;

@@ -5,11 +5,11 @@ use Rattle.std.specs.Fmt.{decimal}
 use Rattle.tomex_config.specs.Configuration.{Configuration, plain}
 use Rattle.tomex_pareto.specs.declared.front_row.FrontRow.{FrontRow}
 use Rattle.tomex_csv_text.specs.Csv.{record_text}
-use Rattle.tomex_row_runs.specs.Cycles.{totals_on}
-use Rattle.tomex_row_runs.specs.StudyFront.{front_of_study}
+use Rattle.tomex_study.specs.Cycles.{totals_on}
+use Rattle.tomex_study.specs.StudyFront.{front_of_study}
 use Rattle.tomex_study.specs.Program.{Workload}
 use Rattle.tomex_study.specs.Study.{DesignSpace}
-use Rattle.tomex_row_runs.specs.StudyFront.{all_rows}
+use Rattle.tomex_study.specs.StudyFront.{all_rows}
 use Rattle.tomex_texts.specs.FrontReport.{row_columns, row_fields}
 
 -- the column of a program's own cycles, without its weight

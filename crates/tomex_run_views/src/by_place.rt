@@ -30,7 +30,7 @@ fn fill_place(
     ensures { OnOk result (fields_of fields.new ≡ place_fields place.now) }
 {
     fields.clear();
-    push_instruction(fields, scratch, &place.first)?;
+    push_instruction(fields, scratch, place.first.pc, place.first.instr)?;
     push_sum(fields, scratch, &place.sum)
 }
 
@@ -121,7 +121,7 @@ pub fn addresses_of<A: Allocator>(alloc: A, steps: &[Step]) -> Result<Vec<u64, A
 /// address at which the run has a step, rising, with how many steps it has there, how many cycles they take, and for
 /// how many cycles they wait for what; then the cycles after the last issue, and last the same of all steps.
 ///
-/// What `csv` needs for its records it takes of `heap`.
+/// `csv` allocates its records in `heap`.
 pub fn stalls_by_pc<A: Allocator + Clone>(
     alloc: A,
     heap: Global,

@@ -237,7 +237,7 @@ fn text_of_needs<A: Allocator>(
 /// then the cycles that they wait for what is no part, the drain, which is the cycles after the last issue, and the
 /// total; last the floors for the issue widths from 1 to 4.
 ///
-/// What `csv` needs for its records it takes of `heap`.
+/// `csv` allocates its records in `heap`.
 pub fn stalls_report<A: Allocator + Clone>(
     alloc: A,
     heap: Global,

@@ -3,6 +3,7 @@
 //!
 //! Source: The RISC-V Instruction Set Manual, Volume I: Unprivileged ISA, version 20191213,
 //! chapters "RV32I Base Integer Instruction Set" 2.1 and "M Standard Extension" 2.0.
+//! Tests: tomex_tests_in_order.
 #![tactic(auto)]
 
 mod decoding;

@@ -6,6 +6,7 @@
 //! The environment is this project's own: memory is one window, fetches read the image as it
 //! was loaded, a misaligned access is done whole, FENCE does nothing, and ECALL and EBREAK
 //! end the program.
+//! Tests: tomex_tests_in_order.
 #![tactic(auto)]
 
 mod cpu;

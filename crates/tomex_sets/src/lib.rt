@@ -3,6 +3,7 @@
 //! not with the number of stations.
 //!
 //! Here are sets of numbers below 128; sets of numbers below 64 are in `small`.
+//! Tests: tomex_tests_cycles.
 #![tactic(auto)]
 
 mod alone;

@@ -1,2 +1,4 @@
 -- Lemmas of this crate.
 pub mod Each
+pub mod Rows
+pub mod StudyFronts

@@ -1,8 +1,8 @@
 -- A study: its programs, its configurations, and the cost of each configuration.
-use Rattle.std.specs.Prelude.{◌≡◌, ℕ, ◌≤◌, Bool, List, length, map, Option, All}
+use Rattle.std.specs.Prelude.{◌≡◌, ℕ, ◌≤◌, Bool, List, length, map, slice_index_or, Option, All}
 use Rattle.std.specs.List.{find}
 use Rattle.std.specs.Str.{bytes_eq}
-use Rattle.tomex_config.specs.Configuration.{Configuration, IsWithinLimits}
+use Rattle.tomex_config.specs.Configuration.{Configuration, IsWithinLimits, plain}
 use Rattle.tomex_config.specs.Cost.{IsPriceList, PriceList, cost_of}
 use Rattle.tomex_config.specs.Grid.{most_rows}
 use Rattle.tomex_study.specs.Program.{Workload, IsProgram}
@@ -35,6 +35,10 @@ pub record IsStudy (s : DesignSpace) : Type 0 where
   pub limits : All IsWithinLimits s.rows
   pub prices : IsPriceList s.prices
   pub costs : s.costs ≡ costs_of s.prices s.rows
+
+-- the configuration of a row
+abbrev pub config_at : DesignSpace → ℕ → Configuration
+config_at s row = slice_index_or s.rows row plain
 
 -- the first program of that name
 abbrev pub program_named : List ℕ → List Workload → Option Workload

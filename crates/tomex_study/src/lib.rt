@@ -1,13 +1,18 @@
 //! Studies: programs that are known to end, the configurations on which they run, the cost of each,
-//! and the ranges of memory that a report shows.
+//! and the ranges of memory that a report shows; and studies with each program's cycles on each row.
 //!
 //! Nothing here reads a file or runs a machine: callers make a study of parts that they have.
+//! Tests: tomex_tests_studies.
 #![tactic(auto)]
 
+mod gate;
 mod program;
 mod study;
+mod surveyed;
 mod watch;
 
+pub use gate::{Gate, OpenGate};
 pub use program::{Program, ProgramError};
 pub use study::Study;
+pub use surveyed::Surveyed;
 pub use watch::{WatchRange, can_watch, watched_bytes};

@@ -1,5 +1,6 @@
 //! Reading a study: from its bytes and those of the files that it names, or the first test that
 //! they fail.
+//! Tests: tomex_tests_documents.
 #![tactic(auto)]
 
 mod error;

@@ -1,44 +1,36 @@
--- Rows with their costs and weighted cycles, and the front of finished rows.
+-- Rows with their costs and weighted cycles.
 use Rattle.std.proofs.Common.{◌≡◌, ℕ, zero, suc, ◌+◌, ◌*◌, ◌<◌, ◌≤◌, arith}
 use Rattle.std.proofs.Common.{ap, sym, refl, ◌∙◌, subst, List, [], ◌∷◌, ◌++◌}
 use Rattle.std.proofs.Common.{All, append_assoc, drop, get_or, length, map, take}
 use Rattle.std.proofs.lemmas.List.{append-nil, length-map}
 use Rattle.std.proofs.lemmas.Option.{slice_get-get_or, slice_get_read}
-use Rattle.tomex_board.specs.declared.mark.Mark.{Mark}
-use Rattle.tomex_board.specs.declared.mark.Mark.TheVariants.{Finished}
 use Rattle.tomex_config.specs.Configuration.{Configuration, IsWithinLimits, plain}
-use Rattle.tomex_pareto.specs.Finished.{finished_from}
-use Rattle.tomex_pareto.specs.Front.{front_of, rows_from}
+use Rattle.tomex_pareto.specs.Front.{rows_from}
 use Rattle.tomex_pareto.specs.declared.front_row.FrontRow.{FrontRow}
 use Rattle.tomex_timing.specs.Run.{total}
-use Rattle.tomex_row_runs.specs.Cycles.{cycles_of, cycles_on, totals_on}
-use Rattle.tomex_row_runs.specs.StudyFront.{front_of_study}
+use Rattle.tomex_study.specs.Cycles.{cycles_of, cycles_on, totals_on}
 use Rattle.tomex_row_runs.proofs.Totals.{all_cycles, cycles_more, next_cycles, total_at}
 use Rattle.tomex_study.specs.Program.{IsProgram, Workload}
 use Rattle.tomex_study.specs.Study.{DesignSpace, IsStudy}
-use Rattle.tomex_workers.proofs.Rows.{as_many_rows, cycles_at}
-use Rattle.tomex_survey.specs.Totals.{totals_of}
-use Rattle.tomex_row_runs.specs.StudyFront.{all_rows}
+use Rattle.tomex_study.proofs.Rows.{as_many_cycles, as_many_rows, cycles_at}
+use Rattle.tomex_study.specs.Cycles.{totals_of}
+use Rattle.tomex_study.specs.StudyFront.{all_rows}
+use Rattle.tomex_study.specs.Surveyed.{AreTotalsOf}
 use Rattle.std.specs.List.{AllZip, flat_map}
 use Rattle.std.specs.declared.vec.Vec.{Vec}
 use Rattle.tomex_survey.specs.Stretches.{AreTotalsIn, in_stretch, stretches_of}
 use Rattle.tomex_survey.specs.declared.stretches.Stretch.{Stretch}
 use Rattle.tomex_survey.proofs.Neighbours.{all_stretches, put_together, same_at}
 
--- a study's cycles are as many as its rows
-pub as_many_cycles : (s : DesignSpace) → length (cycles_of s) ≡ length s.rows
-unfolding cycles_of
-as_many_cycles s = length-map _ _
-
--- and so are totals
-pub as_many_totals : (s : DesignSpace) (totals : List (List ℕ)) → map (take (length s.programs)) totals ≡ totals_of s
+-- there are as many totals as rows
+pub as_many_totals : (s : DesignSpace) (totals : List (List ℕ)) → AreTotalsOf s totals
     → length totals ≡ length s.rows
 unfolding totals_of
 as_many_totals s totals are = sym (length-map _ _) ∙ (ap length are ∙ length-map _ _)
 
 -- the totals of a row are those on its configuration
 pub totals_at : (s : DesignSpace) (totals : List (List ℕ)) (row : ℕ)
-    → map (take (length s.programs)) totals ≡ totals_of s → row < length totals
+    → AreTotalsOf s totals → row < length totals
     → take (length s.programs) (get_or totals row []) ≡ totals_on s.programs (get_or s.rows row plain)
 unfolding totals_of
 totals_at s totals row are low =
@@ -102,48 +94,6 @@ last_row s k before is past so_far =
     sym (append-nil before)
     ∙ (ap (λ (rs : List FrontRow). before ++ rs) (sym (none_from k k s.costs (cycles_of s) (omega arith))) ∙ so_far)
 
--- finished rows
-
-abbrev finished : FrontRow → Mark
-finished r = Finished r.cycles
-
-finished_rows : (n : ℕ) (costs cycles : List ℕ) → length costs ≡ length cycles
-    → finished_from n costs (map finished (rows_from n costs cycles)) ≡ rows_from n costs cycles
-finished_rows n [] cycles same = refl
-finished_rows n (c ∷ cs) [] same = absurd (omega arith)
-finished_rows n (c ∷ cs) (y ∷ ys) same =
-    ap (λ (rs : List FrontRow). let r : FrontRow = record { row = n; cost = c; cycles = y } in r ∷ rs)
-    (finished_rows (suc n) cs ys (omega arith))
-
--- marks that are read back as they were made, for rows that are read back likewise
-pub same_marks : (slice marks : List Mark) (given rows : List FrontRow) → slice ≡ marks
-    → marks ≡ map (λ r. Finished r.cycles) given → given ≡ rows → slice ≡ map (λ r. Finished r.cycles) rows
-same_marks slice marks given rows same are is = same ∙ (are ∙ ap (map (λ (r : FrontRow). Finished r.cycles)) is)
-
--- the front of all rows, finished, is the study's
-pub finished_front : (s : DesignSpace) (marks : List Mark) (rows : List FrontRow) (costs : List ℕ)
-    (front : List FrontRow) → IsStudy s → rows ≡ all_rows s → marks ≡ map (λ r. Finished r.cycles) rows
-    → costs ≡ s.costs → front ≡ front_of (finished_from 0 costs marks) → front ≡ front_of_study s
-unfolding front_of_study
-finished_front s marks rows costs front is rows_are marks_are costs_are front_is =
-    let same : length s.costs ≡ length (cycles_of s) = as_many_rows s is ∙ sym (as_many_cycles s) in
-    front_is
-    ∙ rw (costs_are, marks_are, rows_are) (ap front_of (finished_rows 0 s.costs (cycles_of s) same))
-
--- and there are as many marks as costs
-pub long_rows : (n : ℕ) (costs cycles : List ℕ) → length costs ≡ length cycles
-    → length (rows_from n costs cycles) ≡ length costs
-long_rows n [] cycles same = refl
-long_rows n (c ∷ cs) [] same = absurd (omega arith)
-long_rows n (c ∷ cs) (y ∷ ys) same = ap suc (long_rows (suc n) cs ys (omega arith))
-
-pub as_many_marks : (s : DesignSpace) (marks : List Mark) (rows : List FrontRow) (costs : List ℕ) → IsStudy s
-    → rows ≡ all_rows s → marks ≡ map (λ r. Finished r.cycles) rows → costs ≡ s.costs → length marks ≡ length costs
-as_many_marks s marks rows costs is rows_are marks_are costs_are =
-    let same : length s.costs ≡ length (cycles_of s) = as_many_rows s is ∙ sym (as_many_cycles s) in
-    ap length marks_are
-    ∙ (length-map _ _ ∙ (ap length rows_are ∙ (long_rows 0 s.costs (cycles_of s) same ∙ ap length (sym costs_are))))
-
 -- weighted cycles, program by program
 
 pub one_weighed : (programs : List Workload) (totals : List ℕ) (i cycles t : ℕ) (p : Workload)
@@ -175,7 +125,7 @@ pub all_totals_are : {A : Type 0} (s : DesignSpace) (workers rows : ℕ) (stretc
     (parts : List (Vec (List ℕ) A)) (totals : List (List ℕ)) → 1 ≤ workers → rows ≡ length s.rows
     → stretches ≡ stretches_of rows workers → given ≡ stretches
     → AllZip (λ z t. AreTotalsIn s z t.items) given parts → totals ≡ flat_map (λ p. p.items) parts
-    → map (take (length s.programs)) totals ≡ totals_of s
+    → AreTotalsOf s totals
 unfolding totals_of
 all_totals_are s workers rows stretches given parts totals some many are same zipped is =
     let whole : flat_map (in_stretch s.rows) given ≡ s.rows =

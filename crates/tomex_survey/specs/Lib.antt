@@ -1,5 +1,2 @@
--- Definitions that contracts cite: each program's cycles on each row, all rows, and the stretches in which workers
--- handle them.
-pub mod Totals
+-- What contracts cite: the stretches of rows that workers handle.
 pub mod Stretches
-pub mod Survey

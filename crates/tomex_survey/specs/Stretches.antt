@@ -1,7 +1,7 @@
 -- The rows of a study, cut into as many stretches of neighbours as there are workers.
 use Rattle.std.specs.Prelude.{◌≡◌, ℕ, ◌+◌, ◌*◌, ◌/◌, ◌≤◌, List, length, map, take}
 use Rattle.std.specs.List.{range_with_len, slice_range}
-use Rattle.tomex_row_runs.specs.Cycles.{totals_on}
+use Rattle.tomex_study.specs.Cycles.{totals_on}
 use Rattle.tomex_study.specs.Study.{DesignSpace}
 use Rattle.tomex_survey.specs.declared.stretches.Stretch.{Stretch}
 

@@ -1,12 +1,11 @@
 //! A survey: each program's cycles on each row of a study. Most are known from other rows; the
 //! others are evaluated, by workers that each handle a stretch of neighbouring rows.
+//! Tests: tomex_tests_surveys.
 #![tactic(auto)]
 
 mod rows;
 mod stretches;
-mod surveyed;
 mod surveying;
 mod totals;
 
-pub use surveyed::Survey;
 pub use surveying::survey;

@@ -1,15 +1,13 @@
 //! All rows of a study, given the totals of its programs on each.
 
-ghost use Rattle.std.specs.Prelude.{◌≡◌, ◌≤◌, length, map, take, All, IfOk};
-ghost use Rattle.tomex_board.specs.declared.mark.Mark.TheVariants.{Finished};
+ghost use Rattle.std.specs.Prelude.{◌≡◌, ◌≤◌, length, All, IfOk};
 ghost use Rattle.tomex_config.specs.Configuration.{Configuration, IsWithinLimits};
-ghost use Rattle.tomex_row_runs.specs.Cycles.{cycles_on, totals_on};
+ghost use Rattle.tomex_study.specs.Cycles.{cycles_on, totals_on};
 ghost use Rattle.tomex_study.specs.Program.{IsProgram};
-ghost use Rattle.tomex_survey.specs.Totals.{totals_of};
-ghost use Rattle.tomex_row_runs.specs.StudyFront.{all_rows};
+ghost use Rattle.tomex_study.specs.Surveyed.{AreTotalsOf};
+ghost use Rattle.tomex_study.specs.StudyFront.{all_rows};
 
 use std::alloc::{AllocError, Allocator};
-use tomex_board::Mark;
 use tomex_pareto::FrontRow;
 use tomex_study::{Program, Study};
 
@@ -34,7 +32,7 @@ pub(crate) fn all_rows<A: Allocator>(
     study: &Study<A>,
     totals: &[[u64; 8]],
 ) -> Result<Vec<FrontRow, A>, AllocError>
-    requires { map (take (length study.now.programs)) totals.now ≡ totals_of study.now }
+    requires { AreTotalsOf study.now totals.now }
     ensures { IfOk result (λ v. v.items ≡ all_rows study.now) }
 {
     study.keeps_limits();
@@ -48,15 +46,4 @@ pub(crate) fn all_rows<A: Allocator>(
         })?;
     }
     Ok(rows)
-}
-
-/// The marks of rows that are finished.
-pub(crate) fn marks<A: Allocator>(alloc: A, rows: &[FrontRow]) -> Result<Vec<Mark, A>, AllocError>
-    ensures { IfOk result (λ v. v.items ≡ map (λ r. Finished r.cycles) rows.now) }
-{
-    let mut marks = Vec::with_capacity(alloc, rows.len())?;
-    for row in rows {
-        marks.push(Mark::Finished(row.cycles))?;
-    }
-    Ok(marks)
 }

@@ -1,18 +1,17 @@
 //! The totals of a study's programs on its rows.
 
-ghost use Rattle.std.specs.Prelude.{◌≡◌, ◌<◌, ◌≤◌, count_by, flat_map, is_some, length, map, not, take, All, IfOk};
+ghost use Rattle.std.specs.Prelude.{◌≡◌, ◌<◌, ◌≤◌, count_by, flat_map, is_some, length, not, take, All, IfOk};
 ghost use Rattle.std.specs.List.{AllZip};
 ghost use Rattle.tomex_row_runs.specs.Knowledge.{AreTotalsOn};
 ghost use Rattle.tomex_survey.specs.Stretches.{AreTotalsIn, IsWithin};
-ghost use Rattle.tomex_survey.specs.Totals.{totals_of};
+ghost use Rattle.tomex_study.specs.Surveyed.{AreTotalsOf};
 
 use crate::stretches::{Stretch, stretches};
 use rayon::prelude::*;
 use std::alloc::{AllocError, Allocator};
 use std::thread::Threads;
 use tomex_row_runs::Knowledge;
-use tomex_study::Study;
-use tomex_workers::Gate;
+use tomex_study::{Gate, Study};
 
 /// The number of programs whose total isn't known.
 fn count_unknown(programs: usize, totals: &[Option<u64>; 8]) -> usize
@@ -118,7 +117,7 @@ pub(crate) fn all_totals<
 ) -> Result<Vec<[u64; 8], A>, AllocError>
     requires some_workers { 1 ≤ workers }
     requires few_workers { workers ≤ 32 }
-    ensures { IfOk result (λ v. map (take (length study.now.programs)) v.items ≡ totals_of study.now) }
+    ensures { IfOk result (λ v. AreTotalsOf study.now v.items) }
 {
     study.keeps_limits();
     let stretches = stretches(alloc.clone()?, study.rows().len(), workers)?;

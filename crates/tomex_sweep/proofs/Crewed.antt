@@ -16,7 +16,7 @@ use Rattle.tomex_lanes.specs.Lanes.{Dealt, deal}
 use Rattle.tomex_lanes.specs.Parts.{Equipped, Returned, AreSeated, AreWhole}
 use Rattle.tomex_lanes.proofs.Dealing.{deal-counts, each_is_dealt}
 use Rattle.tomex_study.specs.Study.{DesignSpace, IsStudy}
-use Rattle.tomex_row_runs.specs.Cycles.{cycles_on, cycles_of}
+use Rattle.tomex_study.specs.Cycles.{cycles_on, cycles_of}
 use Rattle.tomex_workers.specs.Plans.{IsPlanOf}
 use Rattle.tomex_sweep.specs.Crews.{CanStart, CanRun, Owed, owed_by, given_by}
 use Rattle.tomex_row_runs.proofs.Totals.{cycles_bound}

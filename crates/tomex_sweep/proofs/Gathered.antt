@@ -16,8 +16,8 @@ use Rattle.tomex_lanes.specs.Parts.{is_closed}
 use Rattle.tomex_config.specs.Configuration.{Configuration}
 use Rattle.tomex_study.specs.Program.{Workload}
 use Rattle.tomex_study.specs.Study.{DesignSpace, IsStudy}
-use Rattle.tomex_row_runs.specs.Cycles.{cycles_of, cycles_on}
-use Rattle.tomex_workers.proofs.Rows.{as_many_rows, cycles_at}
+use Rattle.tomex_study.specs.Cycles.{cycles_of, cycles_on}
+use Rattle.tomex_study.proofs.Rows.{as_many_rows, cycles_at}
 use Rattle.tomex_sweep.specs.Marks.{AreJudged, StayClosed, left_of_mark, rows_left}
 
 get_set_same : (ms : List Mark) (i : ℕ) (x : Mark) → i < length ms → slice_get (set ms i x) i ≡ Some x

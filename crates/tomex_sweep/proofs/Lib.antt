@@ -1,4 +1,5 @@
 -- Lemmas of this crate.
+pub mod Finished
 pub mod Gathered
 pub mod Judged
 pub mod Verdicts

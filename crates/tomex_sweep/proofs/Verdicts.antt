@@ -5,10 +5,10 @@ use Rattle.std.proofs.lemmas.List.{length-map, map-append, map_more}
 use Rattle.tomex_config.specs.Configuration.{Configuration}
 use Rattle.tomex_study.specs.Study.{DesignSpace, IsStudy}
 use Rattle.tomex_study.specs.Program.{Workload}
-use Rattle.tomex_row_runs.specs.Cycles.{cycles_on, cycles_of}
-use Rattle.tomex_pareto.specs.Finished.{finished_from}
+use Rattle.tomex_study.specs.Cycles.{cycles_on, cycles_of}
+use Rattle.tomex_sweep.specs.Finished.{finished_from}
 use Rattle.tomex_pareto.specs.Front.{front_of}
-use Rattle.tomex_row_runs.specs.StudyFront.{front_of_study}
+use Rattle.tomex_study.specs.StudyFront.{front_of_study}
 use Rattle.tomex_sweep.specs.Marks.{AreJudged}
 use Rattle.tomex_lanes.specs.Parts.{is_closed}
 use Rattle.tomex_pareto.specs.declared.front_row.FrontRow.{FrontRow}

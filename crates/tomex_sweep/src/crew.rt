@@ -13,8 +13,8 @@ use std::thread;
 use std::thread::{Promise, PromisedHandle, Scope, Threads};
 use tomex_board::{Board, Plan};
 use tomex_lanes::{Part, Worker};
-use tomex_study::Study;
-use tomex_workers::{Gate, work};
+use tomex_study::{Gate, Study};
+use tomex_workers::work;
 
 /// A thread's contract: it returns a part with the worker's rows, and a seat of its board with its
 /// numbers.

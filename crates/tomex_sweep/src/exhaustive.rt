@@ -1,18 +1,17 @@
 //! The exploration that runs each configuration to its end.
 
 ghost use Rattle.std.specs.Prelude.{◌≡◌, map, IfOk, IfErr};
-ghost use Rattle.tomex_row_runs.specs.Cycles.{cycles_of};
-ghost use Rattle.tomex_row_runs.specs.StudyFront.{front_of_study};
+ghost use Rattle.tomex_study.specs.Cycles.{cycles_of};
+ghost use Rattle.tomex_study.specs.StudyFront.{front_of_study};
 ghost use Rattle.tomex_board.specs.declared.mark.Mark.TheVariants.{Finished};
 ghost use Rattle.tomex_sweep.specs.declared.outcome.SweepError.TheVariants.{Memory};
 
+use crate::finished::front_of_finished;
 use crate::outcome::{Outcome, SweepError};
 use std::alloc::{AllocError, Allocator};
 use tomex_board::Mark;
-use tomex_pareto::front;
 use tomex_row_runs::Runs;
-use tomex_study::Study;
-use tomex_workers::{Gate, OpenGate};
+use tomex_study::{Gate, OpenGate, Study};
 
 /// The marks of a study's rows, each of which is run to its end.
 fn all_marks<A: Allocator + Clone, G: Gate>(
@@ -47,7 +46,7 @@ pub fn run_all_under<A: Allocator + Clone, G: Gate>(
     study.keeps_limits();
     gate.begins(study.rows().len());
     let marks = all_marks(alloc.clone()?, study, gate)?;
-    let front = front(alloc, study.costs(), marks.as_slice())?;
+    let front = front_of_finished(alloc, study.costs(), marks.as_slice())?;
     Ok(Outcome {
         marks,
         front,

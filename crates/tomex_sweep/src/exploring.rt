@@ -1,12 +1,13 @@
 //! Explorations.
 
 ghost use Rattle.std.specs.Prelude.{◌≡◌, ◌≤◌, IfOk};
-ghost use Rattle.tomex_row_runs.specs.Cycles.{cycles_of};
+ghost use Rattle.tomex_study.specs.Cycles.{cycles_of};
 ghost use Rattle.tomex_sweep.specs.Exploration.{IsExploration};
 ghost use Rattle.tomex_sweep.specs.Marks.{AreJudged};
 ghost use Rattle.tomex_workers.specs.Plans.{IsPlanOf};
 
 use crate::crew::run_workers;
+use crate::finished::front_of_finished;
 use crate::leftovers::close_rest;
 use crate::outcome::{Outcome, SweepError};
 use crate::stacks::{Stacks, UsualStacks};
@@ -16,9 +17,7 @@ use std::sync::Wait;
 use std::thread::Threads;
 use tomex_board::{Board, Mark, Plan};
 use tomex_lanes::{deal, seat_workers, settle};
-use tomex_pareto::front;
-use tomex_study::Study;
-use tomex_workers::Gate;
+use tomex_study::{Gate, Study};
 
 /// The marks of a study's rows when all workers are done, on a board that is made for the study's costs and cycles.
 fn marks_of_workers<
@@ -80,7 +79,7 @@ pub fn explore_on<
         stacks,
     )?;
     let gathered = close_rest(alloc.clone()?, study, &mut marks)?;
-    let front = front(alloc, costs, marks.as_slice())?;
+    let front = front_of_finished(alloc, costs, marks.as_slice())?;
     Ok(Outcome {
         marks,
         front,

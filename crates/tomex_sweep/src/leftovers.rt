@@ -3,7 +3,7 @@
 ghost use Rattle.std.specs.Prelude.{◌≡◌, ◌↔◌, length, true, IfOk, OnOk, IsTrue, All};
 ghost use Rattle.tomex_board.specs.Marks.{AreLawful};
 ghost use Rattle.tomex_lanes.specs.Parts.{is_closed};
-ghost use Rattle.tomex_row_runs.specs.Cycles.{cycles_of};
+ghost use Rattle.tomex_study.specs.Cycles.{cycles_of};
 ghost use Rattle.tomex_sweep.specs.Marks.{AreJudged, StayClosed, rows_left};
 
 use std::alloc::{AllocError, Allocator};

@@ -1,11 +1,13 @@
 //! Explorations of studies: workers take configurations, run them and mark them on a board that
 //! they share, and the front is that of the marks. Runs whose cycles are known, or that can't
 //! change the front, are skipped.
+//! Tests: tomex_tests_sweeps, tomex_tests_memory.
 #![tactic(auto)]
 
 mod crew;
 mod exhaustive;
 mod exploring;
+mod finished;
 mod leftovers;
 mod outcome;
 mod stacks;
@@ -17,5 +19,7 @@ pub use stacks::{Stacks, UsualStacks};
 pub use tomex_board::Mark;
 pub use tomex_pareto::{FrontRow, front_is_the_undominated_rows};
 pub use tomex_row_runs::limit_changes_no_total;
-pub use tomex_study::{Program, ProgramError, Study, WatchRange, can_watch, watched_bytes};
-pub use tomex_workers::{Gate, OpenGate, work};
+pub use tomex_study::{
+    Gate, OpenGate, Program, ProgramError, Study, WatchRange, can_watch, watched_bytes,
+};
+pub use tomex_workers::work;

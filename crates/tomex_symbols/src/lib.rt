@@ -1,4 +1,5 @@
 //! The symbols of an ELF file, and which of them has an address: the function of a pc.
+//! Tests: tomex_tests_symbols.
 #![tactic(auto)]
 
 mod functions;

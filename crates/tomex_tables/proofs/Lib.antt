@@ -2,3 +2,4 @@
 pub mod Firsts
 mod Widths
 pub mod Loops
+pub mod Each

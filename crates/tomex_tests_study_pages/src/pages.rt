@@ -1,21 +1,16 @@
 //! Pages of small studies: a worked one to the byte, one with a name that looks like markup, and
 //! one whose front has more rows than are shown.
 
-ghost use Rattle.std.specs.Prelude.{◌≡◌, IfOk};
-ghost use Rattle.tomex_row_runs.specs.StudyFront.{all_rows, front_of_study};
-ghost use Rattle.tomex_survey.specs.Totals.{totals_of};
-
 use std::alloc::{AllocError, Allocator, Global};
 use std::test::Fail;
 use std::thread::Threads;
 use tomex_config::{Config, Prices};
 use tomex_image::{Window, load};
 use tomex_page::study_page;
-use tomex_study::{Program, Study};
-use tomex_survey::{Survey, survey};
+use tomex_study::{OpenGate, Program, Study, Surveyed};
+use tomex_survey::survey;
 use tomex_tests_fixtures::machines::{PLAIN, config_of};
 use tomex_tests_fixtures::programs::PRODUCT;
-use tomex_workers::OpenGate;
 
 mod one_row;
 mod refused_memory;
@@ -49,15 +44,11 @@ fn study_in<A: Allocator + Clone>(alloc: A, rows: usize) -> Result<Study<A>, Fai
 }
 
 /// The survey of a study.
-fn surveyed<R: Threads + Sync, A: Allocator + Clone + Send + Sync + Drop>(
+fn surveyed<'s, R: Threads + Sync, A: Allocator + Clone + Send + Sync + Drop>(
     rt: &R,
     alloc: A,
-    study: &Study<A>,
-) -> Result<Survey<A>, Fail>
-    ensures totals { IfOk result (λ v. v.totals ≡ totals_of study.now) }
-    ensures rows { IfOk result (λ v. v.rows ≡ all_rows study.now) }
-    ensures front { IfOk result (λ v. v.front ≡ front_of_study study.now) }
-{
+    study: &'s Study<A>,
+) -> Result<Surveyed<'s, A>, Fail> {
     Ok(survey(rt, alloc, study, 1, &OpenGate)?)
 }
 
@@ -69,8 +60,8 @@ fn page_of<R: Threads + Sync>(
     rows: usize,
 ) -> Result<String, Fail> {
     let study = study_in(alloc, rows)?;
-    let survey = surveyed(rt, alloc, &study)?;
-    let text = study_page(alloc, alloc, name, &study, &survey)?;
+    let surveyed = surveyed(rt, alloc, &study)?;
+    let text = study_page(alloc, alloc, name, &surveyed)?;
     Ok(String::from_utf8(text)?)
 }
 

@@ -1,21 +1,16 @@
 //! The survey of a worked study, its rows as CSV, and its picture. The modules below are of random studies.
 
-ghost use Rattle.std.specs.Prelude.{◌≡◌, IfOk};
-ghost use Rattle.tomex_row_runs.specs.StudyFront.{all_rows, front_of_study};
-ghost use Rattle.tomex_survey.specs.Totals.{totals_of};
-
 use std::alloc::Global;
 use std::test::Fail;
 use std::thread::Threads;
 use tomex_config::{Config, Prices};
 use tomex_front_views::rows_picture;
 use tomex_rows::rows_report;
-use tomex_study::{Program, Study};
-use tomex_survey::{Survey, survey};
+use tomex_study::{OpenGate, Program, Study, Surveyed};
+use tomex_survey::survey;
 use tomex_tests_fixtures::image_of;
 use tomex_tests_fixtures::machines::{PLAIN, config_of, priced};
 use tomex_tests_fixtures::programs::PRODUCT_WORDS;
-use tomex_workers::OpenGate;
 
 mod by_hand;
 mod intervals;
@@ -93,16 +88,12 @@ M488 192v0M488 360v0M520 360v0M648 360v0\" fill=\"none\" stroke=\"#a9b8c9\" stro
 stroke-linecap=\"round\"/>\n";
 
 /// The survey of a study by this number of workers.
-fn surveyed<R: Threads + Sync>(
+fn surveyed<'s, R: Threads + Sync>(
     rt: &R,
     alloc: Global,
-    study: &Study,
+    study: &'s Study,
     workers: usize,
-) -> Result<Survey, Fail>
-    ensures totals { IfOk result (λ v. v.totals ≡ totals_of study.now) }
-    ensures rows { IfOk result (λ v. v.rows ≡ all_rows study.now) }
-    ensures front { IfOk result (λ v. v.front ≡ front_of_study study.now) }
-{
+) -> Result<Surveyed<'s>, Fail> {
     if workers < 1 || workers > 32 {
         return Err("no such number of workers")?;
     }
@@ -121,8 +112,8 @@ fn holds_for(turn: u32, is_so: bool) -> Result<(), Fail> {
 fn rows_are_those_of_the_independent_implementation(rt: HostRuntime) -> Result<(), Fail> {
     let study = study_of(rt.alloc())?;
     for workers in [1, 2, 5, 12, 32] {
-        let survey = surveyed(&rt, rt.alloc(), &study, workers)?;
-        let text = rows_report(rt.alloc(), rt.alloc(), &study, &survey)?;
+        let surveyed = surveyed(&rt, rt.alloc(), &study, workers)?;
+        let text = rows_report(rt.alloc(), rt.alloc(), &surveyed)?;
         assert!(rt; text.as_slice() == ROWS.as_bytes(), "{workers} workers");
     }
     Ok(())
@@ -131,14 +122,8 @@ fn rows_are_those_of_the_independent_implementation(rt: HostRuntime) -> Result<(
 #[test]
 fn all_rows_are_dots(rt: HostRuntime) -> Result<(), Fail> {
     let study = study_of(rt.alloc())?;
-    let survey = surveyed(&rt, rt.alloc(), &study, 3)?;
-    let text = rows_picture(
-        rt.alloc(),
-        rt.alloc(),
-        &study,
-        survey.rows(),
-        survey.front(),
-    )?;
+    let surveyed = surveyed(&rt, rt.alloc(), &study, 3)?;
+    let text = rows_picture(rt.alloc(), rt.alloc(), &surveyed)?;
     let picture = String::from_utf8(text)?;
     assert!(rt; picture.contains(DOTS));
     assert!(rt; picture.contains("<title>front: 4 of 12 rows</title>"));

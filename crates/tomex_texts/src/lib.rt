@@ -1,5 +1,6 @@
 //! The texts of reports: the ends of programs on a configuration, the columns and fields of the
 //! front report, the times report of a program, and the text of a machine's tables.
+//! Tests: tomex_tests_reports, tomex_tests_memory.
 #![tactic(auto)]
 
 mod end_texts;
@@ -7,7 +8,6 @@ mod ends;
 mod front_fields;
 mod front_header;
 mod laws;
-mod program_ends;
 mod row_ends;
 mod tables;
 mod times;
@@ -16,7 +16,6 @@ pub use ends::ProgramEnd;
 pub use front_fields::{fill_record, push_row};
 pub use front_header::{columns, push_row_columns};
 pub use laws::limit_changes_no_end;
-pub use program_ends::each_end;
 pub use row_ends::RowEnds;
 pub use tables::tables_text;
 pub use times::times_report;

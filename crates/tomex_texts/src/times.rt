@@ -97,7 +97,7 @@ fn fill_record(
 {
     fields.clear();
     push_decimal(fields, scratch, number)?;
-    push_instruction(fields, scratch, step)?;
+    push_instruction(fields, scratch, step.pc, step.instr)?;
     push_decimal(fields, scratch, at.issue)?;
     push_cycle(fields, scratch, at.address)?;
     push_decimal(fields, scratch, at.start)?;

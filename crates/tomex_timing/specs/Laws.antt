@@ -155,7 +155,7 @@ abbrev pub StalledPartsAreFull : Type 0
 StalledPartsAreFull = (config : Configuration) (h : List Done) (part : Part) → AreTimed config h
     → 0 < stalls config part h → peak part h ≡ count_of config part
 
--- a configuration that serves a history as its own configuration does gives each step of it the same times
+-- a configuration that serves a history equally well gives each step the same times
 abbrev pub ServedTimesAreSame : Type 0
 ServedTimesAreSame = (config other : Configuration) (h : List Done)
     → AreTimed config h → Serves config other h → AreTimed other h

@@ -4,6 +4,7 @@
 //! Sources: R. M. Tomasulo, "An Efficient Algorithm for Exploiting Multiple Arithmetic Units", 1967, and the chapter on
 //! Tomasulo's algorithm in Hennessy and Patterson's "Computer Architecture: A Quantitative Approach".
 //! `specs/Recurrence.antt` is the definition; `specs/Tables.antt` says what stations and registers show after a cycle.
+//! Tests: tomex_tests_timing.
 #![tactic(auto)]
 
 mod accesses;

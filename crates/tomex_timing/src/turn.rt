@@ -19,8 +19,8 @@ pub(crate) struct Turn {
     pub taken: Taken,
 }
 
-/// The next step by what is held of the earlier ones. It can be kept then.
-// Inlined: a loop that doesn't use the waits makes none.
+/// The next step's times and waits. It can then be kept.
+// Inlined, so that a loop that ignores the waits doesn't compute them.
 #[inline(always)]
 pub(crate) fn next_turn<A: Allocator>(config: &Config, recent: &Recent<A>, facts: &Facts) -> Turn
     requires { IsReady config.now (held_by recent.now) facts.now }

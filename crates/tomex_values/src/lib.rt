@@ -1,5 +1,6 @@
 //! Values of a TOML document: the table, number or list under a key, and the refusals, which name
 //! place and key.
+//! Tests: tomex_tests_documents.
 #![tactic(auto)]
 
 mod error;

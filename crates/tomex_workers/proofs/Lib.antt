@@ -1,3 +1,2 @@
 -- Lemmas of this crate.
-pub mod Rows
 pub mod Closing

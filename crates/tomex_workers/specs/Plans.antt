@@ -1,7 +1,7 @@
 -- The plan that a study's board is made for.
 use Rattle.std.specs.Prelude.{◌≡◌, ℕ, List}
 use Rattle.tomex_study.specs.Study.{DesignSpace}
-use Rattle.tomex_row_runs.specs.Cycles.{cycles_of}
+use Rattle.tomex_study.specs.Cycles.{cycles_of}
 
 -- the costs of the study's rows, and their cycles
 pub record IsPlanOf (s : DesignSpace) (costs cycles : List ℕ) : Type 0 where

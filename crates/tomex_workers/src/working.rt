@@ -4,11 +4,10 @@ ghost use Rattle.std.specs.Prelude.{◌≡◌, [], length, IfOk};
 ghost use Rattle.tomex_workers.specs.Plans.{IsPlanOf};
 
 use crate::desk::Desk;
-use crate::gate::Gate;
 use std::alloc::{AllocError, Allocator};
 use tomex_board::{Board, Plan, Seat};
 use tomex_lanes::{Lane, Part};
-use tomex_study::Study;
+use tomex_study::{Gate, Study};
 
 /// Does a worker's whole work: takes rows until there are none, its own first, then stolen ones,
 /// and runs and closes each one that it claims. Then it tries each row of its own list again, so

@@ -9,18 +9,11 @@ use Rattle.tomex_study.specs.Study.{DesignSpace}
 use Rattle.tomex_tables.specs.Table.{TableColumn}
 use Rattle.tomex_worth.specs.Changes.{changes_of}
 use Rattle.tomex_worth.specs.Worth.{all_headings, columns_of, heading_column, program_column, program_columns}
+use Rattle.tomex_tables.proofs.Each.{all_if, all_map}
 
 -- one more line than there are changes
 abbrev pub HasLines : DesignSpace → FrontRow → TableColumn → Type 0
 HasLines s own c = length c.entries ≡ suc (length (changes_of s own))
-
-all_map : {X Y : Type 0} (P : Y → Type 0) (f : X → Y) (xs : List X) → ((x : X) → P (f x)) → All P (map f xs)
-all_map P f [] each = All-nil P
-all_map P f (x ∷ xs) each = All-cons P (f x) (map f xs) (each x) (all_map P f xs each)
-
-all_if : {Y : Type 0} (P : Y → Type 0) (ys : List Y) (b : Bool) → All P ys → All P (if b then ys else [])
-all_if P ys true each = each
-all_if P ys false each = All-nil P
 
 pub columns_long : (s : DesignSpace) (own : FrontRow) → All (HasLines s own) (columns_of s own)
 unfolding heading_column program_column

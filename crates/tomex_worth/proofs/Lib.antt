@@ -1,5 +1,4 @@
 -- Lemmas of this crate.
 mod Ranges
 pub mod Rows
-pub mod Totals
 mod Columns

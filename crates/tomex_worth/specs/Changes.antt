@@ -4,11 +4,10 @@
 use Rattle.std.specs.Prelude.{◌≡◌, ℕ, ◌<◌, ◌==◌, Bool, not, if◌then◌else◌, List, length, map}
 use Rattle.std.specs.Prelude.{slice_index_or, All}
 use Rattle.std.specs.List.{filter, flat_map, list_all, range_with_len}
-use Rattle.tomex_config.specs.Configuration.{Configuration, option_of, plain}
-use Rattle.tomex_prices.specs.Price.{same_option}
+use Rattle.tomex_config.specs.Configuration.{Configuration, option_of, same_option}
 use Rattle.tomex_pareto.specs.declared.front_row.FrontRow.{FrontRow}
-use Rattle.tomex_study.specs.Study.{DesignSpace}
-use Rattle.tomex_row_runs.specs.StudyFront.{all_rows}
+use Rattle.tomex_study.specs.Study.{DesignSpace, config_at}
+use Rattle.tomex_study.specs.StudyFront.{all_rows}
 use Rattle.tomex_timing.specs.Needs.{all_parts, count_of}
 use Rattle.tomex_timing.specs.declared.part.Part.{Part}
 use Rattle.tomex_timing.specs.declared.part.Part.TheVariants.{Units, Width}
@@ -28,10 +27,6 @@ unfoldable pub differ_at : ℕ → Configuration → Configuration → Bool
 differ_at place a b =
     list_all (λ k. if k == place then not (same_entry a b (part_at k)) else same_entry a b (part_at k))
     (range_with_len 0 13)
-
--- the configuration of a row
-abbrev pub config_at : DesignSpace → ℕ → Configuration
-config_at s row = slice_index_or s.rows row plain
 
 abbrev pub change : Part → FrontRow → Change
 change part row = record { part = part; row = row }

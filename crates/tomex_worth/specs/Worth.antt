@@ -1,23 +1,22 @@
 -- What one more or one less part is worth on a machine, as a table.
 use Rattle.std.specs.Prelude.{ℕ, suc, ◌*◌, ◌/◌, ◌==◌, nat_lt, if◌then◌else◌, List, [], ◌∷◌, ◌++◌}
-use Rattle.std.specs.Prelude.{codes, length, map, slice_index_or}
+use Rattle.std.specs.Prelude.{codes, length, map}
 use Rattle.std.specs.List.{list_any}
 use Rattle.std.specs.Fmt.{decimal}
 use Rattle.tomex_rvdec.specs.Parts.{name_of_pool, name_of_unit}
 use Rattle.tomex_config.specs.Configuration.{Configuration, option_of}
-use Rattle.tomex_timing.specs.Run.{total}
 use Rattle.tomex_pareto.specs.Front.{dominates}
 use Rattle.tomex_pareto.specs.declared.front_row.FrontRow.{FrontRow}
 use Rattle.tomex_csv_text.specs.Hundredths.{hundredths}
-use Rattle.tomex_row_runs.specs.Cycles.{cycles_on}
-use Rattle.tomex_row_runs.specs.StudyFront.{front_of_study}
+use Rattle.tomex_study.specs.Cycles.{total_at}
+use Rattle.tomex_study.specs.StudyFront.{front_of_study, row_at}
 use Rattle.tomex_study.specs.Program.{Workload}
-use Rattle.tomex_study.specs.Study.{DesignSpace}
+use Rattle.tomex_study.specs.Study.{DesignSpace, config_at}
 use Rattle.tomex_tables.specs.Table.{TableColumn, table_of}
 use Rattle.tomex_timing.specs.Needs.{count_of}
 use Rattle.tomex_timing.specs.declared.part.Part.{Part}
 use Rattle.tomex_timing.specs.declared.part.Part.TheVariants.{Stations, Units, Buses, Width}
-use Rattle.tomex_worth.specs.Changes.{changes_of, config_at}
+use Rattle.tomex_worth.specs.Changes.{changes_of}
 use Rattle.tomex_worth.specs.Differences.{distance, percent, signed_difference}
 use Rattle.tomex_worth.specs.declared.changes.Change.{Change}
 use Rattle.tomex_worth.specs.declared.heading.Heading.{Heading}
@@ -90,10 +89,6 @@ all_headings =
     headings.Part ∷ headings.From ∷ headings.To ∷ headings.Row ∷ headings.Cost ∷ headings.Cycles ∷ headings.Percent
     ∷ headings.Rate ∷ headings.Front ∷ []
 
--- a program's own cycles on the row of this number
-abbrev pub total_at : DesignSpace → Workload → ℕ → ℕ
-total_at s p row = total (config_at s row) p.image
-
 unfoldable pub program_column : DesignSpace → FrontRow → Workload → TableColumn
 program_column s own p = record {
   name = p.name;
@@ -107,11 +102,6 @@ program_columns s own = if nat_lt 1 (length s.programs) then map (program_column
 
 abbrev pub columns_of : DesignSpace → FrontRow → List TableColumn
 columns_of s own = map (heading_column s own) all_headings ++ program_columns s own
-
--- a row of the study, with its cost and cycles
-abbrev pub row_at : DesignSpace → ℕ → FrontRow
-row_at s n =
-    record { row = n; cost = slice_index_or s.costs n 0; cycles = cycles_on s.programs (config_at s n) }
 
 -- the table of the machine of this number
 unfoldable pub worth_table_of : DesignSpace → ℕ → List ℕ

@@ -1,14 +1,12 @@
 //! The rows of a study that differ from a machine in only one list.
 
 ghost use Rattle.std.specs.Prelude.{◌≡◌, ◌<◌, ◌++◌, if◌then◌else◌, not, length, All, IfOk, OnOk};
-ghost use Rattle.tomex_row_runs.specs.StudyFront.{all_rows};
 ghost use Rattle.tomex_worth.specs.Changes.{changes_at, changes_of, differ_at, part_at, same_entry};
 
 use std::alloc::{AllocError, Allocator, Global};
-use tomex_config::Config;
+use tomex_config::{Config, same_option};
 use tomex_pareto::FrontRow;
-use tomex_prices::same_option;
-use tomex_study::Study;
+use tomex_study::Surveyed;
 use tomex_timing::Part;
 
 /// A row that differs from a machine in only one list.
@@ -53,20 +51,17 @@ fn differ_at(place: usize, a: &Config, b: &Config) -> bool
 #[tactic(auto, unfolding(crate::specs::Changes::changes_at))]
 fn push_changes_at<A: Allocator>(
     changes: &mut Vec<Change>,
-    study: &Study<A>,
-    rows: &[FrontRow],
+    surveyed: &Surveyed<'_, A>,
     own: FrontRow,
     place: usize,
 ) -> Result<(), AllocError>
     requires place { place < 13 }
-    requires own { own.row < length study.now.rows }
-    requires within { All (λ r. r.row < length study.now.rows) rows.now }
-    requires rows { rows.now ≡ all_rows study.now }
-    ensures { OnOk result (changes.new.items ≡ changes.old.items ++ changes_at study.now own place) }
+    requires own { own.row < length surveyed.now.rows }
+    ensures { OnOk result (changes.new.items ≡ changes.old.items ++ changes_at surveyed.now own place) }
 {
-    let (configs, part) = (study.rows(), Part::ALL[place]);
-    for row in rows {
-        if differ_at(place, &configs[own.row], &configs[row.row]) {
+    let (config, part) = (surveyed.config(own.row), Part::ALL[place]);
+    for row in surveyed.rows() {
+        if differ_at(place, config, surveyed.config(row.row)) {
             changes.push(Change { part, row: *row })?;
         }
     }
@@ -78,18 +73,17 @@ fn push_changes_at<A: Allocator>(
 #[tactic(auto, unfolding(crate::specs::Changes::changes_of))]
 pub fn changes_of<A: Allocator>(
     heap: Global,
-    study: &Study<A>,
-    rows: &[FrontRow],
+    surveyed: &Surveyed<'_, A>,
     own: FrontRow,
 ) -> Result<Vec<Change>, AllocError>
-    requires own { own.row < length study.now.rows }
-    requires within { All (λ r. r.row < length study.now.rows) rows.now }
-    requires rows { rows.now ≡ all_rows study.now }
-    ensures changes { IfOk result (λ v. v.items ≡ changes_of study.now own) }
+    requires { own.row < length surveyed.now.rows }
+    ensures changes { IfOk result (λ v. v.items ≡ changes_of surveyed.now own) }
+    ensures within { IfOk result (λ v. All (λ c. c.row.row < length surveyed.now.rows) v.items) }
 {
+    surveyed.keeps_limits();
     let mut changes = Vec::new(heap);
     for place in 0..Part::ALL.len() {
-        push_changes_at(&mut changes, study, rows, own, place)?;
+        push_changes_at(&mut changes, surveyed, own, place)?;
     }
     Ok(changes)
 }

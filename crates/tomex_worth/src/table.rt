@@ -3,20 +3,16 @@
 ghost use Rattle.std.specs.Prelude.{◌≡◌, ◌<◌, ◌++◌, ◌==◌, if◌then◌else◌, slice_get, Some};
 ghost use Rattle.std.specs.Prelude.{codes, length, map, IfOk, OnOk, string_bytes};
 ghost use Rattle.std.specs.List.{list_any};
-ghost use Rattle.tomex_row_runs.specs.StudyFront.{front_of_study};
-ghost use Rattle.tomex_survey.specs.Totals.{totals_of};
-ghost use Rattle.tomex_row_runs.specs.StudyFront.{all_rows};
 ghost use Rattle.tomex_worth.specs.Changes.{IsMachine};
 ghost use Rattle.tomex_worth.specs.Worth.{all_headings, heading_column, own_under, program_column, program_columns};
-ghost use Rattle.tomex_worth.specs.Worth.{text_under, total_at, worth_table_of};
+ghost use Rattle.tomex_worth.specs.Worth.{text_under, worth_table_of};
 
 use crate::changes::{Change, changes_of};
 use crate::differences::{percent, rate_text, signed_difference};
 use crate::heading::{Heading, entry_text, name_of_list};
 use std::alloc::{AllocError, Allocator, Global};
 use tomex_pareto::FrontRow;
-use tomex_study::{Program, Study};
-use tomex_survey::Survey;
+use tomex_study::{Program, Surveyed};
 use tomex_tables::{Column, table_of};
 
 /// A machine, and the rows that differ from it in only one list.
@@ -48,20 +44,18 @@ fn front_text(heap: Global, front: &[FrontRow], row: usize) -> Result<String, Al
 /// The text under a heading in the machine's own line.
 fn own_under<A: Allocator>(
     heap: Global,
-    study: &Study<A>,
-    front: &[FrontRow],
+    surveyed: &Surveyed<'_, A>,
     own: FrontRow,
     heading: Heading,
 ) -> Result<String, AllocError>
-    requires { front.now ≡ front_of_study study.now }
-    ensures { IfOk result (λ text. string_bytes text ≡ own_under study.now own heading) }
+    ensures { IfOk result (λ text. string_bytes text ≡ own_under surveyed.now own heading) }
 {
     let FrontRow { row, cost, cycles } = own;
     match heading {
         Heading::Row => format!(in heap; "{row}"),
         Heading::Cost => format!(in heap; "{cost}"),
         Heading::Cycles => format!(in heap; "{cycles}"),
-        Heading::Front => front_text(heap, front, row),
+        Heading::Front => front_text(heap, surveyed.front(), row),
         _ => format!(in heap; "-"),
     }
 }
@@ -70,50 +64,46 @@ fn own_under<A: Allocator>(
 #[tactic(auto, unfolding(crate::specs::Worth::text_under))]
 fn text_under<A: Allocator>(
     heap: Global,
-    study: &Study<A>,
-    front: &[FrontRow],
+    surveyed: &Surveyed<'_, A>,
     own: FrontRow,
     heading: Heading,
     change: Change,
 ) -> Result<String, AllocError>
-    requires front { front.now ≡ front_of_study study.now }
-    requires own { own.row < length study.now.rows }
-    requires other { change.row.row < length study.now.rows }
-    ensures { IfOk result (λ text. string_bytes text ≡ text_under study.now own heading change) }
+    requires own { own.row < length surveyed.now.rows }
+    requires other { change.row.row < length surveyed.now.rows }
+    ensures { IfOk result (λ text. string_bytes text ≡ text_under surveyed.now own heading change) }
 {
     let other = change.row;
     let number = other.row;
     match heading {
         Heading::Part => name_of_list(heap, change.part),
-        Heading::From => entry_text(heap, &study.rows()[own.row], change.part),
-        Heading::To => entry_text(heap, &study.rows()[number], change.part),
+        Heading::From => entry_text(heap, surveyed.config(own.row), change.part),
+        Heading::To => entry_text(heap, surveyed.config(number), change.part),
         Heading::Row => format!(in heap; "{number}"),
         Heading::Cost => signed_difference(heap, own.cost, other.cost),
         Heading::Cycles => signed_difference(heap, own.cycles, other.cycles),
         Heading::Percent => percent(heap, own.cycles, other.cycles),
         Heading::Rate => rate_text(heap, own, other),
-        Heading::Front => front_text(heap, front, number),
+        Heading::Front => front_text(heap, surveyed.front(), number),
     }
 }
 
 #[tactic(auto, unfolding(crate::specs::Worth::heading_column))]
 fn heading_column<A: Allocator>(
     heap: Global,
-    study: &Study<A>,
-    front: &[FrontRow],
+    surveyed: &Surveyed<'_, A>,
     machine: Machine<'_>,
     heading: Heading,
 ) -> Result<Column, AllocError>
-    requires front { front.now ≡ front_of_study study.now }
-    requires machine { IsMachine study.now machine.own machine.changes.now }
-    ensures { IfOk result (λ c. c ≡ heading_column study.now machine.entry.own heading) }
+    requires { IsMachine surveyed.now machine.own machine.changes.now }
+    ensures { IfOk result (λ c. c ≡ heading_column surveyed.now machine.entry.own heading) }
 {
     let own = machine.own;
     let name = heading.name();
     let mut column = Column::new(heap, format!(in heap; "{name}")?);
-    column.push(own_under(heap, study, front, own, heading)?)?;
+    column.push(own_under(heap, surveyed, own, heading)?)?;
     for change in machine.changes {
-        column.push(text_under(heap, study, front, own, heading, *change)?)?;
+        column.push(text_under(heap, surveyed, own, heading, *change)?)?;
     }
     Ok(column)
 }
@@ -122,58 +112,38 @@ fn heading_column<A: Allocator>(
 fn push_headings<A: Allocator>(
     columns: &mut Vec<Column>,
     heap: Global,
-    study: &Study<A>,
-    front: &[FrontRow],
+    surveyed: &Surveyed<'_, A>,
     machine: Machine<'_>,
 ) -> Result<(), AllocError>
-    requires front { front.now ≡ front_of_study study.now }
-    requires machine { IsMachine study.now machine.own machine.changes.now }
+    requires { IsMachine surveyed.now machine.own machine.changes.now }
     ensures { OnOk result (columns.new.items
-        ≡ columns.old.items ++ map (heading_column study.now machine.entry.own) all_headings) }
+        ≡ columns.old.items ++ map (heading_column surveyed.now machine.entry.own) all_headings) }
 {
     for heading in Heading::ALL {
-        columns.push(heading_column(heap, study, front, machine, heading)?)?;
+        columns.push(heading_column(heap, surveyed, machine, heading)?)?;
     }
     Ok(())
-}
-
-/// A program's own cycles on a row. The program is the study's at this place.
-fn total_at<A: Allocator>(
-    study: &Study<A>,
-    survey: &Survey<A>,
-    place: usize,
-    program: &Program<A>,
-    row: usize,
-) -> u64
-    requires program { slice_get study.now.programs place ≡ Some program.now }
-    requires row { row < length study.now.rows }
-    requires totals { survey.now.totals ≡ totals_of study.now }
-    ensures { result ≡ total_at study.now program.now row }
-{
-    survey.totals(row)[place]
 }
 
 /// The column of a program, the study's at this place.
 #[tactic(auto, unfolding(crate::specs::Worth::program_column))]
 fn program_column<A: Allocator>(
     heap: Global,
-    study: &Study<A>,
-    survey: &Survey<A>,
+    surveyed: &Surveyed<'_, A>,
     machine: Machine<'_>,
     place: usize,
     program: &Program<A>,
 ) -> Result<Column, AllocError>
-    requires program { slice_get study.now.programs place ≡ Some program.now }
-    requires totals { survey.now.totals ≡ totals_of study.now }
-    requires machine { IsMachine study.now machine.own machine.changes.now }
-    ensures { IfOk result (λ c. c ≡ program_column study.now machine.entry.own program.now) }
+    requires program { slice_get surveyed.now.programs place ≡ Some program.now }
+    requires machine { IsMachine surveyed.now machine.own machine.changes.now }
+    ensures { IfOk result (λ c. c ≡ program_column surveyed.now machine.entry.own program.now) }
 {
     let name = program.name();
     let mut column = Column::new(heap, format!(in heap; "{name}")?);
-    let total = total_at(study, survey, place, program, machine.own.row);
+    let total = surveyed.total(machine.own.row, place);
     column.push(format!(in heap; "{total}")?)?;
     for change in machine.changes {
-        let other = total_at(study, survey, place, program, change.row.row);
+        let other = surveyed.total(change.row.row, place);
         column.push(signed_difference(heap, total, other)?)?;
     }
     Ok(column)
@@ -183,17 +153,15 @@ fn program_column<A: Allocator>(
 fn push_each_program<A: Allocator>(
     columns: &mut Vec<Column>,
     heap: Global,
-    study: &Study<A>,
-    survey: &Survey<A>,
+    surveyed: &Surveyed<'_, A>,
     machine: Machine<'_>,
 ) -> Result<(), AllocError>
-    requires totals { survey.now.totals ≡ totals_of study.now }
-    requires machine { IsMachine study.now machine.own machine.changes.now }
+    requires { IsMachine surveyed.now machine.own machine.changes.now }
     ensures { OnOk result (columns.new.items
-        ≡ columns.old.items ++ map (program_column study.now machine.entry.own) study.now.programs) }
+        ≡ columns.old.items ++ map (program_column surveyed.now machine.entry.own) surveyed.now.programs) }
 {
-    for (place, program) in study.programs().iter().enumerate() {
-        columns.push(program_column(heap, study, survey, machine, place, program)?)?;
+    for (place, program) in surveyed.study().programs().iter().enumerate() {
+        columns.push(program_column(heap, surveyed, machine, place, program)?)?;
     }
     Ok(())
 }
@@ -202,16 +170,14 @@ fn push_each_program<A: Allocator>(
 fn push_programs<A: Allocator>(
     columns: &mut Vec<Column>,
     heap: Global,
-    study: &Study<A>,
-    survey: &Survey<A>,
+    surveyed: &Surveyed<'_, A>,
     machine: Machine<'_>,
 ) -> Result<(), AllocError>
-    requires totals { survey.now.totals ≡ totals_of study.now }
-    requires machine { IsMachine study.now machine.own machine.changes.now }
-    ensures { OnOk result (columns.new.items ≡ columns.old.items ++ program_columns study.now machine.entry.own) }
+    requires { IsMachine surveyed.now machine.own machine.changes.now }
+    ensures { OnOk result (columns.new.items ≡ columns.old.items ++ program_columns surveyed.now machine.entry.own) }
 {
-    if study.programs().len() > 1 {
-        push_each_program(columns, heap, study, survey, machine)?;
+    if surveyed.study().programs().len() > 1 {
+        push_each_program(columns, heap, surveyed, machine)?;
     }
     Ok(())
 }
@@ -224,26 +190,20 @@ fn push_programs<A: Allocator>(
 pub fn worth_table<A: Allocator>(
     alloc: A,
     heap: Global,
-    study: &Study<A>,
-    survey: &Survey<A>,
+    surveyed: &Surveyed<'_, A>,
     row: usize,
 ) -> Result<Vec<u8, A>, AllocError>
-    requires row { row < length study.now.rows }
-    requires totals { survey.now.totals ≡ totals_of study.now }
-    requires rows { survey.now.rows ≡ all_rows study.now }
-    requires front { survey.now.front ≡ front_of_study study.now }
-    ensures { IfOk result (λ text. text.items ≡ worth_table_of study.now row) }
+    requires { row < length surveyed.now.rows }
+    ensures { IfOk result (λ text. text.items ≡ worth_table_of surveyed.now row) }
 {
-    study.keeps_limits();
-    let (rows, front) = (survey.rows(), survey.front());
-    let own = rows[row];
-    let changes = changes_of(heap, study, rows, own)?;
+    let own = surveyed.row(row);
+    let changes = changes_of(heap, surveyed, own)?;
     let machine = Machine {
         own,
         changes: changes.as_slice(),
     };
     let mut columns = Vec::new(heap);
-    push_headings(&mut columns, heap, study, front, machine)?;
-    push_programs(&mut columns, heap, study, survey, machine)?;
+    push_headings(&mut columns, heap, surveyed, machine)?;
+    push_programs(&mut columns, heap, surveyed, machine)?;
     table_of(alloc, machine.changes.len() + 1, columns.as_slice())
 }

@@ -15,7 +15,7 @@ use tomex_streams::{Files, Meter};
 use tomex_sweep::Gate;
 
 /// Explores the study with workers and renders its front.
-fn front_in_view<
+fn answer_in_view<
     R: Threads + Wait + Sync,
     A: Allocator + Clone + Send + Sync + Drop,
     G: Gate + Sync,
@@ -37,6 +37,7 @@ fn front_in_view<
 {
     let (study, files) = (sources.study.as_slice(), sources.files.as_slice());
     match view {
+        // The call that carries the claim, word for word, on its contract.
         FrontView::Report => answer(rt, alloc, heap, study, files, workers, gate),
         view => answer_shown(rt, alloc, heap, study, files, Crew { workers, gate }, view),
     }
@@ -65,7 +66,7 @@ pub fn text_of_front<
     let sources = sources_in(alloc.clone()?, heap, files, line.study)?;
     let workers = line.workers as usize;
     let gate = Metered::new(meter, u64::from(line.workers));
-    let text = front_in_view(rt, alloc, heap, &sources, workers, &gate, view);
+    let text = answer_in_view(rt, alloc, heap, &sources, workers, &gate, view);
     meter.clear();
     Ok(text?)
 }

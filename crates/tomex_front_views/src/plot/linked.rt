@@ -2,7 +2,6 @@
 
 ghost use Rattle.std.specs.Prelude.{◌≡◌, ◌++◌, length, OnOk, string_bytes};
 ghost use Rattle.std.specs.List.{flat_map};
-ghost use Rattle.tomex_row_runs.specs.StudyFront.{all_rows, front_of_study};
 ghost use Rattle.tomex_front_views.specs.LinkedPlot.{is_shown, link_start, link_to, linked_circle, linked_line};
 ghost use Rattle.tomex_front_views.specs.LinkedPlot.{linked_over, linked_picture_of, linked_rows};
 ghost use Rattle.tomex_front_views.specs.Plot.{circle, radius_of};
@@ -15,7 +14,7 @@ use crate::plot::{push_lines, push_scales, push_shade, push_sheet, push_size, ti
 use std::alloc::{AllocError, Allocator, Global};
 use std::fmt::Write;
 use tomex_pareto::FrontRow;
-use tomex_study::Study;
+use tomex_study::Surveyed;
 
 /// True if the row of this number is one of those that are shown.
 #[tactic(auto, unfolding(crate::specs::LinkedPlot::is_shown))]
@@ -155,21 +154,17 @@ fn push_linked_over<A: Allocator + Clone>(
 /// Adds the picture that `rows_picture` gives, except that the circle of each row that is shown is a link to the row's
 /// view in the page.
 ///
-/// `rows` are all rows of the study, `front` those of its front. Small values are allocated in
-/// `heap`.
+/// Small values are allocated in `heap`.
 pub fn push_linked_picture<A: Allocator + Clone>(
     text: &mut String<A>,
     alloc: A,
     heap: Global,
-    study: &Study<A>,
-    rows: &[FrontRow],
-    front: &[FrontRow],
+    surveyed: &Surveyed<'_, A>,
     shown: &[FrontRow],
 ) -> Result<(), AllocError>
-    requires rows { rows.now ≡ all_rows study.now }
-    requires front { front.now ≡ front_of_study study.now }
     ensures { OnOk result (string_bytes text.new
-        ≡ string_bytes text.old ++ linked_picture_of study.now shown.now) }
+        ≡ string_bytes text.old ++ linked_picture_of surveyed.now shown.now) }
 {
-    push_linked_over(text, alloc, heap, study.rows().len(), rows, front, shown)
+    let (rows, front) = (surveyed.rows(), surveyed.front());
+    push_linked_over(text, alloc, heap, rows.len(), rows, front, shown)
 }

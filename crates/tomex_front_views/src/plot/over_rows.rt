@@ -2,8 +2,6 @@
 
 ghost use Rattle.std.specs.Prelude.{◌≡◌, IfOk};
 ghost use Rattle.tomex_front_views.specs.RowsPlot.{picture_over, rows_picture_of};
-ghost use Rattle.tomex_row_runs.specs.StudyFront.{front_of_study};
-ghost use Rattle.tomex_row_runs.specs.StudyFront.{all_rows};
 
 use crate::plot::axes::axes_of;
 use crate::plot::dots::push_dots_line;
@@ -13,7 +11,7 @@ use crate::plot::{
 };
 use std::alloc::{AllocError, Allocator, Global};
 use tomex_pareto::FrontRow;
-use tomex_study::Study;
+use tomex_study::Surveyed;
 
 /// The picture of a front, drawn over dots for all rows, `all` in number.
 #[tactic(auto, unfolding(crate::specs::RowsPlot::picture_over))]
@@ -48,13 +46,10 @@ fn picture_over<A: Allocator + Clone>(
 pub fn rows_picture<A: Allocator + Clone>(
     alloc: A,
     heap: Global,
-    study: &Study<A>,
-    rows: &[FrontRow],
-    front: &[FrontRow],
+    surveyed: &Surveyed<'_, A>,
 ) -> Result<Vec<u8, A>, AllocError>
-    requires rows { rows.now ≡ all_rows study.now }
-    requires front { front.now ≡ front_of_study study.now }
-    ensures { IfOk result (λ text. text.items ≡ rows_picture_of study.now) }
+    ensures { IfOk result (λ text. text.items ≡ rows_picture_of surveyed.now) }
 {
-    picture_over(alloc, heap, study.rows().len(), rows, front)
+    let (rows, front) = (surveyed.rows(), surveyed.front());
+    picture_over(alloc, heap, rows.len(), rows, front)
 }

@@ -3,7 +3,7 @@
 ghost use Rattle.std.specs.Prelude.{◌≡◌, ◌<◌, ◌++◌, length, map, All, IfOk, OnOk};
 ghost use Rattle.std.specs.Fmt.{decimal};
 ghost use Rattle.std.specs.List.{AllZip, flat_map};
-ghost use Rattle.tomex_row_runs.specs.StudyFront.{front_of_study};
+ghost use Rattle.tomex_study.specs.StudyFront.{front_of_study};
 ghost use Rattle.tomex_front_views.specs.FrontTable.{all_settings, cycles_on, front_table_of, heading_column};
 ghost use Rattle.tomex_front_views.specs.FrontTable.{number_under, own_columns, program_column, program_columns};
 ghost use Rattle.tomex_front_views.specs.FrontTable.{setting_columns};

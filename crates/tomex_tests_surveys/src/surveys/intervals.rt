@@ -1,16 +1,13 @@
 //! A row of the front stays on it at exactly the prices of its interval: other prices are tried,
 //! and all rows' costs and dominations computed by hand.
 
-ghost use Rattle.std.specs.Prelude.{◌≡◌};
-ghost use Rattle.tomex_row_runs.specs.StudyFront.{all_rows, front_of_study};
-
 use super::random::Random;
 use super::{by_hand, holds_for, surveyed};
 use std::alloc::Global;
 use std::test::Fail;
 use tomex_pareto::FrontRow;
 use tomex_prices::{Price, PriceRange, interval_of, prices, rows_with};
-use tomex_study::Study;
+use tomex_study::{Study, Surveyed};
 
 /// Values of a price to try: the ends of an interval and the values next to them, the least and the
 /// greatest, the stated one, and some at random.
@@ -73,19 +70,15 @@ fn is_exact(
 /// True if that holds for this price and all rows of the front.
 fn are_exact(
     alloc: Global,
-    study: &Study,
+    surveyed: &Surveyed<'_>,
     plain: &[FrontRow],
-    rows: &[FrontRow],
-    front: &[FrontRow],
     price: Price,
     random: &mut Random,
-) -> Result<bool, Fail>
-    requires rows { rows.now ≡ all_rows study.now }
-    requires front { front.now ≡ front_of_study study.now }
-{
-    let apart = rows_with(alloc, study, rows, price)?;
-    for row in front {
-        let range = interval_of(study, price, apart.as_slice(), *row);
+) -> Result<bool, Fail> {
+    let study = surveyed.study();
+    let priced = rows_with(alloc, surveyed, price)?;
+    for row in surveyed.front() {
+        let range = interval_of(study, price, priced.as_slice(), *row);
         if !is_exact(study, plain, row.row, price, range, random)? {
             return Ok(false);
         }
@@ -96,18 +89,13 @@ fn are_exact(
 /// True if that holds for all prices of a study.
 fn all_are_exact(
     alloc: Global,
-    study: &Study,
-    rows: &[FrontRow],
-    front: &[FrontRow],
+    surveyed: &Surveyed<'_>,
     random: &mut Random,
-) -> Result<bool, Fail>
-    requires rows { rows.now ≡ all_rows study.now }
-    requires front { front.now ≡ front_of_study study.now }
-{
-    let plain = by_hand::all_rows(alloc, study)?;
-    let all = prices(alloc, study)?;
+) -> Result<bool, Fail> {
+    let plain = by_hand::all_rows(alloc, surveyed.study())?;
+    let all = prices(alloc, surveyed.study())?;
     for price in &all {
-        if !are_exact(alloc, study, plain.as_slice(), rows, front, *price, random)? {
+        if !are_exact(alloc, surveyed, plain.as_slice(), *price, random)? {
             return Ok(false);
         }
     }
@@ -119,14 +107,8 @@ fn intervals_hold_exactly(rt: HostRuntime) -> Result<(), Fail> {
     let mut random = Random::new(1181783497);
     for turn in 0..6u32 {
         let study = random.study(rt.alloc())?;
-        let survey = surveyed(&rt, rt.alloc(), &study, 2)?;
-        let is_so = all_are_exact(
-            rt.alloc(),
-            &study,
-            survey.rows(),
-            survey.front(),
-            &mut random,
-        )?;
+        let surveyed = surveyed(&rt, rt.alloc(), &study, 2)?;
+        let is_so = all_are_exact(rt.alloc(), &surveyed, &mut random)?;
         holds_for(turn, is_so)?;
     }
     Ok(())

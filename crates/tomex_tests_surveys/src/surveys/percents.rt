@@ -1,10 +1,6 @@
 //! All prices may be wrong by a row's printed percentage, and not by one percent more: each rival
 //! is tried at the prices that are worst against it.
 
-ghost use Rattle.std.specs.Prelude.{◌≡◌};
-ghost use Rattle.tomex_prices.specs.Prices.{prices_of};
-ghost use Rattle.tomex_row_runs.specs.StudyFront.{all_rows};
-
 use super::random::Random;
 use super::{by_hand, holds_for, surveyed};
 use std::alloc::Global;
@@ -13,7 +9,7 @@ use tomex_config::Config;
 use tomex_pareto::FrontRow;
 use tomex_prices::{Price, percent, prices};
 use tomex_rvdec::{PoolId, UnitId};
-use tomex_study::Study;
+use tomex_study::{Study, Surveyed};
 
 /// The costs of a row and a rival if each price is multiplied by `up` if the row pays it more
 /// often, else by `down`.
@@ -126,21 +122,12 @@ fn is_greatest(
 }
 
 /// True if the printed percentage of each row of a front is the greatest one.
-fn are_greatest(
-    alloc: Global,
-    study: &Study,
-    rows: &[FrontRow],
-    front: &[FrontRow],
-) -> Result<bool, Fail>
-    requires rows { rows.now ≡ all_rows study.now }
-{
+fn are_greatest(alloc: Global, surveyed: &Surveyed<'_>) -> Result<bool, Fail> {
+    let study = surveyed.study();
     let plain = by_hand::all_rows(alloc, study)?;
     let all = prices(alloc, study)?;
-    for row in front {
-        if row.row >= study.rows().len() {
-            return Ok(false);
-        }
-        let percent = percent(study, all.as_slice(), rows, *row);
+    for row in surveyed.front() {
+        let percent = percent(surveyed, all.as_slice(), *row);
         if !is_greatest(study, plain.as_slice(), *row, percent)? {
             return Ok(false);
         }
@@ -153,8 +140,8 @@ fn all_prices_may_be_that_wrong(rt: HostRuntime) -> Result<(), Fail> {
     let mut random = Random::new(362436069);
     for turn in 0..10u32 {
         let study = random.study(rt.alloc())?;
-        let survey = surveyed(&rt, rt.alloc(), &study, 2)?;
-        let is_so = are_greatest(rt.alloc(), &study, survey.rows(), survey.front())?;
+        let surveyed = surveyed(&rt, rt.alloc(), &study, 2)?;
+        let is_so = are_greatest(rt.alloc(), &surveyed)?;
         holds_for(turn, is_so)?;
     }
     Ok(())

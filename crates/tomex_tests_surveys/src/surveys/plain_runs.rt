@@ -1,16 +1,12 @@
 //! A survey's totals, rows and front are those of plain runs of each program on each row.
 
-ghost use Rattle.std.specs.Prelude.{◌≡◌};
-ghost use Rattle.tomex_survey.specs.Totals.{totals_of};
-
 use super::random::Random;
 use super::{by_hand, holds_for, surveyed};
 use std::alloc::{AllocError, Global};
 use std::test::Fail;
 use std::thread::Threads;
 use tomex_pareto::FrontRow;
-use tomex_study::Study;
-use tomex_survey::Survey;
+use tomex_study::{Study, Surveyed};
 
 /// The results of plain runs of a study's programs.
 #[derive(Drop)]
@@ -37,21 +33,19 @@ impl PlainRuns {
         })
     }
 
-    /// True if a survey has these totals, rows and front.
-    fn are_of(&self, totals: &[u64], survey: &Survey) -> bool {
+    /// True if what was surveyed has these totals, rows and front.
+    fn are_of(&self, totals: &[u64], surveyed: &Surveyed<'_>) -> bool {
         self.totals.as_slice() == totals
-            && self.rows.as_slice() == survey.rows()
-            && self.front.as_slice() == survey.front()
+            && self.rows.as_slice() == surveyed.rows()
+            && self.front.as_slice() == surveyed.front()
     }
 }
 
 /// The totals of a survey, row after row.
-fn totals_in(alloc: Global, study: &Study, survey: &Survey) -> Result<Vec<u64>, AllocError>
-    requires { survey.now.totals ≡ totals_of study.now }
-{
+fn totals_in(alloc: Global, surveyed: &Surveyed<'_>) -> Result<Vec<u64>, AllocError> {
     let mut totals = Vec::new(alloc);
-    for row in 0..study.rows().len() {
-        totals.extend_from_slice(survey.totals(row))?;
+    for row in surveyed.rows() {
+        totals.extend_from_slice(surveyed.totals(row.row))?;
     }
     Ok(totals)
 }
@@ -64,9 +58,9 @@ fn finds_these<R: Threads + Sync>(
     plain: &PlainRuns,
     workers: usize,
 ) -> Result<bool, Fail> {
-    let survey = surveyed(rt, alloc, study, workers)?;
-    let totals = totals_in(alloc, study, &survey)?;
-    Ok(plain.are_of(totals.as_slice(), &survey))
+    let surveyed = surveyed(rt, alloc, study, workers)?;
+    let totals = totals_in(alloc, &surveyed)?;
+    Ok(plain.are_of(totals.as_slice(), &surveyed))
 }
 
 #[test]

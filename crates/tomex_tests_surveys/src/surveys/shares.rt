@@ -2,9 +2,6 @@
 //! stays on the front if the shares add up to no more than the whole, and may leave it if they add
 //! up to more.
 
-ghost use Rattle.std.specs.Prelude.{◌≡◌};
-ghost use Rattle.tomex_row_runs.specs.StudyFront.{all_rows, front_of_study};
-
 use super::random::Random;
 use super::{by_hand, holds_for, surveyed};
 use std::alloc::Global;
@@ -13,7 +10,7 @@ use tomex_config::Config;
 use tomex_pareto::FrontRow;
 use tomex_prices::{Price, PriceRange, interval_of, prices, rows_with};
 use tomex_rvdec::{PoolId, UnitId};
-use tomex_study::Study;
+use tomex_study::{Study, Surveyed};
 
 /// A price, and its value after a move.
 type Moved = (Price, u64);
@@ -80,21 +77,17 @@ fn moved_by(stated: u64, range: PriceRange, up: bool, percent: u64) -> u64 {
 /// The intervals of a row, one for each price of the study.
 fn ranges_of(
     alloc: Global,
-    study: &Study,
-    rows: &[FrontRow],
-    front: &[FrontRow],
+    surveyed: &Surveyed<'_>,
     place: usize,
-) -> Result<Vec<(Price, PriceRange)>, Fail>
-    requires rows { rows.now ≡ all_rows study.now }
-    requires front { front.now ≡ front_of_study study.now }
-{
+) -> Result<Vec<(Price, PriceRange)>, Fail> {
+    let study = surveyed.study();
     let mut ranges = Vec::new(alloc);
     let all = prices(alloc, study)?;
     for price in &all {
-        let apart = rows_with(alloc, study, rows, *price)?;
-        for (number, row) in front.iter().enumerate() {
+        let priced = rows_with(alloc, surveyed, *price)?;
+        for (number, row) in surveyed.front().iter().enumerate() {
             if number == place {
-                ranges.push((*price, interval_of(study, *price, apart.as_slice(), *row)))?;
+                ranges.push((*price, interval_of(study, *price, priced.as_slice(), *row)))?;
             }
         }
     }
@@ -146,18 +139,14 @@ fn leaves(
 /// at most ten times the whole.
 fn all_leaves(
     alloc: Global,
-    study: &Study,
-    rows: &[FrontRow],
-    front: &[FrontRow],
+    surveyed: &Surveyed<'_>,
     random: &mut Random,
-) -> Result<[u64; 2], Fail>
-    requires rows { rows.now ≡ all_rows study.now }
-    requires front { front.now ≡ front_of_study study.now }
-{
+) -> Result<[u64; 2], Fail> {
+    let study = surveyed.study();
     let plain = by_hand::all_rows(alloc, study)?;
     let mut counts = [0u64; 2];
-    for (place, row) in front.iter().enumerate() {
-        let ranges = ranges_of(alloc, study, rows, front, place)?;
+    for (place, row) in surveyed.front().iter().enumerate() {
+        let ranges = ranges_of(alloc, surveyed, place)?;
         for (count, percent) in [100u64, 1_000].iter().enumerate() {
             let left = leaves(
                 alloc,
@@ -180,14 +169,8 @@ fn shares_of_the_ways_add_up(rt: HostRuntime) -> Result<(), Fail> {
     let mut beyond = 0u64;
     for turn in 0..6u32 {
         let study = random.study(rt.alloc())?;
-        let survey = surveyed(&rt, rt.alloc(), &study, 2)?;
-        let [within, more] = all_leaves(
-            rt.alloc(),
-            &study,
-            survey.rows(),
-            survey.front(),
-            &mut random,
-        )?;
+        let surveyed = surveyed(&rt, rt.alloc(), &study, 2)?;
+        let [within, more] = all_leaves(rt.alloc(), &surveyed, &mut random)?;
         holds_for(turn, within == 0)?;
         beyond = beyond.saturating_add(more);
     }

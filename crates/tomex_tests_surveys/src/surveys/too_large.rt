@@ -26,8 +26,8 @@ fn equals(alloc: Global, count: u32) -> Result<Study, Fail> {
 /// The number of lines in the table of this number of equal rows; `None` if it is too large.
 fn lines<R: Threads + Sync>(rt: &R, alloc: Global, count: u32) -> Result<Option<usize>, Fail> {
     let study = equals(alloc, count)?;
-    let survey = surveyed(rt, alloc, &study, 2)?;
-    match prices_table(alloc, alloc, &study, survey.rows(), survey.front()) {
+    let surveyed = surveyed(rt, alloc, &study, 2)?;
+    match prices_table(alloc, alloc, &surveyed) {
         Ok(text) => Ok(Some(text.iter().filter(|byte| **byte == b'\n').count())),
         Err(PricesError::TooLarge) => Ok(None),
         Err(error) => Err(error)?,

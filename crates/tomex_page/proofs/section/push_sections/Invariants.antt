@@ -6,5 +6,5 @@ use Rattle.tomex_page.proofs.section.push_sections.Given as goal
 
 abbrev pub invariant-loop-place : goal.invariant-loop-place
 invariant-loop-place g l =
-    string_bytes l.text ++ row_sections l.study l.shown l.before (drop l.place l.shown)
-    ≡ string_bytes l.fn.text ++ row_sections l.study l.shown None l.shown
+    string_bytes l.text ++ row_sections l.surveyed l.shown l.before (drop l.place l.shown)
+    ≡ string_bytes l.fn.text ++ row_sections l.surveyed l.shown None l.shown

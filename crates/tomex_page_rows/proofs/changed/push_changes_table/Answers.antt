@@ -2,28 +2,18 @@
 use Rattle.std.proofs.Common.{◌∙◌, ◌<◌, ap, subst, sym, length, take, All}
 use Rattle.std.proofs.lemmas.List.Elements.{All-get_or, All-take}
 use Rattle.std.proofs.lemmas.Result.{on_ok_weaker}
-use Rattle.tomex_pareto.specs.declared.front_row.FrontRow.{FrontRow}
 use Rattle.tomex_csv_text.proofs.Pieces.{◌▸◌, last_piece}
-use Rattle.tomex_worth.proofs.Rows.{changes_within, rows_within}
 use Rattle.tomex_worth.specs.declared.changes.Change.{Change}
 use Rattle.tomex_page_rows.specs.Changed.{changes_table}
 use Rattle.tomex_page_tables.specs.Pieces.{most_lines}
 use Rattle.tomex_page_rows.proofs.changed.push_changes_table.Goals as goal
 
-pub changes_of-requires-clause-within : goal.changes_of-requires-clause-within
-changes_of-requires-clause-within g c =
-    let IsRow : FrontRow → Type 0 = λ r. r.row < length c.args.study.now.rows in
-    λ k d within. All-get_or IsRow _ k d within
-    (subst (All IsRow) (sym c.requires.rows) (rows_within c.args.study.now c.keeps_limits.ensures))
-
 pub push_change_rows-requires : goal.push_change_rows-requires
 push_change_rows-requires g c =
-    let IsRow : Change → Type 0 = λ x. x.row.row < length c.args.study.now.rows in
-    let are = c.first_lines.ensures ∙ ap (take most_lines) (c.as_slice-lines.ensures.value ∙
-    c.in_ok-changes.ensures.changes) in
+    let IsRow : Change → Type 0 = λ x. x.row.row < length c.args.surveyed.now.rows in
+    let are = c.first_lines.ensures ∙ ap (take most_lines) c.as_slice-lines.ensures.value in
     λ k d within. All-get_or IsRow _ k d within
-    (subst (All IsRow) (sym are)
-    (All-take IsRow most_lines _ (changes_within c.args.study.now c.args.own c.keeps_limits.ensures)))
+    (subst (All IsRow) (sym are) (All-take IsRow most_lines _ c.in_ok-changes.ensures.within))
 
 pub returns : goal.returns
 unfolding changes_table

@@ -5,5 +5,5 @@ use Rattle.tomex_page_rows.proofs.stays.all_ranges.Given as goal
 
 abbrev pub invariant-loop-price : goal.invariant-loop-price
 invariant-loop-price g l =
-    l.all.items ++ map (ranges_of l.study l.shown) (drop l.price-index l.prices)
-    ≡ map (ranges_of l.study l.shown) l.prices
+    l.all.items ++ map (ranges_of l.surveyed l.shown) (drop l.price-index l.prices)
+    ≡ map (ranges_of l.surveyed l.shown) l.prices

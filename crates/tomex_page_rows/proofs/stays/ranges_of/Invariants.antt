@@ -5,5 +5,5 @@ use Rattle.tomex_page_rows.proofs.stays.ranges_of.Given as goal
 
 abbrev pub invariant-loop-row : goal.invariant-loop-row
 invariant-loop-row g l =
-    l.ranges.items ++ map (interval_of l.study l.price) (drop l.row-index l.shown)
-    ≡ map (interval_of l.study l.price) l.shown
+    l.ranges.items ++ map (interval_of l.surveyed l.price) (drop l.row-index l.shown)
+    ≡ map (interval_of l.surveyed l.price) l.shown

@@ -13,10 +13,11 @@ pub returns : goal.returns
 unfolding front_cells
 returns g c =
     let totals : flat_map number_cell c.own_totals.result.now
-    ≡ flat_map (total_cell (row_of c.args.study.now c.args.row)) (own_programs c.args.study.now) =
+    ≡ flat_map (total_cell (row_of c.args.surveyed.now c.args.row)) (own_programs c.args.surveyed.now) =
     ap (flat_map number_cell) c.own_totals.ensures
-    ∙ cells_of_totals c.args.study.now c.args.row (own_programs c.args.study.now) in
+    ∙ cells_of_totals c.args.surveyed.now c.args.row (own_programs c.args.surveyed.now) in
+    let here = rw c.study.ensures at c.row_of-here.ensures in
     on_ok_weaker c.push_numbers.result (λ last.
-    ((rw c.row_of-here.ensures at c.in_ok-push_own_cells.ensures)
-    ▸ (rw (c.row_of-here.ensures, c.requires.settings) at c.in_ok-push_setting_cells.ensures) ▸ last_piece last).is)
+    ((rw here at c.in_ok-push_own_cells.ensures)
+    ▸ (rw (here, c.requires.settings) at c.in_ok-push_setting_cells.ensures) ▸ last_piece last).is)
     (rw totals at c.push_numbers.ensures)

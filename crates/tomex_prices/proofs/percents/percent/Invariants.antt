@@ -6,6 +6,6 @@ use Rattle.tomex_prices.proofs.percents.percent.Given as goal
 
 abbrev pub invariant-loop-rival : goal.invariant-loop-rival
 invariant-loop-rival g l = record {
-  least : min l.least (least_percent l.study l.row (drop l.rival-index l.rows)) ≡ least_percent l.study l.row l.rows;
+  least : min l.least (least_percent l.surveyed l.row (drop l.rival-index l.rival-items)) ≡ least_percent l.surveyed l.row l.rival-items;
   few : l.least ≤ 100;
 }

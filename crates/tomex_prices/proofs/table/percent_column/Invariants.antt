@@ -7,6 +7,6 @@ use Rattle.tomex_prices.proofs.table.percent_column.Given as goal
 abbrev pub invariant-loop-row : goal.invariant-loop-row
 invariant-loop-row g l = record {
   name : l.column.name ≡ codes "all";
-  entries : l.column.entries ++ map (λ r. percent_text (percent_of l.study r)) (drop l.row-index l.front)
-      ≡ codes "-" ∷ map (λ r. percent_text (percent_of l.study r)) l.front;
+  entries : l.column.entries ++ map (λ r. percent_text (percent_of l.surveyed r)) (drop l.row-index l.row-items)
+      ≡ codes "-" ∷ map (λ r. percent_text (percent_of l.surveyed r)) l.row-items;
 }

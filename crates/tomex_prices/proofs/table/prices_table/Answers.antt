@@ -1,6 +1,8 @@
 -- The columns are those of the table, and each has an entry for each row of the front and one more.
-use Rattle.std.proofs.Common.{◌≡◌, ◌∙◌, ap, add-one, length, subst, sym, List, ◌++◌}
+use Rattle.std.proofs.Common.{◌≡◌, ◌∙◌, ap, add-one, length, subst, sym, List, ◌+◌, ◌++◌}
 use Rattle.std.specs.Prelude.{All}
+use Rattle.tomex_pareto.specs.declared.front_row.FrontRow.{FrontRow}
+use Rattle.tomex_study.specs.StudyFront.{front_of_study}
 use Rattle.tomex_tables.specs.Table.{TableColumn}
 use Rattle.tomex_prices.specs.PricesTable.{columns_of, prices_table_of}
 use Rattle.tomex_prices.proofs.Columns.{HasEntries, columns_long}
@@ -8,22 +10,23 @@ use Rattle.tomex_prices.proofs.table.prices_table.Goals as goal
 
 pub table_of-requires : goal.table_of-requires
 table_of-requires g c =
-    let s = c.args.study.now in
-    let front = c.args.front.now in
+    let s = c.args.surveyed.now in
+    let front = front_of_study s in
     let made : c.as_slice.result.now ≡ columns_of s front =
     c.as_slice.ensures.value
     ∙ (c.in_ok-push_columns.ensures
     ∙ ap (λ (cs : List TableColumn). cs ++ columns_of s front) c.new-columns.ensures.items) in
     let long = subst (All (HasEntries front)) (sym made) (columns_long s front) in
-    λ k d within. long k d within ∙ sym (add-one (length front))
+    λ k d within. long k d within ∙ (sym (add-one (length front))
+    ∙ ap (λ (rs : List FrontRow). length rs + 1) (sym c.front.ensures.value))
 
 pub returns-clause-text : goal.returns-clause-text
 unfolding prices_table_of
 returns-clause-text g c =
-    let s = c.args.study.now in
-    let front = c.args.front.now in
+    let s = c.args.surveyed.now in
+    let front = front_of_study s in
     let made : c.as_slice.result.now ≡ columns_of s front =
     c.as_slice.ensures.value
     ∙ (c.in_ok-push_columns.ensures
     ∙ ap (λ (cs : List TableColumn). cs ++ columns_of s front) c.new-columns.ensures.items) in
-    rw (made, add-one, c.requires.front) at c.in_ok-table_of.ensures
+    rw (made, add-one, c.front.ensures.value) at c.in_ok-table_of.ensures

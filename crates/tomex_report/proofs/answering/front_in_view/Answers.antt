@@ -1,5 +1,5 @@
 -- The front's rows are rows of the study.
-use Rattle.tomex_row_runs.proofs.StudyFronts.{study_rows}
+use Rattle.tomex_study.proofs.StudyFronts.{study_rows}
 use Rattle.tomex_report.proofs.answering.front_in_view.Goals as goal
 
 pub replay-requires-clause-rows : goal.replay-requires-clause-rows

@@ -3,12 +3,12 @@ use Rattle.std.proofs.Common.{◌≡◌, ◌++◌, take}
 use Rattle.std.specs.List.{flat_map}
 use Rattle.tomex_csv_text.specs.Csv.{IsReady, text_written}
 use Rattle.tomex_rows.specs.RowsReport.{row_record}
-use Rattle.tomex_row_runs.specs.StudyFront.{all_rows}
+use Rattle.tomex_study.specs.StudyFront.{all_rows}
 use Rattle.tomex_rows.proofs.report.put_rows.Given as goal
 
-abbrev pub invariant-loop-place : goal.invariant-loop-place
-invariant-loop-place g l = record {
+abbrev pub invariant-loop-row : goal.invariant-loop-row
+invariant-loop-row g l = record {
   ready : IsReady l.writer;
   text : text_written (λ v. v.items) l.writer
-      ≡ text_written (λ v. v.items) l.fn.writer ++ flat_map (row_record l.study) (take l.place (all_rows l.study));
+      ≡ text_written (λ v. v.items) l.fn.writer ++ flat_map (row_record l.surveyed) (take l.row-index (all_rows l.surveyed));
 }

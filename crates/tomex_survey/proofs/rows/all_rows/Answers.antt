@@ -1,10 +1,11 @@
 -- One more row, whose cycles are the weighted sum of its totals.
 use Rattle.std.proofs.Common.{◌≡◌, ◌<◌, ◌≤◌, ◌∙◌, ap, arith, get_or, length, subst, sym, take, All, List, ℕ, []}
 use Rattle.tomex_config.specs.Configuration.{plain}
-use Rattle.tomex_row_runs.specs.Cycles.{cycles_on, totals_on}
+use Rattle.tomex_study.specs.Cycles.{cycles_on, totals_on}
 use Rattle.tomex_study.specs.Program.{IsProgram, Workload}
-use Rattle.tomex_workers.proofs.Rows.{as_many_rows}
-use Rattle.tomex_survey.proofs.Weighing.{as_many_totals, last_row, no_row, one_row, totals_at}
+use Rattle.tomex_study.proofs.Rows.{as_many_rows}
+use Rattle.tomex_survey.proofs.Weighing.{last_row, no_row, one_row}
+use Rattle.tomex_survey.proofs.Weighing.{as_many_totals, totals_at}
 use Rattle.tomex_survey.proofs.rows.all_rows.Goals as goal
 
 pub loop-row-init : goal.loop-row-init

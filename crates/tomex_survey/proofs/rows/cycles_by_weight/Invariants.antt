@@ -1,7 +1,7 @@
 -- The cycles of the programs so far.
 use Rattle.std.proofs.Common.{◌≡◌, take}
 use Rattle.tomex_config.specs.Configuration.{Configuration}
-use Rattle.tomex_row_runs.specs.Cycles.{cycles_on, totals_on}
+use Rattle.tomex_study.specs.Cycles.{cycles_on, totals_on}
 use Rattle.tomex_survey.proofs.rows.cycles_by_weight.Given as goal
 
 abbrev pub invariant-loop-place : goal.invariant-loop-place

@@ -2,7 +2,7 @@
 use Rattle.std.proofs.Common.{◌<◌, ◌∙◌, arith, length, take}
 use Rattle.std.proofs.lemmas.Option.{slice_get-get_or}
 use Rattle.tomex_config.specs.Configuration.{plain}
-use Rattle.tomex_row_runs.specs.Cycles.{totals_on}
+use Rattle.tomex_study.specs.Cycles.{totals_on}
 use Rattle.tomex_survey.proofs.Neighbours.{all_in_stretch, none_in_stretch, one_in_stretch}
 use Rattle.tomex_survey.proofs.totals.totals_in_stretch.Goals as goal
 

@@ -1,6 +1,6 @@
 -- The totals on the rows so far.
 use Rattle.std.proofs.Common.{◌≡◌, ◌-◌, drop, length, map, take}
-use Rattle.tomex_row_runs.specs.Cycles.{totals_on}
+use Rattle.tomex_study.specs.Cycles.{totals_on}
 use Rattle.tomex_survey.proofs.totals.totals_in_stretch.Given as goal
 
 abbrev pub invariant-loop-row : goal.invariant-loop-row

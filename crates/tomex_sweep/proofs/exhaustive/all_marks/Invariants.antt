@@ -1,6 +1,6 @@
 -- The configurations so far are finished.
 use Rattle.std.proofs.Common.{◌≡◌, map, take}
-use Rattle.tomex_row_runs.specs.Cycles.{cycles_on}
+use Rattle.tomex_study.specs.Cycles.{cycles_on}
 use Rattle.tomex_board.specs.declared.mark.Mark.TheVariants.{Finished}
 use Rattle.tomex_sweep.proofs.exhaustive.all_marks.Given as goal
 

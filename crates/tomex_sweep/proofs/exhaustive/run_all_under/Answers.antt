@@ -7,7 +7,7 @@ returns-clause-front g c =
     finished_front c.args.study.now _ _ _ c.keeps_limits.ensures c.in_ok-marks.ensures c.as_slice.ensures.value
     c.costs.ensures.value c.in_ok-front.ensures
 
-pub front-requires : goal.front-requires
-front-requires g c =
+pub front_of_finished-requires : goal.front_of_finished-requires
+front_of_finished-requires g c =
     as_many_marks c.args.study.now _ _ _ c.keeps_limits.ensures c.in_ok-marks.ensures c.as_slice.ensures.value
     c.costs.ensures.value

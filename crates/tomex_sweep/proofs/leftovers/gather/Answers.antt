@@ -3,7 +3,7 @@ use Rattle.std.proofs.Common.{◌≡◌, ◌<◌, ◌≤◌, ◌∙◌, length, 
 use Rattle.tomex_config.specs.Configuration.{Configuration}
 use Rattle.tomex_lanes.specs.Parts.{is_closed}
 use Rattle.tomex_sweep.proofs.Gathered.{all_gathered, none_gathered, one_closed, one_run, read_mark, run_cycles}
-use Rattle.tomex_workers.proofs.Rows.{as_many_rows}
+use Rattle.tomex_study.proofs.Rows.{as_many_rows}
 use Rattle.tomex_sweep.proofs.leftovers.gather.Goals as goal
 
 pub loop-row-init : goal.loop-row-init

@@ -1,7 +1,7 @@
 -- The allocator frees what its inner one does; the front's rows are rows of the study.
 use Rattle.std.proofs.Common.{rules}
 use Rattle.std.proofs.Crossing.{frees}
-use Rattle.tomex_row_runs.proofs.StudyFronts.{study_rows}
+use Rattle.tomex_study.proofs.StudyFronts.{study_rows}
 use Rattle.tomex_tests_memory.proofs.explorations.report_in.Goals as goal
 
 pub explore-requires-frees-A-Allocator : goal.explore-requires-frees-A-Allocator

@@ -6,5 +6,5 @@ use Rattle.tomex_worth.proofs.changes.changes_of.Given as goal
 
 abbrev pub invariant-loop-place : goal.invariant-loop-place
 invariant-loop-place g l =
-    l.changes.items ++ flat_map (changes_at l.study l.own) (range_with_len l.place (13 - l.place))
-    ≡ flat_map (changes_at l.study l.own) (range_with_len 0 13)
+    l.changes.items ++ flat_map (changes_at l.surveyed l.own) (range_with_len l.place (13 - l.place))
+    ≡ flat_map (changes_at l.surveyed l.own) (range_with_len 0 13)

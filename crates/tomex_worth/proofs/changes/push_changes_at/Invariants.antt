@@ -1,12 +1,13 @@
 -- The changes so far, and the remaining rows.
 use Rattle.std.proofs.Common.{◌≡◌, ◌++◌, drop, map}
 use Rattle.std.specs.List.{filter}
-use Rattle.tomex_worth.specs.Changes.{change, config_at, differ_at, part_at}
+use Rattle.tomex_worth.specs.Changes.{change, differ_at, part_at}
+use Rattle.tomex_study.specs.Study.{config_at}
 use Rattle.tomex_worth.proofs.changes.push_changes_at.Given as goal
 
 abbrev pub invariant-loop-row : goal.invariant-loop-row
 invariant-loop-row g l =
     l.changes.items ++ map (change (part_at l.place))
-    (filter (λ r. differ_at l.place (config_at l.study l.own.row) (config_at l.study r.row)) (drop l.row-index l.rows))
+    (filter (λ r. differ_at l.place (config_at l.surveyed l.fn.own.row) (config_at l.surveyed r.row)) (drop l.row-index l.row-items))
     ≡ l.fn.changes.items ++ map (change (part_at l.place))
-    (filter (λ r. differ_at l.place (config_at l.study l.own.row) (config_at l.study r.row)) l.rows)
+    (filter (λ r. differ_at l.place (config_at l.surveyed l.fn.own.row) (config_at l.surveyed r.row)) l.row-items)

@@ -7,7 +7,7 @@ abbrev pub invariant-loop-change : goal.invariant-loop-change
 invariant-loop-change g l = record {
   name : l.column.name ≡ name_under l.heading;
   entries : l.column.entries
-      ++ map (text_under l.study l.machine.own l.heading) (drop l.change-index l.machine.changes.now)
-      ≡ own_under l.study l.machine.own l.heading
-      ∷ map (text_under l.study l.machine.own l.heading) l.machine.changes.now;
+      ++ map (text_under l.surveyed l.machine.own l.heading) (drop l.change-index l.machine.changes.now)
+      ≡ own_under l.surveyed l.machine.own l.heading
+      ∷ map (text_under l.surveyed l.machine.own l.heading) l.machine.changes.now;
 }

@@ -5,5 +5,5 @@ use Rattle.tomex_worth.proofs.table.push_each_program.Given as goal
 
 abbrev pub invariant-loop-place : goal.invariant-loop-place
 invariant-loop-place g l =
-    l.columns.items ++ map (program_column l.study l.machine.own) (drop l.place l.study.programs)
-    ≡ l.fn.columns.items ++ map (program_column l.study l.machine.own) l.study.programs
+    l.columns.items ++ map (program_column l.surveyed l.machine.own) (drop l.place l.surveyed.programs)
+    ≡ l.fn.columns.items ++ map (program_column l.surveyed l.machine.own) l.surveyed.programs

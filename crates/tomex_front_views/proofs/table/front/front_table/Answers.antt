@@ -5,7 +5,7 @@ use Rattle.std.proofs.lemmas.List.Elements.{All-get_or}
 use Rattle.std.proofs.lemmas.Result.{IfOk-weaker}
 use Rattle.std.specs.Prelude.{All}
 use Rattle.tomex_pareto.specs.declared.front_row.FrontRow.{FrontRow}
-use Rattle.tomex_row_runs.proofs.StudyFronts.{study_rows}
+use Rattle.tomex_study.proofs.StudyFronts.{study_rows}
 use Rattle.tomex_front_views.specs.FrontTable.{front_table_of}
 use Rattle.tomex_front_views.proofs.Tables.{HasEntries, all_columns, columns_long}
 use Rattle.tomex_front_views.proofs.table.front.front_table.Goals as goal

@@ -1,7 +1,7 @@
 -- All the cycles that are made are the row's; the last look is before the end.
 use Rattle.std.proofs.Common.{◌≡◌, ◌≤◌, ◌∙◌, arith}
 use Rattle.std.specs.Prelude.{sum}
-use Rattle.tomex_row_runs.specs.Cycles.{plain_on}
+use Rattle.tomex_row_runs.specs.Looks.{plain_on}
 use Rattle.tomex_row_runs.proofs.Looking.{over_early, row_is, seen_late, sum_small}
 use Rattle.tomex_row_runs.proofs.Totals.{plain_sum}
 use Rattle.tomex_row_runs.proofs.known_row.KnownRow.of.Goals as goal

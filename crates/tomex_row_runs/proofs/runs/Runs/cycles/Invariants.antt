@@ -1,6 +1,6 @@
 -- The cycles of the programs so far.
 use Rattle.std.proofs.Common.{◌≡◌, take}
-use Rattle.tomex_row_runs.specs.Cycles.{cycles_on}
+use Rattle.tomex_study.specs.Cycles.{cycles_on}
 use Rattle.tomex_row_runs.proofs.runs.Runs.cycles.Given as goal
 
 abbrev pub invariant-loop-program : goal.invariant-loop-program

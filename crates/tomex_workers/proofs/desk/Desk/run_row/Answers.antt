@@ -2,7 +2,7 @@
 use Rattle.std.proofs.Common.{◌≡◌, ◌<◌, ◌∙◌, ap, sym, subst, take, List, length}
 use Rattle.tomex_config.specs.Configuration.{Configuration}
 use Rattle.tomex_study.specs.Program.{Workload}
-use Rattle.tomex_row_runs.specs.Cycles.{totals_on}
+use Rattle.tomex_study.specs.Cycles.{totals_on}
 use Rattle.tomex_workers.proofs.Closing.{continues_itself, row_read, row_there, totals_there}
 use Rattle.tomex_workers.proofs.desk.Desk.run_row.Goals as goal
 
