@@ -5,11 +5,11 @@ use Rattle.std.specs.Prelude.{◌≡◌, ◌++◌, ℕ, List, [], ◌∷◌, cod
 use Rattle.tomex_cases.specs.declared.archive.Part.{Part}
 
 -- The header line of a name.
-unfoldable pub header : List ℕ → List ℕ
+abbrev pub header : List ℕ → List ℕ
 header name = codes "-- " ++ name ++ codes " --\n"
 
 -- A part's header, and its lines.
-unfoldable pub part_text : Part → List ℕ
+abbrev pub part_text : Part → List ℕ
 part_text part = header part.name.now ++ part.lines.now
 
 -- The parts, one after the other.

@@ -42,7 +42,11 @@ impl Case {
     /// True if the case has a file of words, and a word is one of them.
     pub fn names(&self, file: &str, word: &str) -> Result<bool> {
         match self.file(file) {
-            Some(bytes) => Ok(from_utf8(bytes)?.split_whitespace().any(|found| found == word)),
+            Some(bytes) => Ok(
+                from_utf8(bytes)?
+                    .split_whitespace()
+                    .any(|found| found == word),
+            ),
             None => Ok(false),
         }
     }

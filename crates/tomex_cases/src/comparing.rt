@@ -39,7 +39,12 @@ fn shown(alloc: Global, line: &[u8]) -> Result<String, AllocError> {
 }
 
 /// How a stream of a case's run differs from what it wants, if it does.
-fn stream_difference(alloc: Global, case: &Case, stream: &str, got: &[u8]) -> Result<Option<String>> {
+fn stream_difference(
+    alloc: Global,
+    case: &Case,
+    stream: &str,
+    got: &[u8],
+) -> Result<Option<String>> {
     let wanted = case.required(stream)?;
     let is_loose = case.names("loose", stream)?;
     if is_loose && !got.is_empty() {
@@ -61,7 +66,9 @@ fn stream_difference(alloc: Global, case: &Case, stream: &str, got: &[u8]) -> Re
 
 /// How the status of a case's run differs from what it wants, if it does.
 fn status_difference(alloc: Global, case: &Case, got: u8) -> Result<Option<String>> {
-    let wanted = from_utf8(case.required("status")?)?.trim_end().parse::<u8>()?;
+    let wanted = from_utf8(case.required("status")?)?
+        .trim_end()
+        .parse::<u8>()?;
     if wanted == got {
         return Ok(None);
     }

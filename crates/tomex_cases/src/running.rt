@@ -37,8 +37,19 @@ fn outcome_in<R: AllocGlobal + Threads + Wait + Sync>(rt: &R, case: &Case) -> Re
     for file in &case.files {
         files.push((file.name.as_str(), file.bytes.as_slice()))?;
     }
-    let room = if case.names("full", "stdout")? { 0 } else { ROOM };
-    Ok(outcome_of(rt, alloc, files.as_slice(), words.as_slice(), &NoMeter, room)?)
+    let room = if case.names("full", "stdout")? {
+        0
+    } else {
+        ROOM
+    };
+    Ok(outcome_of(
+        rt,
+        alloc,
+        files.as_slice(),
+        words.as_slice(),
+        &NoMeter,
+        room,
+    )?)
 }
 
 /// Runs a case, prints how it differs if it does, and counts it.
@@ -70,23 +81,37 @@ fn command_of(name: &str) -> &str {
 /// True if a case is to be run: if no words are given, or its name or its command is one of them.
 fn is_asked(words: &[String], case: &str) -> bool {
     words.is_empty()
-        || words
-            .iter()
-            .any(|word| word.as_str() == case || word.as_str() == command_of(case))
+        || words.iter().any(|word| word.as_str() == case || word.as_str() == command_of(case))
 }
 
 /// Refuses words that name nothing among a command's cases, and cases that are not the command's.
 fn check_names(command: &str, cases: &[Case], words: &[String]) -> Result<()> {
     for case in cases {
         let name = case.name.as_str();
-        ensure!(command_of(name) == command, "{name} is in the archive of {command}");
+        ensure!(
+            command_of(name) == command,
+            "{name} is in the archive of {command}"
+        );
     }
     for word in words {
         let word = word.as_str();
         let is_named = word == command || cases.iter().any(|case| case.name.as_str() == word);
-        ensure!(is_named || command_of(word) != command, "there is no case {word}");
+        ensure!(
+            is_named || command_of(word) != command,
+            "there is no case {word}"
+        );
     }
     Ok(())
+}
+
+/// The archive of a command: in this folder, or in its folder data if this is that of the crate.
+fn archive_of(rt: &(impl AllocGlobal + Files), command: &str) -> Result<Vec<u8>> {
+    let name = format!(in rt.alloc(); "{command}.txtar")?;
+    if let Ok(text) = fs::read(rt, name.as_str()) {
+        return Ok(text);
+    }
+    let name = format!(in rt.alloc(); "data/{name}")?;
+    Ok(fs::read(rt, name.as_str()).context(format_args!("{name}"))?)
 }
 
 /// Runs the cases of a command that are asked for.
@@ -96,9 +121,10 @@ fn run_archive<R: AllocGlobal + Threads + Wait + Sync + Print + Files>(
     words: &[String],
     tally: &mut Tally,
 ) -> Result<()> {
-    let archive = format!(in rt.alloc(); "{command}.txtar")?;
-    let text = fs::read(rt, archive.as_str()).context(format_args!("{archive}"))?;
-    let cases = cases_of(rt.alloc(), text.as_slice()).context(format_args!("{archive}"))?;
+    let text = archive_of(rt, command)?;
+    let cases = cases_of(rt.alloc(), text.as_slice()).context(format_args!(
+        "the archive of {command}"
+    ))?;
     check_names(command, cases.as_slice(), words)?;
     for case in &cases {
         if is_asked(words, case.name.as_str()) {
@@ -124,7 +150,10 @@ pub fn run_cases<R: AllocGlobal + Threads + Wait + Sync + Print + Files>(
         }
     }
     for command in &COMMANDS {
-        let is_read = words.is_empty() || words.iter().any(|word| command_of(word.as_str()) == *command);
+        let is_read = words.is_empty()
+            || words
+                .iter()
+                .any(|word| command_of(word.as_str()) == *command);
         if is_read {
             run_archive(rt, command, words, &mut tally)?;
         }
