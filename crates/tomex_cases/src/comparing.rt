@@ -14,21 +14,22 @@ struct Difference<'a> {
     got: &'a [u8],
 }
 
-/// The first lines that differ.
-fn first_difference<'a>(wanted: &'a [u8], got: &'a [u8]) -> Option<Difference<'a>> {
+/// The first lines that differ, of texts that do.
+fn first_difference<'a>(wanted: &'a [u8], got: &'a [u8]) -> Difference<'a> {
     let (mut wanted_rest, mut got_rest) = (wanted, got);
     for line in 1..u32::MAX {
         let (wanted, wanted_after) = first_line(wanted_rest);
         let (got, got_after) = first_line(got_rest);
         if wanted != got {
-            return Some(Difference { line, wanted, got });
-        }
-        if wanted.is_empty() {
-            break;
+            return Difference { line, wanted, got };
         }
         (wanted_rest, got_rest) = (wanted_after, got_after);
     }
-    None
+    Difference {
+        line: u32::MAX,
+        wanted: wanted_rest,
+        got: got_rest,
+    }
 }
 
 /// A line as it is shown: at most its first 200 bytes.
@@ -47,21 +48,17 @@ fn stream_difference(
 ) -> Result<Option<String>> {
     let wanted = case.required(stream)?;
     let is_loose = case.names("loose", stream)?;
-    if is_loose && !got.is_empty() {
-        return Ok(None);
-    }
-    if is_loose {
+    if is_loose && got.is_empty() {
         return Ok(Some(format!(in alloc; "{stream} is empty")?));
     }
-    match first_difference(wanted, got) {
-        Some(difference) => {
-            let line = difference.line;
-            let wanted = shown(alloc, difference.wanted)?;
-            let got = shown(alloc, difference.got)?;
-            Ok(Some(format!(in alloc; "{stream}, line {line}\n  wanted {wanted}\n  got    {got}")?))
-        }
-        None => Ok(None),
+    if is_loose || wanted == got {
+        return Ok(None);
     }
+    let difference = first_difference(wanted, got);
+    let line = difference.line;
+    let wanted = shown(alloc, difference.wanted)?;
+    let got = shown(alloc, difference.got)?;
+    Ok(Some(format!(in alloc; "{stream}, line {line}\n  wanted {wanted}\n  got    {got}")?))
 }
 
 /// How the status of a case's run differs from what it wants, if it does.

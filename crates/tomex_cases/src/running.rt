@@ -1,7 +1,7 @@
 //! Cases run through the whole program, and counted.
 use crate::case::{Case, cases_of};
 use crate::comparing::case_difference;
-use anyhow::{Context, Result, bail, ensure};
+use anyhow::{Context, Result, ensure};
 use std::fs;
 use std::rt::Files;
 use std::str::from_utf8;
@@ -134,27 +134,38 @@ fn run_archive<R: AllocGlobal + Threads + Wait + Sync + Print + Files>(
     Ok(())
 }
 
+/// Refuses words that begin with no command.
+fn check_commands(words: &[String]) -> Result<()> {
+    for word in words {
+        let word = word.as_str();
+        ensure!(
+            COMMANDS.contains(&command_of(word)),
+            "there are no cases of {word}"
+        );
+    }
+    Ok(())
+}
+
+/// True if cases of a command are to be run: if no words are given, or one is about it.
+fn is_read(words: &[String], command: &str) -> bool {
+    words.is_empty()
+        || words
+            .iter()
+            .any(|word| command_of(word.as_str()) == command)
+}
+
 /// Runs the cases that the words name, or all.
 pub fn run_cases<R: AllocGlobal + Threads + Wait + Sync + Print + Files>(
     rt: &R,
     words: &[String],
 ) -> Result<Tally> {
+    check_commands(words)?;
     let mut tally = Tally {
         passed: 0,
         failed: 0,
     };
-    for word in words {
-        let word = word.as_str();
-        if !COMMANDS.contains(&command_of(word)) {
-            bail!("there are no cases of {word}");
-        }
-    }
     for command in &COMMANDS {
-        let is_read = words.is_empty()
-            || words
-                .iter()
-                .any(|word| command_of(word.as_str()) == *command);
-        if is_read {
+        if is_read(words, command) {
             run_archive(rt, command, words, &mut tally)?;
         }
     }
