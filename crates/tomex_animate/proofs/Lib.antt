@@ -1,3 +1,4 @@
+pub mod Histories
 pub mod Whole
 pub mod Pages
 pub mod Runs

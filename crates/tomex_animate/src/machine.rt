@@ -1,8 +1,9 @@
 //! The machine that a page shows, and the cycles of the page.
 
-ghost use Rattle.std.specs.Prelude.{◌≡◌, ◌<◌, ◌^◌, ◌++◌, OnOk, map, string_bytes};
+ghost use Rattle.std.specs.Prelude.{◌≡◌, ◌<◌, ◌^◌, OnOk, map};
 ghost use Rattle.std.specs.List.{flat_map};
 ghost use Rattle.tomex_config.specs.Configuration.{option_of, stations_of};
+ghost use Rattle.tomex_csv_text.specs.Growth.{Appends};
 ghost use Rattle.tomex_animate.specs.Machine.{all_kinds, cycles_of, index, index_link, machine_row, machine_rows};
 ghost use Rattle.tomex_animate.specs.Machine.{machine_table, number_cell, shared_text};
 ghost use Rattle.tomex_frames.specs.Stations.{all_pools};
@@ -16,8 +17,7 @@ use tomex_snapshots::Span;
 
 /// Adds a cell for each number.
 fn push_numbers<A: Allocator>(text: &mut String<A>, values: &[u8; 6]) -> Result<(), AllocError>
-    ensures { OnOk result (string_bytes text.new
-        ≡ string_bytes text.old ++ flat_map number_cell values.now) }
+    ensures { OnOk result (Appends (flat_map number_cell values.now) text.old text.new) }
 {
     for value in values {
         let value = *value;
@@ -32,8 +32,7 @@ fn push_row<A: Allocator>(
     name: &str,
     values: &[u8; 6],
 ) -> Result<(), AllocError>
-    ensures { OnOk result (string_bytes text.new
-        ≡ string_bytes text.old ++ machine_row name.now values.now) }
+    ensures { OnOk result (Appends (machine_row name.now values.now) text.old text.new) }
 {
     write!(text, "<tr><th scope=\"row\">{name}</th>")?;
     push_numbers(text, values)?;
@@ -89,8 +88,7 @@ fn latencies(config: &Config) -> [u8; 6]
 
 #[tactic(auto, unfolding(crate::specs::Machine::machine_rows))]
 fn push_rows<A: Allocator>(text: &mut String<A>, config: &Config) -> Result<(), AllocError>
-    ensures { OnOk result (string_bytes text.new
-        ≡ string_bytes text.old ++ machine_rows config.now) }
+    ensures { OnOk result (Appends (machine_rows config.now) text.old text.new) }
 {
     push_row(text, "stations", &stations(config))?;
     push_row(text, "units", &units(config))?;
@@ -100,8 +98,7 @@ fn push_rows<A: Allocator>(text: &mut String<A>, config: &Config) -> Result<(), 
 /// Adds what all pools share.
 #[tactic(auto, unfolding(crate::specs::Machine::shared_text))]
 fn push_shared<A: Allocator>(text: &mut String<A>, buses: u8, width: u8) -> Result<(), AllocError>
-    ensures { OnOk result (string_bytes text.new
-        ≡ string_bytes text.old ++ shared_text buses width) }
+    ensures { OnOk result (Appends (shared_text buses width) text.old text.new) }
 {
     write!(
         text,
@@ -119,8 +116,7 @@ pub fn push_machine_table<A: Allocator>(
     text: &mut String<A>,
     config: &Config,
 ) -> Result<(), AllocError>
-    ensures { OnOk result (string_bytes text.new
-        ≡ string_bytes text.old ++ machine_table config.now) }
+    ensures { OnOk result (Appends (machine_table config.now) text.old text.new) }
 {
     let (head, buses, width) = (machine_head(), config.buses(), config.width());
     write!(text, "<div class=\"w\">{head}")?;
@@ -130,7 +126,7 @@ pub fn push_machine_table<A: Allocator>(
 
 #[tactic(auto, unfolding(crate::specs::Machine::index_link))]
 fn push_index_link<A: Allocator>(text: &mut String<A>, cycle: u64) -> Result<(), AllocError>
-    ensures { OnOk result (string_bytes text.new ≡ string_bytes text.old ++ index_link cycle) }
+    ensures { OnOk result (Appends (index_link cycle) text.old text.new) }
 {
     write!(text, "<a href=\"#c{cycle}\">{cycle}</a>\n")
 }
@@ -139,8 +135,7 @@ fn push_index_link<A: Allocator>(text: &mut String<A>, cycle: u64) -> Result<(),
 #[tactic(auto, unfolding(crate::specs::Machine::cycles_of))]
 fn push_index_links<A: Allocator>(text: &mut String<A>, page: Span) -> Result<(), AllocError>
     requires { page.to < 2 ^ 63 }
-    ensures { OnOk result (string_bytes text.new
-        ≡ string_bytes text.old ++ flat_map index_link (cycles_of page)) }
+    ensures { OnOk result (Appends (flat_map index_link (cycles_of page)) text.old text.new) }
 {
     let Span { from, to } = page;
     for cycle in from..=to {
@@ -153,7 +148,7 @@ fn push_index_links<A: Allocator>(text: &mut String<A>, page: Span) -> Result<()
 #[tactic(auto, unfolding(crate::specs::Machine::index))]
 pub fn push_index<A: Allocator>(text: &mut String<A>, page: Span) -> Result<(), AllocError>
     requires { page.to < 2 ^ 63 }
-    ensures { OnOk result (string_bytes text.new ≡ string_bytes text.old ++ index page) }
+    ensures { OnOk result (Appends (index page) text.old text.new) }
 {
     text.push_str("<div><h2>Cycles</h2>\n<p class=\"i\">\n")?;
     push_index_links(text, page)?;

@@ -1,10 +1,11 @@
 //! The page of some cycles of a run.
 
-ghost use Rattle.std.specs.Prelude.{◌≡◌, ◌+◌, ◌-◌, ◌<◌, ◌≤◌, ◌^◌, ◌++◌, length, min};
+ghost use Rattle.std.specs.Prelude.{◌≡◌, ◌+◌, ◌-◌, ◌<◌, ◌≤◌, ◌^◌, length, min};
 ghost use Rattle.std.specs.Prelude.{IfErr, IfOk, OnOk, string_bytes};
 ghost use Rattle.tomex_rvexec.specs.Run.{most_steps, start_of};
 ghost use Rattle.tomex_rvexec.specs.Trace.{steps_from};
 ghost use Rattle.tomex_timing.specs.Search.{times_in};
+ghost use Rattle.tomex_csv_text.specs.Growth.{Appends};
 ghost use Rattle.tomex_snapshots.specs.Entries.{entries_of};
 ghost use Rattle.tomex_animate.specs.declared.animation_error.AnimationError.TheVariants.{PastEnd};
 ghost use Rattle.tomex_animate.specs.Page.{IsAnimationOf, IsUnanimated, animate_page, page_foot, page_head, page_of};
@@ -32,8 +33,7 @@ fn push_run_name<A: Allocator>(
     program: &str,
     number: usize,
 ) -> Result<(), AllocError>
-    ensures { OnOk result (string_bytes text.new
-        ≡ string_bytes text.old ++ run_named program.now number) }
+    ensures { OnOk result (Appends (run_named program.now number) text.old text.new) }
 {
     write!(text, "{program} on configuration {number} of ")
 }
@@ -68,8 +68,7 @@ fn push_page_head<A: Allocator>(
     number: usize,
     page: Span,
 ) -> Result<(), AllocError>
-    ensures { OnOk result (string_bytes text.new
-        ≡ string_bytes text.old ++ page_head study.now program.now number page) }
+    ensures { OnOk result (Appends (page_head study.now program.now number page) text.old text.new) }
 {
     let title = title_of(heap, study, program, number, page)?;
     push_page_start(text, title.as_str(), animate_css())?;
@@ -88,8 +87,7 @@ fn push_page_foot<A: Allocator>(
     page: Span,
 ) -> Result<(), AllocError>
     requires { page.to < 2 ^ 63 }
-    ensures { OnOk result (string_bytes text.new
-        ≡ string_bytes text.old ++ page_foot config.now page) }
+    ensures { OnOk result (Appends (page_foot config.now page) text.old text.new) }
 {
     text.push_str("</main>\n<footer>\n")?;
     push_machine_table(text, config)?;

@@ -2,6 +2,7 @@
 
 ghost use Rattle.std.specs.Prelude.{◌≡◌, ◌<◌, ◌^◌, ◌++◌, OnOk, string_bytes};
 ghost use Rattle.std.specs.List.{flat_map};
+ghost use Rattle.tomex_csv_text.specs.Growth.{Appends};
 ghost use Rattle.tomex_animate.specs.Machine.{cycles_of};
 ghost use Rattle.tomex_animate.specs.Page.{frame, frame_head, links_at};
 
@@ -48,8 +49,7 @@ fn push_head<A: Allocator>(
     cycle: u64,
 ) -> Result<(), AllocError>
     requires { cycle < 2 ^ 63 }
-    ensures { OnOk result (string_bytes text.new
-        ≡ string_bytes text.old ++ frame_head page total cycle) }
+    ensures { OnOk result (Appends (frame_head page total cycle) text.old text.new) }
 {
     write!(
         text,
@@ -79,8 +79,9 @@ fn push_view<A: Allocator>(
     cycle: u64,
 ) -> Result<(), AllocError>
     requires { cycle < 2 ^ 63 }
-    ensures { OnOk result (string_bytes text.new ≡ string_bytes text.old
-        ++ frame views.now.config.now views.now.page views.now.total views.now.entries.now cycle) }
+    ensures { OnOk result (Appends
+        (frame views.now.config.now views.now.page views.now.total views.now.entries.now cycle)
+        text.old text.new) }
 {
     let view = View::new(views.entries, cycle);
     push_head(text, views.page, views.total, cycle)?;

@@ -5,16 +5,16 @@ use Rattle.std.specs.List.{range_with_len}
 use Rattle.std.specs.Ordering.{nat_cmp}
 use Rattle.std.specs.BTreeSet.{insert_key}
 
--- rising costs, with more of them at their places, each once
+-- costs in ascending order, with more of them at their places, each once
 abbrev pub with_costs : List ℕ → List ℕ → List ℕ
 with_costs rising [] = rising
 with_costs rising (c ∷ costs) = with_costs (insert_key nat_cmp rising c) costs
 
--- the distinct costs, rising
+-- the distinct costs, in ascending order
 abbrev pub distinct_costs : List ℕ → List ℕ
 distinct_costs costs = with_costs [] costs
 
--- all of rising costs if there are at most 64, else 64 of them, evenly spread
+-- all of these costs if there are at most 64, else 64 of them, evenly spread
 abbrev pub floors_among : List ℕ → List ℕ
 floors_among rising =
     if nat_le (length rising) 64 then rising

@@ -35,7 +35,7 @@ least_in k (x ∷ xs) = if x.0 == k then min x.1 (least_in k xs) else least_in k
 abbrev pub best : ℕ → View → ℕ
 best k v = least_in k v.bests
 
--- what was known stays known, and the least word of no band rises
+-- what was known stays known, and the least word of no band grows
 pub record Grows (v w : View) : Type 0 where
   pub noted : (i : ℕ) → KnowsNotOpen v i → KnowsNotOpen w i
   pub marks : (i : ℕ) (m : Mark) → Has v.marks (i, m) → Has w.marks (i, m)

@@ -35,7 +35,7 @@ pub struct Board<J: Plan, A: Allocator = Global> {
     /// The number of rows.
     rows: usize,
     costs: Vec<u64, A>,
-    /// The floors of the bands that are used, rising.
+    /// The floors of the bands that are used, in ascending order.
     floors: Vec<u64, A>,
     /// Empty, with room for a mark for each row; `close` returns it.
     marks: Vec<Mark, A>,

@@ -17,7 +17,7 @@ fn list_of<A: Allocator>(alloc: A, rising: &BTreeSet<u64, A>) -> Result<Vec<u64,
     rising.iter().copied().collect(alloc)
 }
 
-/// The distinct costs, rising.
+/// The distinct costs, in ascending order.
 fn distinct_costs<A: Allocator + Clone>(alloc: A, costs: &[u64]) -> Result<Vec<u64, A>, AllocError>
     ensures { IfOk result (λ v. v.items ≡ distinct_costs costs.now) }
 {
@@ -28,7 +28,7 @@ fn distinct_costs<A: Allocator + Clone>(alloc: A, costs: &[u64]) -> Result<Vec<u
     list_of(alloc, &rising)
 }
 
-/// The `k`th of 64 costs that are evenly spread among rising ones.
+/// The `k`th of 64 costs that are evenly spread among those in ascending order.
 fn spread(rising: &[u64], k: usize) -> u64
     requires many { (64 < length rising.now) × (length rising.now ≤ most_rows) }
     requires band { k < 64 }
@@ -37,7 +37,7 @@ fn spread(rising: &[u64], k: usize) -> u64
     rising[k * rising.len() / BANDS]
 }
 
-/// The floor of band `k`, given the distinct costs in rising order: every cost if there are at most
+/// The floor of band `k`, given the distinct costs in ascending order: every cost if there are at most
 /// 64, else 64 evenly spread ones. `None` if there is no such band.
 pub fn floor(costs: &[u64], k: usize) -> Option<u64>
     requires few { length costs.now ≤ most_rows }

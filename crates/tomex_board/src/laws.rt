@@ -25,7 +25,7 @@ pub fn a_joined_seat_has_the_lesser_best()
     ensures { JoinTakesLesserBest }
 {}
 
-/// The distinct costs are the costs, each once, rising.
+/// The distinct costs are the costs, each once, in ascending order.
 pub fn distinct_costs_are_the_costs()
     ensures kept { CostsAreKept }
     ensures rise { DistinctCostsRise }

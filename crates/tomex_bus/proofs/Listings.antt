@@ -20,7 +20,7 @@ in_head x xs = rw (eq-eqb x x refl) refl
 pub in_tail : (x y : ℕ) (xs : List ℕ) → is_listed xs y ≡ true → is_listed (x ∷ xs) y ≡ true
 in_tail x y xs h = rw h (or_right (x == y) true refl)
 
--- the first of a listing that rises doesn't come again
+-- the first of a listing in ascending order doesn't come again
 pub not_again : (issue_numbers : List ℕ) (x : ℕ) (xs : List ℕ) → Rises issue_numbers (x ∷ xs) → is_listed xs x ≡ false
 not_again issue_numbers x xs rises = elim (cases_Bool (is_listed xs x)) [
   | inr e ↦ e

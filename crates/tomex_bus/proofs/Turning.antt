@@ -1,7 +1,8 @@
 -- The calls of a wheel, on its ring of sets.
-use Rattle.std.proofs.Common.{ℕ, ◌+◌, ◌-◌, ◌/◌, ◌%◌, ◌^◌, Bool, true, false, ◌≡◌, ◌≤◌, ◌<◌, ◌∙◌, arith, inl, inr, ap}
+use Rattle.std.proofs.Common.{ℕ, ◌+◌, ◌-◌, ◌/◌, ◌%◌, ◌^◌, true, false, ◌≡◌, ◌≤◌, ◌<◌, ◌∙◌, arith, inl, inr, ap}
 use Rattle.std.proofs.Common.{refl, sym, List, take, drop, replicate, length, slice_index, slice_set, subst}
-use Rattle.std.specs.Prelude.{◌==◌, ◌≢◌, ◌||◌, nat_lt, if◌then◌else◌, Some}
+use Rattle.std.specs.Prelude.{◌==◌, ◌≢◌, nat_lt, if◌then◌else◌, Some}
+use Rattle.std.proofs.Math.Bool.{or-false, or-true}
 use Rattle.std.proofs.lemmas.Bool.{lt-ltb, le-ltb, cases_Bool, both_ways, ltb-true, ltb-false, eqb-true, eqb-false}
 use Rattle.std.proofs.lemmas.List.{get_or_append_left, get_or-append_right, get_or-drop, get_or-take, get_or-set_same}
 use Rattle.std.proofs.lemmas.List.{get_or-set_other, get_or-replicate, length-drop, length-set}
@@ -159,7 +160,7 @@ put_pairs w sets filled more head ahead set number e ring after l with =
       | inl m ↦
           let low : a < 64 = ltb-true _ _ m in
           set_at sets filled more head ahead set a x ring after (omega arith) low ∙ elim (cases_Bool (a == ahead)) [
-            | inr k ↦ rw k (sym (or_none (is_due (ring_from sets head) a x)))
+            | inr k ↦ rw k (sym (or-false (is_due (ring_from sets head) a x)))
             | inl k ↦
                 let same : a ≡ ahead = eqb-true a ahead k in
                 let was : is_due (ring_from sets head) a x ≡ has (slice_index sets ((head + ahead) % 64)) x =
@@ -167,21 +168,13 @@ put_pairs w sets filled more head ahead set number e ring after l with =
                 in
                 rw (k, was) (elim (cases_Bool (x == number)) [
                   | inl n ↦ rw n (ap (has set) (eqb-true x number n)
-                      ∙ (with.same ∙ sym (or_all (has (slice_index sets ((head + ahead) % 64)) x))))
+                      ∙ (with.same ∙ sym (or-true (has (slice_index sets ((head + ahead) % 64)) x))))
                   | inr n ↦ rw n (with.others x (eqb-false x number n)
-                      ∙ sym (or_none (has (slice_index sets ((head + ahead) % 64)) x)))
+                      ∙ sym (or-false (has (slice_index sets ((head + ahead) % 64)) x)))
                 ])
           ]
     ])
   where
-    or_none : (b : Bool) → (b || false) ≡ b
-    or_none true = refl
-    or_none false = refl
-
-    or_all : (b : Bool) → (b || true) ≡ true
-    or_all true = refl
-    or_all false = refl
-
     not_equal : (a b : ℕ) → a ≢ b → (a == b) ≡ false
     not_equal a b apart = elim (cases_Bool (a == b)) [
       | inl e ↦ absurd (apart (eqb-true a b e))

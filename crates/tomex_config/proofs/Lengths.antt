@@ -1,8 +1,8 @@
 -- The product of the axes' lengths, with a length of 0 and without.
-use Rattle.std.proofs.Common.{◌≡◌, ◌≢◌, ◌==◌, ◌||◌, ◌+◌, ◌*◌, ◌<◌, ◌≤◌, ◌∙◌, ℕ, suc, Bool, true, false, List, [], ◌∷◌}
-use Rattle.std.proofs.Common.{length, get_or, drop, nat_lt, refl, sym, ap, arith, drop-cons, inl, inr}
+use Rattle.std.proofs.Common.{◌≡◌, ◌≢◌, ◌==◌, ◌+◌, ◌*◌, ◌<◌, ◌≤◌, ◌∙◌, ℕ, suc, true, false, List, [], ◌∷◌}
+use Rattle.std.proofs.Common.{length, get_or, drop, nat_lt, refl, ap, arith, drop-cons, inl, inr}
 use Rattle.std.proofs.Math.Nat.{mul-le-mul_left, mul-le-mul}
-use Rattle.std.proofs.lemmas.Bool.{false≢true, cases_Bool, eqb-true, eqb-false}
+use Rattle.std.proofs.lemmas.Bool.{false≢true, cases_Bool, eqb-true, eqb-false, or_parts}
 use Rattle.std.proofs.lemmas.Bool.Decides.{nat_tests}
 use Rattle.tomex_config.specs.Grid.{product, has_zero}
 
@@ -16,14 +16,10 @@ product-zero (n ∷ ns) h = elim (cases_Bool (n == 0)) [
 pub zero_is_small : (ns : List ℕ) → has_zero ns ≡ true → nat_lt 16384 (product ns) ≡ false
 zero_is_small ns h = rw (product-zero ns h) refl
 
-both_false : (b c : Bool) → (b || c) ≡ false → (b ≡ false) × (c ≡ false)
-both_false true c h = absurd (false≢true (sym h))
-both_false false c h = (refl, h)
-
 pub product_positive : (ns : List ℕ) → has_zero ns ≡ false → 1 ≤ product ns
 product_positive [] h = omega arith
 product_positive (n ∷ ns) h =
-    let (head, rest) = both_false (n == 0) (has_zero ns) h in
+    let (head, rest) = or_parts (n == 0) (has_zero ns) h in
     let some : n ≢ 0 = eqb-false n 0 head in
     let one : 1 ≤ n = omega (arith, some) in
     omega (arith, mul-le-mul one (product_positive ns rest))
@@ -41,7 +37,7 @@ splits rows i ns lt none whole =
     let cons : drop i ns ≡ get_or ns i 0 ∷ drop (i + 1) ns =
     drop-cons ns i 0 lt ∙ ap (λ k. get_or ns i 0 ∷ drop k ns) next_is in
     let h = rw cons at none in
-    let (head, rest) = both_false (get_or ns i 0 == 0) (has_zero (drop (i + 1) ns)) h in
+    let (head, rest) = or_parts (get_or ns i 0 == 0) (has_zero (drop (i + 1) ns)) h in
     let some : get_or ns i 0 ≢ 0 = eqb-false (get_or ns i 0) 0 head in
     let product_is : product (drop i ns) ≡ get_or ns i 0 * product (drop (i + 1) ns) = ap product cons in
     record { positive = omega (arith, some); rest = rest; whole = omega (arith, whole, ap (λ p. rows * p) product_is) }

@@ -8,7 +8,7 @@ use Rattle.tomex_cycle.proofs.Words.{next_pc_of, is_branch, is_in, is_number, j_
 use Rattle.tomex_cycle.proofs.Words.{step_dest, Done, source_end, writer_end, IsTimed, are_branches_finished, field_of}
 use Rattle.tomex_cycle.proofs.Words.{producer, tag_at, tag_of, Fetch, MakesEnds, steps_in, clocks, fetch_after}
 use Rattle.tomex_cycle.proofs.Words.{fetch_of, holds_place, sent_at, station_at, station_of, ShowsRegisters}
-use Rattle.tomex_cycle.proofs.Words.{ShowsStations, EndsIn, Hears, IsDoneBranch, finishes, sent_below, AreEnding}
+use Rattle.tomex_cycle.proofs.Words.{ShowsStations, EndsIn, Receives, IsDoneBranch, finishes, sent_below, AreEnding}
 use Rattle.tomex_cycle.proofs.Words.{AreNamed, step_in, value_in, place_at, place_of_tag, Pools, AreBusy, RegStatus}
 use Rattle.tomex_cycle.proofs.Words.{Station, has, AreLow, dest_of, Tag, Front, front, ◌||◌, IsUpTo, eq-eqb, slot}
 use Rattle.tomex_cycle.proofs.Words.{none_in, AreDone, IsTimetableOf, LeavesTimetable, Finishes, ℕ, ◌+◌, ◌<◌, ◌≤◌, ◌≡◌}
@@ -209,7 +209,7 @@ pub made_ends : (config : Configuration) {next : ℕ} (old : Front) {pools : Poo
     → AreBusy old.pools.slots old.pools.busy old.pools.issue_numbers → Follows next old.pools.slots old.fetch fetch
     → (AreLow picked → EndsIn (λ x. has picked x) (sent_below old.pools.slots picked 96) old.pools pools)
     → (length old.pools.slots ≡ 96 → AreLow picked → AreNamed old.pools.slots old.registers
-    → Hears (sent_below old.pools.slots picked 96) old.registers registers)
+    → Receives (sent_below old.pools.slots picked 96) old.registers registers)
     → MakesEnds config next old (front pools registers fetch)
 made_ends config {next} old picked ends filled follows made heard_ i h t e up s =
     let slots : List (Option Station) = old.pools.slots in

@@ -1,6 +1,6 @@
 -- What ends in one place after another, and what is sent by them together.
 use Rattle.tomex_cycle.proofs.Words.{nat_lt, ◌&&◌, ◌==◌, le-ltb, nat_tests, eqb-false, ne_eqb, field_from, Field, Value}
-use Rattle.tomex_cycle.proofs.Words.{Unread, Tag, is_number, EndsIn, Hears, after_ends, sends_of, sent_below, hears}
+use Rattle.tomex_cycle.proofs.Words.{Unread, Tag, is_number, EndsIn, Receives, after_ends, sends_of, sent_below, hears}
 use Rattle.tomex_cycle.proofs.Words.{field_after, only, value_or_tag, place_at, place_of_tag, Pools, RegStatus, Station}
 use Rattle.tomex_cycle.proofs.Words.{has, ◌||◌, slot, if◌then◌else◌, cases_Bool, lt-ltb, eqb-true, get_or-set_same}
 use Rattle.tomex_cycle.proofs.Words.{get_or-set_other, length-set, AreNamed, HaveReceived, AreFrom, all_left}
@@ -26,7 +26,7 @@ pub record AreEndedBelow (picked : ℕ) (n : ℕ) (old new : Pools) : Type 0 whe
       (sent_below old.slots picked n) (slot old.slots x)
   pub issue_numbers : new.issue_numbers ≡ old.issue_numbers
 
--- A register that hears a value, or not.
+-- A register that receives a value, or not.
 
 pub heard_yes : (from value v : ℕ) (tag : Option Tag) → is_number (place_at tag) from ≡ true
     → field_after (only from (Some value)) (field_from v tag) ≡ Value value
@@ -126,9 +126,9 @@ apply_no {picked} {n} {old} e so = record {
 }
 
 pub hear_yes : {picked n : ℕ} {old s : Pools} (first r new : RegStatus) → n < 96 → has picked n ≡ true
-    → AreEndedBelow picked n old s → Hears (sent_below old.slots picked n) first r
-    → Hears (only n (sends_of (slot s.slots n))) r new
-    → Hears (sent_below old.slots picked (n + 1)) first new
+    → AreEndedBelow picked n old s → Receives (sent_below old.slots picked n) first r
+    → Receives (only n (sends_of (slot s.slots n))) r new
+    → Receives (sent_below old.slots picked (n + 1)) first new
 hear_yes {picked} {n} {old} {s} first r new l e so before made count status =
     let b = before count status in
     let m = made b.count b.status in
@@ -143,7 +143,7 @@ hear_yes {picked} {n} {old} {s} first r new l e so before made count status =
     }
 
 pub hear_no : (picked : ℕ) (n : ℕ) (old : Pools) (first r : RegStatus) → has picked n ≡ false
-    → Hears (sent_below old.slots picked n) first r → Hears (sent_below old.slots picked (n + 1)) first r
+    → Receives (sent_below old.slots picked n) first r → Receives (sent_below old.slots picked (n + 1)) first r
 hear_no picked n old first r e before count status =
     let b = before count status in
     record {
@@ -179,7 +179,7 @@ ends_silent p old new s l here dest slots issue_numbers count = record {
 -- The register of its destination, if its Qi still names the place.
 
 received_hears : (p r v : ℕ) (rg : RegStatus) → r < 32 → ((q : ℕ) → q < 32 → names rg q p ≡ true → q ≡ r)
-    → Hears (only p (Some v)) rg (registers_after rg r p v)
+    → Receives (only p (Some v)) rg (registers_after rg r p v)
 received_hears p r v rg l named count status = elim (cases_Bool (names rg r p)) [
   | inr e ↦ rw e (record { count = count; status = status; fields = λ q k. grind (arith, nat_tests) })
   | inl e ↦ rw e (record {
@@ -203,7 +203,7 @@ received_hears p r v rg l named count status = elim (cases_Bool (names rg r p)) 
 
 pub hears_sending : (p r : ℕ) (slots : List (Option Station)) (s : Station) (rg new : RegStatus)
     → slot slots p ≡ Some s → dest_of s.instr ≡ Some r → r < 32 → new ≡ registers_after rg r p s.value
-    → AreNamed slots rg → Hears (only p (sends_of (slot slots p))) rg new
+    → AreNamed slots rg → Receives (only p (sends_of (slot slots p))) rg new
 hears_sending p r slots s rg new here dest l made named =
     rw (here, dest, made) (received_hears p r s.value rg l (λ q k e. let f : dest_of s.instr ≡ Some q =
     named q p k e s here in one_register (dest_of s.instr) q r f dest))
@@ -247,7 +247,7 @@ pub record AreApplied (picked rest : ℕ) (old s : Pools) (first r : RegStatus) 
   pub from : AreFrom picked rest k
   pub high : k ≤ 96
   pub stations : AreEndedBelow picked k old s
-  pub registers : AreNamed old.slots first → Hears (sent_below old.slots picked k) first r
+  pub registers : AreNamed old.slots first → Receives (sent_below old.slots picked k) first r
 
 pub first_applied : (picked : ℕ) (st : Pools) (rg : RegStatus) → length st.slots ≡ 96
     → AreApplied picked picked st st rg rg
@@ -275,7 +275,7 @@ first_applied picked st rg count = record {
 pub one_applied : {picked rest left x : ℕ} {old s : Pools} (new : Pools) {first r : RegStatus} (status : RegStatus)
     → AreLow picked → AreApplied picked rest old s first r → IsTaken rest x left
     → EndsIn (λ y. x == y) (only x (sends_of (slot s.slots x))) s new
-    × (AreNamed s.slots r → Hears (only x (sends_of (slot s.slots x))) r status)
+    × (AreNamed s.slots r → Receives (only x (sends_of (slot s.slots x))) r status)
     → AreApplied picked left old new first status
 one_applied {picked} {x = x} {old} {s} new {first} {r} status low so out ends =
     let turn = turn_at so.from out in
@@ -288,7 +288,7 @@ one_applied {picked} {x = x} {old} {s} new {first} {r} status low so out ends =
       high = omega arith;
       stations = apply_yes new below turn.member here ends.0;
       registers = λ named count tags.
-          let heard_ = skip_to (λ j. Hears (sent_below old.slots picked j) first r) picked so.k x turn.from turn.none
+          let heard_ = skip_to (λ j. Receives (sent_below old.slots picked j) first r) picked so.k x turn.from turn.none
           (λ j e b. hear_no picked j old first r e b) (so.registers named) in
           hear_yes first r status below turn.member here heard_
           (ends.1 (named_still named here here.places (heard_ count tags))) count tags;
@@ -296,12 +296,12 @@ one_applied {picked} {x = x} {old} {s} new {first} {r} status low so out ends =
 
 pub all_applied : {picked rest : ℕ} {old s : Pools} {first r : RegStatus} → AreLow picked
     → AreApplied picked rest old s first r → rest ≡ 0
-    → AreEndedBelow picked 96 old s × (AreNamed old.slots first → Hears (sent_below old.slots picked 96) first r)
+    → AreEndedBelow picked 96 old s × (AreNamed old.slots first → Receives (sent_below old.slots picked 96) first r)
 all_applied {picked} {rest} {old} {s} {first} {r} low so empty =
     let none : (j : ℕ) → so.k ≤ j → j < 96 → has picked j ≡ false =
     λ j from to. none_after picked rest so.k so.from empty j from (omega arith) in (
       skip_to (λ j. AreEndedBelow picked j old s) picked so.k 96 so.high none (λ j e b. apply_no e b) so.stations,
-      λ named. skip_to (λ j. Hears (sent_below old.slots picked j) first r) picked so.k 96 so.high none
+      λ named. skip_to (λ j. Receives (sent_below old.slots picked j) first r) picked so.k 96 so.high none
           (λ j e b. hear_no picked j old first r e b) (so.registers named),
     )
 

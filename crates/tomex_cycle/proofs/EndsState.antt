@@ -223,7 +223,7 @@ sent_all {i} t {u} h slots picked up e shown ends y = elim (cases_Bool (nat_lt y
   | inr l ↦ let k : 96 ≤ y = ltb-false y 96 l in rw l (sent_high i u y h (low h up) k)
 ]
 
--- Operands hear what is sent.
+-- Operands receive what is sent.
 
 pub j_cases : (x : Step) → (j_of x ≡ None) ⊎ (j_of x ≡ Some (operand x.vj x.instr.rs1))
 j_cases x = grind (arith, nat_tests)

@@ -8,7 +8,7 @@ use Rattle.tomex_cycle.proofs.Words.{lets_none, in_head, in_tail}
 
 -- Lists that rise.
 
--- the middle of a rising list is older than what comes after it, and younger than what comes before
+-- the middle of a list in ascending order is older than what comes after it, and younger than what comes before
 pub older_in : (issue_numbers older younger : List ℕ) (x y : ℕ) → Rises issue_numbers (older ++ (x ∷ younger))
     → is_listed (older ++ (x ∷ younger)) y ≡ true → slice_index issue_numbers y < slice_index issue_numbers x
     → is_listed older y ≡ true

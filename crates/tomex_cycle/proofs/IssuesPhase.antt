@@ -70,7 +70,7 @@ one_more {i} {config} count t u run e before issued few =
     t u run.lawful (run_timed i count run.lawful) (before (omega arith) x.0 x.1) by.0 e in
     rw next (count_first u (next_done config (first_timed config i count) x.0) (first_timed config i count) at)
 
--- what doesn't answer that it has issued is taken as none
+-- what doesn't return that it has issued is taken as none
 pub one_is : (result : Result Bool Fault) → result_unwrap_or result false ≡ true → result ≡ Ok true
 one_is (Ok made) e = ap (λ (b : Bool). Ok b) e
 one_is (Err fault) e = let z : false ≡ true = e in absurd (cc)

@@ -18,7 +18,7 @@ use Rattle.tomex_cycle.proofs.Runs.{more_left, stops}
 use Rattle.tomex_rvexec.specs.History.{history as first_steps}
 use Rattle.tomex_cycle.proofs.Shows.{same_tables}
 
--- while the answer is Running the total lies ahead
+-- while the status is Running the total lies ahead
 pub running_low : (cycle all : ℕ) (last : Progress) → last ≡ (if nat_lt cycle all then Running else Ended)
     → last ≡ Running → cycle < all
 running_low cycle all last e f = elim (cases_Bool (nat_lt cycle all)) [

@@ -1,17 +1,10 @@
 -- Tests and constructors: the laws of them that several files cite.
-use Rattle.tomex_cycle.proofs.Words.{Result, Ok, Err, nat_tests, ◌||◌, ◌≢◌, ◌⊎◌, if◌then◌else◌, AreFrom, IsWithout, has}
+pub use Rattle.std.proofs.Math.Bool.{and-false as and_false, or-false as or_false}
+pub use Rattle.std.proofs.lemmas.Bool.{or_cases}
+use Rattle.tomex_cycle.proofs.Words.{Result, Ok, Err, nat_tests, ◌≢◌, ◌⊎◌, if◌then◌else◌, AreFrom, IsWithout, has}
 use Rattle.tomex_cycle.proofs.Words.{least_from, least_in, left_from, none_between, PoolId, is_in, is_some, ◌≡◌, Bool}
-use Rattle.tomex_cycle.proofs.Words.{true, false, ◌&&◌, Option, Some, None, arith, refl, inl, inr, ℕ, ◌+◌, ◌<◌, ◌≤◌}
+use Rattle.tomex_cycle.proofs.Words.{true, false, Option, Some, None, arith, refl, inl, inr, ℕ, ◌+◌, ◌<◌, ◌≤◌}
 use Rattle.tomex_cycle.proofs.Words.{Activity, Nothing, Starts, More}
-
-pub or_cases : (a b : Bool) → (a || b) ≡ true → (a ≡ true) ⊎ (b ≡ true)
-or_cases a b e = grind (arith, nat_tests)
-
-pub or_false : (a : Bool) → (a || false) ≡ a
-or_false a = grind (arith, nat_tests)
-
-pub and_false : (a : Bool) → (a && false) ≡ false
-and_false a = grind (arith, nat_tests)
 
 pub ok_not_err : {A E : Type 0} (r : Result A E) (x : A) (y : E) → r ≡ Ok x → r ≡ Err y → ⊥
 ok_not_err r x y e f = cc

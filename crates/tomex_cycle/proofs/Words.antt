@@ -28,7 +28,7 @@ pub use Rattle.tomex_steps.specs.Access.{IsInside, HasStored}
 pub use Rattle.tomex_steps.specs.Memory.{Bytes}
 pub use Rattle.tomex_steps.specs.Results.{byte_in, covers, next_pc_of, overwrites, result_of, stored_byte}
 pub use Rattle.tomex_steps.specs.Steps.{address_of, bytes_of, is_branch, is_in, is_number, is_store, j_of, k_of}
-pub use Rattle.tomex_steps.specs.Steps.{operand, step_dest, step_pool, step_unit, bytes_at}
+pub use Rattle.tomex_steps.specs.Steps.{operand, step_dest, step_pool, step_unit, bytes_at, shares_byte}
 pub use Rattle.tomex_steps.specs.declared.step.ByteRange.{ByteRange}
 pub use Rattle.tomex_steps.specs.declared.step.Operand.{Operand}
 pub use Rattle.tomex_steps.specs.declared.step.Step.{Step}
@@ -46,13 +46,13 @@ pub use Rattle.tomex_timing.proofs.Bound.{timed_by, InReach, in_reach}
 pub use Rattle.tomex_timing.proofs.Least.{least_same, least_test}
 pub use Rattle.tomex_timing.proofs.Limits.{stations_high, units_low, width_low, buses_low}
 pub use Rattle.tomex_timing.proofs.Search.{issue_station, times_are, timed_is}
-pub use Rattle.tomex_timing.proofs.Stations.{number_is, lower, one, split_count}
+pub use Rattle.tomex_timing.proofs.Stations.{number_is, lower, split_count}
 pub use Rattle.tomex_timing.proofs.Width.{issue_from, none_later}
 pub use Rattle.tomex_timing.specs.History.{cycle_of, greatest_end, is_memory, is_of, last_address, last_issue}
 pub use Rattle.tomex_timing.specs.History.{source_end, writer_end}
 pub use Rattle.tomex_timing.specs.Recurrence.{AreTimed, IsLeast, IsTimed, are_branches_finished, are_conflicts_finished}
 pub use Rattle.tomex_timing.specs.Recurrence.{can_address, can_end, can_issue, can_issue_another, can_start, conflicts}
-pub use Rattle.tomex_timing.specs.Recurrence.{has_operands, has_unit, shares_byte}
+pub use Rattle.tomex_timing.specs.Recurrence.{has_operands, has_unit}
 pub use Rattle.tomex_timing.specs.Search.{least, times_of, timed_of, history}
 pub use Rattle.tomex_timing.specs.Station.{has_station, is_free, is_held}
 pub use Rattle.tomex_timing.specs.Tables.{Tables, all_tags, field_from, field_of, producer, qi_of}
@@ -85,7 +85,7 @@ pub use Rattle.tomex_membuf.proofs.Older.{no_option, lets_no_address, lets_none,
 pub use Rattle.tomex_membuf.specs.Addresses.{has_base, is_value, IsNextAddress, IsOldestLacking}
 pub use Rattle.tomex_membuf.specs.Order.{is_finished_before, lets_pass, HasAtMostOneAccess, IsClear}
 pub use Rattle.tomex_cycle.specs.CycleOutcome.{progress_of}
-pub use Rattle.tomex_cycle.specs.Ends.{AreDone, AreEnding, AreNamed, EndsIn, HaveReceived, Hears, IsDoneBranch}
+pub use Rattle.tomex_cycle.specs.Ends.{AreDone, AreEnding, AreNamed, EndsIn, HaveReceived, Receives, IsDoneBranch}
 pub use Rattle.tomex_cycle.specs.Ends.{after_ends, can_send, ends_alone, finishes, is_finished_by, sends_of, sent_below}
 pub use Rattle.tomex_cycle.specs.Ends.{after_branch, target_in, AreEnded}
 pub use Rattle.tomex_cycle.specs.Events.{GoesOn, SkipsTo, events_in, events_of, IsCounted, eventful_by, events_by}

@@ -16,6 +16,7 @@ use Rattle.tomex_tags.specs.declared.register_status.RegStatus.{RegStatus}
 use Rattle.tomex_tags.specs.declared.station.Station.{Station}
 use Rattle.tomex_cycle.specs.declared.fetch.Fetch.{Fetch}
 use Rattle.tomex_cycle.specs.declared.fetch.Fetch.TheVariants as from
+use Rattle.tomex_cycle.specs.Starts.{AreLow}
 
 -- an operation is finished by the end of the cycle
 abbrev pub is_finished_by : Option ℕ → ℕ → Bool
@@ -69,8 +70,8 @@ pub record HaveReceived (sent : ℕ → Option ℕ) (old new : RegStatus) : Type
       → field_from (slice_index new.values r) (slice_index_or new.tags r None)
       ≡ field_after sent (field_from (slice_index old.values r) (slice_index_or old.tags r None))
 
-abbrev pub Hears : (ℕ → Option ℕ) → RegStatus → RegStatus → Type 0
-Hears sent old new = length old.values ≡ 32 → length old.tags ≡ 32 → HaveReceived sent old new
+abbrev pub Receives : (ℕ → Option ℕ) → RegStatus → RegStatus → Type 0
+Receives sent old new = length old.values ≡ 32 → length old.tags ≡ 32 → HaveReceived sent old new
 
 -- the unit is done in the cycle
 abbrev pub finishes : ℕ → Option Station → Bool
@@ -106,3 +107,12 @@ Follows cycle slots (from.Stopped kind pc) result = result ≡ from.Stopped kind
 abbrev pub AreNamed : List (Option Station) → RegStatus → Type 0
 AreNamed slots registers =
     (r x : ℕ) → r < 32 → names registers r x ≡ true → (s : Station) → slot slots x ≡ Some s → dest_of s.instr ≡ Some r
+
+-- if the picked places are those of stations, these have ended, and the others have received what they send
+abbrev pub EndsPicked : ℕ → Pools → Pools → Type 0
+EndsPicked picked old new = AreLow picked → EndsIn (λ x. has picked x) (sent_below old.slots picked 96) old new
+
+-- and so have the registers
+abbrev pub SendsPicked : ℕ → Pools → RegStatus → RegStatus → Type 0
+SendsPicked picked st old new =
+    length st.slots ≡ 96 → AreLow picked → AreNamed st.slots old → Receives (sent_below st.slots picked 96) old new

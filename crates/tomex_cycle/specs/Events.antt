@@ -43,7 +43,7 @@ pub record SkipsTo (h : List Done) (to from now : ℕ) : Type 0 where
   pub quiet : (k : ℕ) → from + 1 < k → k ≤ now → events_in k h ≡ 0
   pub pays : (0 < events_in (from + 1) h) ⊎ ((to ≤ now) ⊎ (0 < events_in (now + 1) h))
 
--- once, or twice in a row; each time the count of made cycles rises by one
+-- once, or twice in a row; each time the count of made cycles grows by one
 abbrev pub GoesOn : List Done → (to from now before after : ℕ) → Type 0
 GoesOn h to from now before after =
     ((after ≡ before + 1) × SkipsTo h to from now)

@@ -58,7 +58,8 @@ pub record AreTurned (slots : List (Option Station)) (cycle due : ℕ) (now : Fi
   pub known : IsTimetableOf slots cycle before
   pub turned : HaveTurned before now due
 
--- after these places have ended and all others have heard what was sent, the finishes are known before the next cycle
+-- after these places have ended and all others have received what was sent, the finishes are known before the next
+-- cycle
 abbrev pub LeavesTimetable : List (Option Station) → ℕ → ℕ → Finishes → Type 0
 LeavesTimetable slots cycle ending known =
     (new : List (Option Station)) (sent : ℕ → Option ℕ) → length new ≡ 96
@@ -69,6 +70,15 @@ LeavesTimetable slots cycle ending known =
 abbrev pub CanSkip : Option ℕ → ℕ → ℕ → Type 0
 CanSkip None most n = n ≡ most
 CanSkip (Some ahead) most n = (n ≤ ahead) × (n < most → n ≡ ahead)
+
+-- the cycles up to one, at most `to`, in which nothing finishes are skipped
+pub record SkipsFree (slots : List (Option Station)) (cycle to reached : ℕ) (now : Finishes) : Type 0 where
+  pub least : cycle ≤ reached
+  pub most : reached ≤ to
+  pub free : IsFree slots cycle reached
+  pub stops : reached < to → FinishesNext slots reached
+  pub timetable : IsTimetableOf slots (reached + 1) now
+  pub none_unsent : now.unsent ≡ 0
 
 -- the cycles before the next finish are skipped, and also that of the finish if only results finish in it: this one is
 -- counted

@@ -120,6 +120,17 @@ pub record HaveBegun (config : Configuration) (cycle : ℕ) (m : Bytes) (picked 
       → slot new.slots x ≡ station_after_start_if config cycle m (nat_lt x k && has picked x) (slot old.slots x)
   pub issue_numbers : new.issue_numbers ≡ old.issue_numbers
 
+-- if each picked place has a station whose operation can start, all of them have started
+abbrev pub StartsAll : Configuration → ℕ → Bytes → ℕ → Pools → Pools → Type 0
+StartsAll config cycle m picked old new =
+    length old.slots ≡ 96 → AreLow picked → AllCanBegin m picked old.slots
+    → HaveBegun config cycle m picked 96 old new
+
+-- and there is no fault
+abbrev pub StartsWithoutFault : Bytes → ℕ → Pools → Option Fault → Type 0
+StartsWithoutFault m picked st fault =
+    length st.slots ≡ 96 → AreLow picked → AllCanBegin m picked st.slots → fault ≡ None
+
 -- the byte at an address after the store of a place, if it is picked
 abbrev pub stored_at : Bool → Option Station → ℕ → ℕ → ℕ
 stored_at picked None a before = before
@@ -141,3 +152,8 @@ pub record HaveStored (slots : List (Option Station)) (picked : ℕ) (k : ℕ) (
 abbrev pub AllInside : Bytes → ℕ → List (Option Station) → Type 0
 AllInside m picked slots =
     (x : ℕ) → x < 96 → has picked x ≡ true → (s : Station) → slot slots x ≡ Some s → IsInside m (step_in s)
+
+-- if the picked places are those of stations, with accesses inside memory, their stores are performed
+abbrev pub PerformsStores : Pools → ℕ → Bytes → Bytes → Type 0
+PerformsStores st picked old new =
+    AreLow picked → AllInside old picked st.slots → HaveStored st.slots picked 96 old new

@@ -1,13 +1,11 @@
 //! The end of a cycle: what ends, what is sent, and where branches lead.
 
-ghost use Rattle.std.specs.Prelude.{◌≡◌, ◌<◌, ◌≤◌, ◌^◌, ◌==◌, None, Some, length};
-ghost use Rattle.tomex_sets.specs.Sets.{has};
+ghost use Rattle.std.specs.Prelude.{◌≡◌, ◌<◌, ◌≤◌, ◌^◌, ◌==◌, None, Some};
 ghost use Rattle.tomex_tags.specs.Operands.{only};
 ghost use Rattle.tomex_tags.specs.Pools.{AreBusy};
-ghost use Rattle.tomex_cycle.specs.Ends.{AreDone, AreEnding, AreNamed, EndsIn, Follows, Hears};
-ghost use Rattle.tomex_cycle.specs.Ends.{IsDoneBranch, sends_of, sent_below, target_in};
+ghost use Rattle.tomex_cycle.specs.Ends.{AreDone, AreEnding, AreNamed, EndsIn, EndsPicked, Follows, IsDoneBranch};
+ghost use Rattle.tomex_cycle.specs.Ends.{Receives, SendsPicked, sends_of, target_in};
 ghost use Rattle.tomex_cycle.specs.Finishes.{AreTurned, LeavesTimetable};
-ghost use Rattle.tomex_cycle.specs.Starts.{AreLow};
 ghost use Rattle.tomex_tags.specs.Contents.{slot};
 
 use crate::fetch::Fetch;
@@ -62,7 +60,7 @@ fn end_at(pools: &mut Pools, registers: &mut RegStatus, place: usize)
     ensures stations { EndsIn (λ x. place == x)
         (only place (sends_of (slot pools.old.slots place))) pools.old pools.new }
     ensures registers { AreNamed pools.old.slots registers.old
-        → Hears (only place (sends_of (slot pools.old.slots place))) registers.old registers.new }
+        → Receives (only place (sends_of (slot pools.old.slots place))) registers.old registers.new }
 {
     if let Some(station) = pools.at(place) {
         pools.release(place);
@@ -74,11 +72,8 @@ fn end_at(pools: &mut Pools, registers: &mut RegStatus, place: usize)
 
 /// Ends the instructions in the picked places.
 pub fn apply(pools: &mut Pools, registers: &mut RegStatus, picked: u128)
-    ensures stations { AreLow picked
-        → EndsIn (λ x. has picked x) (sent_below pools.old.slots picked 96) pools.old pools.new }
-    ensures registers { length pools.old.slots ≡ 96 → AreLow picked
-        → AreNamed pools.old.slots registers.old
-        → Hears (sent_below pools.old.slots picked 96) registers.old registers.new }
+    ensures stations { EndsPicked picked pools.old pools.new }
+    ensures registers { SendsPicked picked pools.old registers.old registers.new }
 {
     let mut rest = picked;
     'members: while rest != 0 {

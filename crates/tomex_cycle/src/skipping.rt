@@ -1,7 +1,7 @@
 //! Skipping the quiet cycles.
 
 ghost use Rattle.std.specs.Prelude.{ℕ, ◌≡◌, ◌<◌, ◌≤◌, ◌+◌, ◌-◌, ◌^◌, true, false};
-ghost use Rattle.tomex_cycle.specs.Finishes.{AreResults, CanSkip, FinishesNext, IsFree, IsSkipped, IsTimetableOf};
+ghost use Rattle.tomex_cycle.specs.Finishes.{AreResults, CanSkip, IsSkipped, IsTimetableOf, SkipsFree};
 
 use crate::finishes::Finishes;
 use crate::inner::{Inner, Making};
@@ -29,12 +29,7 @@ fn skip_free(finishes: &mut Finishes, pools: &Pools, cycle: u64, to: u64) -> u64
     requires ahead { cycle ≤ to }
     requires timetable { IsTimetableOf pools.now.slots (cycle + 1) finishes.old }
     requires none_unsent { finishes.old.unsent ≡ 0 }
-    ensures least { cycle ≤ result }
-    ensures most { result ≤ to }
-    ensures free { IsFree pools.now.slots cycle result }
-    ensures stops { result < to → FinishesNext pools.now.slots result }
-    ensures timetable { IsTimetableOf pools.now.slots (result + 1) finishes.new }
-    ensures none_unsent { finishes.new.unsent ≡ 0 }
+    ensures { SkipsFree pools.now.slots cycle to result finishes.new }
 {
     let skipped = skippable(finishes.wheel.next(), to - cycle);
     finishes.wheel.pass(skipped);

@@ -1,7 +1,7 @@
 //! Which operations start in a cycle, and what they do.
 
 ghost use Rattle.std.specs.Prelude.{ℕ, ◌≡◌, ◌≢◌, ◌<◌, ◌≤◌, ◌+◌, ◌-◌, ◌/◌, ◌^◌, IfSome};
-ghost use Rattle.std.specs.Prelude.{IsSome, None, Some, slice_set, length, true, ◌||◌};
+ghost use Rattle.std.specs.Prelude.{IsSome, None, Some, slice_set, true, ◌||◌};
 ghost use Rattle.tomex_sets.specs.Sets.{has};
 ghost use Rattle.tomex_tags.specs.Contents.{slot, with_start, step_in};
 ghost use Rattle.tomex_tags.specs.Places.{pool_at};
@@ -11,9 +11,9 @@ ghost use Rattle.tomex_rvdec.specs.Operands.{pool_of, unit_of, unit_of_pool};
 ghost use Rattle.tomex_steps.specs.Access.{HasStored, IsInside};
 ghost use Rattle.tomex_steps.specs.Results.{byte_in, result_of};
 ghost use Rattle.tomex_cycle.specs.Finishes.{IsTimetableOf};
-ghost use Rattle.tomex_cycle.specs.Starts.{AllCanBegin, AllInside, AllWaitFor, AreLow, AreStartableFor, CanBegin};
-ghost use Rattle.tomex_cycle.specs.Starts.{HaveBegun, HaveStored, IsAccessFault, IsStarting, IsWanted};
-ghost use Rattle.tomex_cycle.specs.Starts.{access_fault, station_after_start};
+ghost use Rattle.tomex_cycle.specs.Starts.{AllWaitFor, AreStartableFor, CanBegin, IsAccessFault, IsStarting, IsWanted};
+ghost use Rattle.tomex_cycle.specs.Starts.{PerformsStores, StartsAll, StartsWithoutFault, access_fault};
+ghost use Rattle.tomex_cycle.specs.Starts.{station_after_start};
 
 use crate::finishes::Finishes;
 use std::alloc::Allocator;
@@ -228,11 +228,8 @@ pub fn begin<A: Allocator>(
 ) -> Option<Fault>
     requires low { cycle < 2 ^ 41 }
     requires timetable { IsTimetableOf pools.old.slots cycle finishes.old }
-    ensures begins { length pools.old.slots ≡ 96 → AreLow picked
-        → AllCanBegin memory.now picked pools.old.slots
-        → HaveBegun config.now cycle memory.now picked 96 pools.old pools.new }
-    ensures good { length pools.old.slots ≡ 96 → AreLow picked
-        → AllCanBegin memory.now picked pools.old.slots → result ≡ None }
+    ensures begins { StartsAll config.now cycle memory.now picked pools.old pools.new }
+    ensures good { StartsWithoutFault memory.now picked pools.old result }
     ensures fault { IfSome result
         (λ f. (x : ℕ) × (has picked x ≡ true) × IsAccessFault pools.old memory.now x f) }
     ensures timetable { result ≡ None → IsTimetableOf pools.new.slots cycle finishes.new }
@@ -262,8 +259,7 @@ fn write_at<A: Allocator>(pools: &Pools, place: usize, memory: &mut Memory<A>)
 
 /// Performs the stores in the picked places.
 pub fn write<A: Allocator>(pools: &Pools, picked: u128, memory: &mut Memory<A>)
-    ensures { AreLow picked → AllInside memory.old picked pools.now.slots
-        → HaveStored pools.now.slots picked 96 memory.old memory.new }
+    ensures { PerformsStores pools.now picked memory.old memory.new }
 {
     let stores = both(picked, pools.stores());
     let mut rest = stores;

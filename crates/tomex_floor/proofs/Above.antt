@@ -47,7 +47,7 @@ AreAbove latency w (d ∷ older) = IsAbove latency w older d.step d.at × AreAbo
 abbrev pub steps_of : List Done → List Step
 steps_of h = map (λ d. d.step) h
 
--- each function of the older steps rises with them
+-- each function of the older steps grows with them
 
 finish_rises : (p : Step → Bool) (latency : UnitId → ℕ) (w : ℕ) (h : List Done)
     → AreNoLater (floors_of latency w (steps_of h)) h → last_finish p (floors_of latency w

@@ -1,19 +1,20 @@
 -- The finishes that an access waits for, byte by byte.
 use Rattle.std.proofs.Common.{ℕ, ◌+◌, ◌<◌, ◌≤◌, ◌≡◌, ◌∙◌, ◌⊎◌, Bool, true, false, arith, refl, ap, sym, inl, inr}
-use Rattle.std.proofs.Common.{List, [], ◌∷◌}
+use Rattle.std.proofs.Common.{List, [], ◌∷◌, zero, suc}
 use Rattle.std.proofs.Common.{Option, Some, None, max}
 use Rattle.std.specs.Prelude.{◌*◌, ◌/◌, ◌%◌, unwrap_or, nat_lt, nat_le, nat_eq, ◌&&◌, ◌||◌, if◌then◌else◌}
+use Rattle.std.proofs.Math.Bool.{or-false}
 use Rattle.std.proofs.lemmas.Bool.{cases_Bool, leb-false, leb-true, ltb-false, ltb-true}
 use Rattle.std.proofs.lemmas.Bool.Decides.{nat_tests}
 use Rattle.tomex_rvdec.specs.declared.op.Op.{Op}
-use Rattle.tomex_steps.specs.Steps.{access_size, bytes_at, bytes_of, is_store, address_of}
+use Rattle.tomex_steps.specs.Steps.{access_size, bytes_at, bytes_of, is_store, address_of, shares_byte}
 use Rattle.tomex_steps.specs.declared.step.ByteRange.{ByteRange}
 use Rattle.tomex_steps.specs.declared.step.Step.{Step}
 use Rattle.tomex_timing.specs.declared.times.Done.{Done}
-use Rattle.tomex_timing.specs.Recurrence.{conflicts, shares_byte}
+use Rattle.tomex_timing.specs.Recurrence.{conflicts}
 use Rattle.tomex_floor.specs.Floor.{last_finish}
 use Rattle.tomex_floor.specs.Kept.{Touched, below, has_byte, has_some, shares_some, touched_in}
-use Rattle.tomex_floor.specs.Kept.{no_word, touched_from, touched_of, waited_for}
+use Rattle.tomex_floor.specs.Kept.{conflict_below, no_word, raised, touched_from, touched_of, waited_for}
 use Rattle.tomex_floor.specs.declared.accesses.Word.{Word}
 use Rattle.std.specs.HashMap.{HashMap, get}
 
@@ -87,10 +88,6 @@ or_true : (a : Bool) → (a || true) ≡ true
 or_true true = refl
 or_true false = refl
 
-or_false : (a : Bool) → (a || false) ≡ a
-or_false true = refl
-or_false false = refl
-
 and_true : (a : Bool) → (a && true) ≡ a
 and_true true = refl
 and_true false = refl
@@ -104,7 +101,7 @@ waited_is b true h =
     h
 waited_is b false h =
     finish_same (λ x. has_byte b (bytes_of x) && is_store x) (at_byte b false)
-    (λ x. sym (ap (λ (t : Bool). has_byte b (bytes_of x) && t) (or_false (is_store x)))) h
+    (λ x. sym (ap (λ (t : Bool). has_byte b (bytes_of x) && t) (or-false (is_store x)))) h
 
 pub latest_more : (from b : ℕ) (store : Bool) (h : List Done) (f : Touched) (latest : ℕ) → from ≤ b
     → f ≡ touched_in h b → latest ≡ last_finish (shares_some from b store) h
@@ -189,3 +186,16 @@ pub touched_here : {S : Type 0} (n w lane : ℕ) (m : HashMap ℕ Word S) → la
     → touched_from n m (4 * w + lane) ≡ touched_of n (unwrap_or (get nat_eq m w) no_word) lane
 touched_here n w lane m l =
     let q : (4 * w + lane) / 4 ≡ w = omega arith in let r : (4 * w + lane) % 4 ≡ lane = omega arith in rw (q, r) refl
+
+-- at the four bytes of a word an access waits for what it waits for below the next word
+pub raised_is : (n : ℕ) (word : Word) (first : ℕ) (r : ByteRange) (store : Bool) (h : List Done) {latest : ℕ}
+    → r.from < r.to → ((lane : ℕ) → lane < 4 → touched_of n word lane ≡ touched_in h (first + lane))
+    → latest ≡ conflict_below r first store h
+    → raised n word first r store 4 latest ≡ conflict_below r (first + 4) store h
+raised_is n word first r store h {latest} some are so = up_to 4 (omega arith)
+  where
+    up_to : (k : ℕ) → k ≤ 4 → raised n word first r store k latest ≡ conflict_below r (first + k) store h
+    up_to zero l = let e : first + 0 ≡ first = omega arith in rw e so
+    up_to (suc k) l =
+        below_turn r.from r.to (first + k) (first + suc k) store h _ _ _ some (omega arith) (are k (omega arith))
+        (up_to k (omega arith)) refl

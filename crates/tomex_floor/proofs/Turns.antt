@@ -15,14 +15,14 @@ use Rattle.tomex_timing.specs.declared.times.Done.{Done}
 use Rattle.tomex_timing.specs.declared.times.Times.{Times}
 use Rattle.tomex_timing.specs.History.{is_memory, cycle_of, writer_end}
 use Rattle.tomex_timing.specs.Recurrence.{conflicts}
-use Rattle.tomex_timing.specs.Recent.{written_by}
+use Rattle.tomex_timing.specs.Recent.{facts_of, written_by}
 use Rattle.tomex_timing.proofs.Limits.{latency_high}
 use Rattle.tomex_timing.proofs.AfterEnd.{AllBy, IsDoneBy, last_address_by, source_end_by, writer_end_by}
 use Rattle.tomex_floor.specs.declared.latest.Latest.{Latest}
 use Rattle.tomex_floor.specs.Floor.{floor_address, floor_end, floor_from, floor_issue, floor_start, floor_times}
 use Rattle.tomex_floor.specs.Floor.{floors_of}
 use Rattle.tomex_floor.specs.Floor.{issue_back, last_finish, latency_of}
-use Rattle.tomex_floor.specs.Kept.{IsLatest, IsLatestBy, facts_of, latest_after}
+use Rattle.tomex_floor.specs.Kept.{IsLatest, IsLatestBy, latest_after}
 
 pub floors_more : (latency : UnitId → ℕ) (w : ℕ) (xs : List Step) (x : Step)
     → floors_of latency w (reverse (xs ++ (x ∷ [])))

@@ -1,45 +1,25 @@
 -- The evaluator's record of the steps so far, for each issue width: the latest of each kind of cycle, and when each
 -- byte of memory was last accessed.
-use Rattle.std.specs.Prelude.{ℕ, ◌+◌, ◌/◌, ◌%◌, ◌^◌, ◌<◌, ◌≤◌, ◌≡◌, nat_lt, nat_le, Bool, false, ◌&&◌, ◌||◌}
+use Rattle.std.specs.Prelude.{ℕ, zero, suc, ◌+◌, ◌/◌, ◌%◌, ◌<◌, ◌≤◌, ◌≡◌, nat_lt, nat_le, Bool, false, ◌&&◌, ◌||◌}
 use Rattle.std.specs.Prelude.{if◌then◌else◌}
 use Rattle.std.specs.Prelude.{min, max, List, [], ◌∷◌, Option, Some, None, nat_eq, replicate, slice_index}
 use Rattle.std.specs.Prelude.{slice_index_or}
-use Rattle.std.specs.Prelude.{length, unwrap_or, IfSome}
+use Rattle.std.specs.Prelude.{length, unwrap_or}
 use Rattle.std.specs.HashMap.{HashMap, get}
 use Rattle.tomex_rvdec.specs.declared.pool.UnitId.{UnitId}
-use Rattle.tomex_steps.specs.Steps.{bytes_of, is_branch, is_store, j_of, k_of, step_dest, step_unit}
+use Rattle.tomex_steps.specs.Steps.{bytes_of, is_branch, is_store}
 use Rattle.tomex_steps.specs.declared.step.ByteRange.{ByteRange}
 use Rattle.tomex_steps.specs.declared.step.Step.{Step}
 use Rattle.tomex_timing.specs.declared.times.Done.{Done}
 use Rattle.tomex_timing.specs.declared.times.Times.{Times}
-use Rattle.tomex_timing.specs.History.{cycle_of, is_memory, writer_end, last_address, greatest_end}
+use Rattle.tomex_timing.specs.History.{cycle_of, writer_end, last_address, greatest_end}
 use Rattle.tomex_timing.specs.Recurrence.{conflicts}
-use Rattle.tomex_timing.specs.Recent.{register_of, written_by}
-use Rattle.tomex_floor.specs.declared.facts.Facts.{Facts}
+use Rattle.tomex_timing.specs.declared.recent.Facts.{Facts}
+use Rattle.tomex_timing.specs.Recent.{is_memory_pool, written_by}
 use Rattle.tomex_floor.specs.declared.latest.Latest.{Latest}
 use Rattle.tomex_floor.specs.declared.accesses.Finishes.{Finishes}
 use Rattle.tomex_floor.specs.declared.accesses.Word.{Word}
 use Rattle.tomex_floor.specs.Floor.{floor_times, floors_of, issue_back, last_finish}
-
--- the facts that the floor reads of a step
-abbrev pub facts_of : Step → Facts
-facts_of s = record {
-  unit = step_unit s;
-  dest = step_dest s;
-  j = register_of (j_of s);
-  k = register_of (k_of s);
-  bytes = bytes_of s;
-  is_memory = is_memory s;
-  is_store = is_store s;
-  is_branch = is_branch s;
-}
-
--- the registers are the machine's, and an access has at least one byte
-pub record AreInRange (f : Facts) : Type 0 where
-  pub dest : IfSome f.dest (λ r. r < 32)
-  pub j : IfSome f.j (λ r. r < 32)
-  pub k : IfSome f.k (λ r. r < 32)
-  pub bytes : IfSome f.bytes (λ r. (r.from < r.to) × (r.to < 2 ^ 63))
 
 -- The latest of each kind of cycle.
 
@@ -66,7 +46,7 @@ latest_after f at latest = record {
   ends = written_by f.dest at.end latest.ends;
   issues = at.issue ∷ slice_index latest.issues 0 ∷ slice_index latest.issues 1 ∷ slice_index latest.issues 2 ∷ [];
   branch = if f.is_branch then max at.finish latest.branch else latest.branch;
-  address = if f.is_memory then cycle_of at.address else latest.address;
+  address = if is_memory_pool f.pool then cycle_of at.address else latest.address;
   end = max at.end latest.end;
 }
 
@@ -156,6 +136,16 @@ below from to t = min to (max from t)
 -- the finish that an access to these bytes waits for at those below a byte
 abbrev pub conflict_below : ByteRange → ℕ → Bool → List Done → ℕ
 conflict_below r t store h = last_finish (shares_some r.from (below r.from r.to t) store) h
+
+-- the latest finish, raised to those that an access to these bytes waits for at the first k bytes of a word, which
+-- begins at `first`
+abbrev pub raised : ℕ → Word → ℕ → ByteRange → Bool → ℕ → ℕ → ℕ
+raised n word first r store zero latest = latest
+raised n word first r store (suc k) latest =
+    let before = raised n word first r store k latest in
+    if nat_le r.from (first + k) && nat_lt (first + k) r.to
+    then max (waited_for store (touched_of n word k)) before
+    else before
 
 -- the finishes of a byte after an access to the bytes from one up to another
 abbrev pub touched_after : (from to : ℕ) → Bool → ℕ → ℕ → Touched → Touched

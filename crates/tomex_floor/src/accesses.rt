@@ -8,15 +8,16 @@ ghost use Rattle.tomex_steps.specs.declared.step.Step.{Step};
 ghost use Rattle.tomex_timing.specs.declared.times.Done.{Done};
 ghost use Rattle.tomex_timing.specs.Recurrence.{conflicts};
 ghost use Rattle.tomex_floor.specs.Floor.{last_finish};
-ghost use Rattle.tomex_floor.specs.Kept.{AreAfter, AreInRange, AreTouched, conflict_below, facts_of, finish_of};
-ghost use Rattle.tomex_floor.specs.Kept.{history_after, no_finishes, no_word, shares_some, touched_after, touched_at};
-ghost use Rattle.tomex_floor.specs.Kept.{touched_by, touched_in, touched_of, waited_for};
+ghost use Rattle.tomex_timing.specs.Recent.{AreInRange, facts_of};
+ghost use Rattle.tomex_floor.specs.Kept.{AreAfter, AreTouched, finish_of};
+ghost use Rattle.tomex_floor.specs.Kept.{history_after, no_finishes, no_word, raised, shares_some, touched_after, touched_at};
+ghost use Rattle.tomex_floor.specs.Kept.{touched_by, touched_of, waited_for};
 
-use crate::facts::Facts;
 use std::alloc::{AllocError, Allocator};
 use std::collections::HashMap;
 use std::hash::{BuildHasherDefault, FoldHasher};
 use tomex_rvexec::ByteRange;
+use tomex_timing::Facts;
 
 /// The latest finishes, in cycles, of the accesses to a byte, for each width; 0 if there is none.
 #[derive(Clone, Copy, Drop)]
@@ -118,12 +119,9 @@ impl Word {
     /// `first`.
     #[inline(always)]
     fn raise_to(&self, first: u64, bytes: ByteRange, is_store: bool, latest: &mut [u64; 4])
-        requires small { first < 2 ^ 63 }
-        requires bytes { bytes.from < bytes.to }
-        ensures { (n : ℕ) (h : List Done) → n < 4
-            → ((lane : ℕ) → lane < 4 → touched_of n self.now lane ≡ touched_in h (first + lane))
-            → slice_index latest.old n ≡ conflict_below bytes first is_store h
-            → slice_index latest.new n ≡ conflict_below bytes (first + 4) is_store h }
+        requires { first < 2 ^ 63 }
+        ensures { (n : ℕ) → n < 4
+            → slice_index latest.new n ≡ raised n self.now first bytes is_store 4 (slice_index latest.old n) }
     {
         for lane in 0..4usize {
             self.raise_byte(lane, first + lane as u64, bytes, is_store, latest);

@@ -6,16 +6,15 @@ ghost use Rattle.tomex_timing.specs.declared.times.Done.{Done};
 ghost use Rattle.tomex_timing.specs.Recurrence.{conflicts};
 ghost use Rattle.tomex_timing.specs.Search.{times_in, total_of};
 ghost use Rattle.tomex_floor.specs.Floor.{floor_times, floors_by_width, last_finish, latency_of};
-ghost use Rattle.tomex_floor.specs.Kept.{AreConflicts, AreInRange, AreLatest, IsLatest, IsLatestBy, facts_of};
-ghost use Rattle.tomex_floor.specs.Kept.{finish_of, history_after};
+ghost use Rattle.tomex_timing.specs.Recent.{AreInRange, facts_of};
+ghost use Rattle.tomex_floor.specs.Kept.{AreConflicts, AreLatest, IsLatest, IsLatestBy, finish_of, history_after};
 
 use crate::accesses::Accesses;
-use crate::facts::Facts;
 use crate::latest::Latest;
 use crate::next::next_times;
 use std::alloc::{AllocError, Allocator};
 use tomex_config::Config;
-use tomex_rvexec::Step;
+use tomex_timing::{Facts, Run};
 
 /// Notes a next step for one width. Returns its finish.
 #[inline(always)]
@@ -65,24 +64,24 @@ fn pass_all(
 /// these latencies, or longer ones, and at most this width takes fewer. The rest of the configuration doesn't matter.
 ///
 /// The work is linear in the steps. The memory is for each word that the run accesses.
-pub fn floors<A: Allocator + Clone>(
+pub fn floors<A: Allocator + Clone, B: Allocator>(
     alloc: A,
-    steps: &[Step],
+    run: &Run<B>,
     config: &Config,
 ) -> Result<[u64; 4], AllocError>
-    requires few { length steps.now < 2 ^ 56 }
-    ensures exact { IfOk result (λ f. f ≡ floors_by_width (latency_of config.now) steps.now) }
+    requires few { length run.now < 2 ^ 56 }
+    ensures exact { IfOk result (λ f. f ≡ floors_by_width (latency_of config.now) run.now) }
     ensures bound { IfOk result
-        (λ f. slice_index f (config.now.width - 1) ≤ total_of (times_in config.now steps.now)) }
+        (λ f. slice_index f (config.now.width - 1) ≤ total_of (times_in config.now run.now)) }
 {
     let mut latest = [Latest::none(); 4];
     let mut accesses = Accesses::none(alloc);
     config.keeps_limits();
-    for step in steps {
-        let facts = Facts::of(step);
-        let conflict = accesses.conflict(&facts);
-        let finishes = pass_all(config, &mut latest, &facts, &conflict);
-        accesses.note(&facts, &finishes)?;
+    let facts = run.facts();
+    for step in facts {
+        let conflict = accesses.conflict(step);
+        let finishes = pass_all(config, &mut latest, step, &conflict);
+        accesses.note(step, &finishes)?;
     }
     Ok([latest[0].end, latest[1].end, latest[2].end, latest[3].end])
 }

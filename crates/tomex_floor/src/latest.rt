@@ -7,8 +7,7 @@ ghost use Rattle.tomex_timing.specs.History.{source_end};
 ghost use Rattle.tomex_timing.specs.Recent.{register_of};
 ghost use Rattle.tomex_floor.specs.Kept.{IsLatest, IsLatestBy, latest_after};
 
-use crate::facts::Facts;
-use tomex_timing::Times;
+use tomex_timing::{Facts, Times};
 
 /// The latest of each kind of cycle so far; 0 if there is none.
 #[derive(Clone, Copy)]
@@ -67,7 +66,7 @@ impl Latest {
         if facts.is_branch {
             self.branch = at.finish.max(self.branch);
         }
-        if facts.is_memory {
+        if facts.is_memory() {
             self.address = at.address.unwrap_or(0);
         }
         self.end = at.end.max(self.end);

@@ -7,7 +7,6 @@
 
 mod accesses;
 mod evaluate;
-mod facts;
 mod latest;
 mod laws;
 mod next;

@@ -7,12 +7,12 @@ ghost use Rattle.tomex_timing.specs.History.{cycle_of};
 ghost use Rattle.tomex_timing.specs.Recurrence.{conflicts};
 ghost use Rattle.tomex_floor.specs.Floor.{floor_address, floor_end, floor_issue, floor_start, floor_times};
 ghost use Rattle.tomex_floor.specs.Floor.{last_finish, latency_of};
-ghost use Rattle.tomex_floor.specs.Kept.{AreInRange, IsLatest, IsLatestBy, facts_of};
+ghost use Rattle.tomex_timing.specs.Recent.{AreInRange, facts_of};
+ghost use Rattle.tomex_floor.specs.Kept.{IsLatest, IsLatestBy};
 
-use crate::facts::Facts;
 use crate::latest::Latest;
 use tomex_config::Config;
-use tomex_timing::Times;
+use tomex_timing::{Facts, Times};
 
 /// The issue: later than each older branch's finish and the issue of the `width`-th step before it.
 #[inline(always)]
@@ -35,7 +35,7 @@ fn address_of(latest: &Latest, facts: &Facts, issue: u64) -> Option<u64>
         → result ≡ floor_address h s issue }
     ensures by { cycle_of result ≤ 2 ^ 63 + 2 }
 {
-    if facts.is_memory {
+    if facts.is_memory() {
         let base = latest.end_of(facts.j);
         Some(issue.max(base).max(latest.address) + 1)
     } else {

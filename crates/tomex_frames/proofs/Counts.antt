@@ -3,10 +3,8 @@ use Rattle.std.proofs.Common.{ℕ, zero, suc, ◌+◌, ◌-◌, ◌<◌, ◌≤�
 use Rattle.std.specs.Prelude.{count_by}
 use Rattle.std.specs.List.{range_with_len}
 use Rattle.std.proofs.lemmas.List.Sums.{sum_by-cons}
+use Rattle.tomex_timing.specs.Ahead.{one}
 use Rattle.tomex_timing.specs.Needs.{cycles_that}
-
-abbrev pub one : Bool → ℕ
-one b = cond b 1 0
 
 one_more : (p : ℕ → Bool) (a n : ℕ)
     → count_by p (range_with_len a (suc n)) ≡ one (p a) + count_by p (range_with_len (a + 1) n)
@@ -49,23 +47,3 @@ count_same p false (suc n) a each =
 pub same : (p : ℕ → Bool) (b : Bool) (from to : ℕ) → ((t : ℕ) → from ≤ t → t < to → p t ≡ b)
     → cycles_that p from to ≡ cond b (to - from) 0
 same p b from to each = count_same p b (to - from) from (λ t l m. each t l (omega arith))
-
--- tests of which each cycle passes one count all of them
-count_ways : (p q r s : ℕ → Bool) (n a : ℕ)
-    → ((t : ℕ) → a ≤ t → t < a + n → one (p t) + one (q t) + one (r t) + one (s t) ≡ 1)
-    → count_by p (range_with_len a n) + count_by q (range_with_len a n) + count_by r (range_with_len a n)
-    + count_by s (range_with_len a n) ≡ n
-count_ways p q r s zero a each = refl
-count_ways p q r s (suc n) a each =
-    let k = count_ways p q r s n (a + 1) (λ t l m. each t (omega arith) (omega arith)) in
-    let h : one (p a) + one (q a) + one (r a) + one (s a) ≡ 1 = each a (omega arith) (omega arith) in
-    let x = one_more p a n in
-    let y = one_more q a n in
-    let z = one_more r a n in
-    let w = one_more s a n in
-    omega arith
-
-pub ways : (p q r s : ℕ → Bool) (from to : ℕ)
-    → ((t : ℕ) → from ≤ t → t < to → one (p t) + one (q t) + one (r t) + one (s t) ≡ 1)
-    → cycles_that p from to + cycles_that q from to + cycles_that r from to + cycles_that s from to ≡ to - from
-ways p q r s from to each = count_ways p q r s (to - from) from (λ t l m. each t l (omega arith))

@@ -1,7 +1,7 @@
 -- The entries of a run: how the times and the waits of each are related.
 use Rattle.std.proofs.Common.{ℕ, ◌+◌, ◌-◌, ◌<◌, ◌≤◌, ◌≡◌, ◌∙◌, ap, subst, Bool, true, false, arith, refl, inl, inr}
 use Rattle.std.proofs.Common.{Option, Some, None, List, [], ◌∷◌, ◌++◌, length, map, max, reverse}
-use Rattle.std.specs.Prelude.{All, ◌&&◌, is_some, nat_lt, not}
+use Rattle.std.specs.Prelude.{All, ◌&&◌, is_some, not}
 use Rattle.std.proofs.lemmas.Bool.{MatchBool-at_false, cases_Bool, le-ltb}
 use Rattle.std.proofs.lemmas.List.{map-append, reverse-append, reverse-reverse}
 use Rattle.std.proofs.lemmas.List.Elements.{All-nil, All-push}
@@ -9,6 +9,7 @@ use Rattle.tomex_rvdec.specs.declared.pool.UnitId.{UnitId}
 use Rattle.tomex_steps.specs.Steps.{step_pool, step_unit}
 use Rattle.tomex_steps.specs.declared.step.Step.{Step}
 use Rattle.tomex_config.specs.Configuration.{Configuration, IsWithinLimits}
+use Rattle.tomex_timing.specs.Ahead.{one}
 use Rattle.tomex_timing.specs.History.{cycle_of, greatest_end, is_memory, last_issue}
 use Rattle.tomex_timing.specs.Needs.{cycles_that, lacks_address, lacks_operand, waits_in, waits_of}
 use Rattle.tomex_timing.specs.Recurrence.{AreTimed, IsLeast, IsTimed, can_address, has_operands}
@@ -17,6 +18,7 @@ use Rattle.tomex_timing.specs.declared.part.Waits.{Waits}
 use Rattle.tomex_timing.specs.declared.times.Done.{Done}
 use Rattle.tomex_timing.specs.declared.times.Times.{Times}
 use Rattle.tomex_timing.proofs.Accounts.{issue_account, start_account}
+use Rattle.tomex_timing.proofs.Bands.{four_ways}
 use Rattle.tomex_timing.proofs.Bound.{issue_low, memory_unit}
 use Rattle.tomex_timing.proofs.Histories.{are_timed, history_more, length-times_in, times_more, total_is}
 use Rattle.tomex_timing.proofs.Orders.{address_rises, reach, start_later}
@@ -24,7 +26,7 @@ use Rattle.tomex_timing.proofs.WaitLists.{length-waits_in, waits_more}
 use Rattle.tomex_timing.proofs.Width.{issue_from}
 use Rattle.tomex_snapshots.specs.Entries.{entries_from, entries_of}
 use Rattle.tomex_snapshots.specs.declared.entries.Entry.{Entry}
-use Rattle.tomex_frames.proofs.Counts.{cut, one, same, ways}
+use Rattle.tomex_frames.proofs.Counts.{cut, same}
 use Rattle.tomex_frames.proofs.Waits.{IsPlaced}
 
 -- a step, given what is older
@@ -52,7 +54,7 @@ address_within : (config : Configuration) (older : List Done) (d : Done) (a : �
     → d.at.issue < a → a < d.at.start
     → a ≤ d.at.issue + (waits_of config older d).operand + (waits_of config older d).address
 address_within config older d a is later sooner =
-    let two = ways (lacks_operand older d) (lacks_address older d) never never (d.at.issue + 1) (a + 1)
+    let two = four_ways (lacks_operand older d) (lacks_address older d) never never (d.at.issue + 1) (a + 1)
     (λ t l m. rw (is, le-ltb a t (omega arith)) (address_ways (has_operands older d.step t))) in
     let none = never_passes (d.at.issue + 1) (a + 1) in
     let operand = cut (lacks_operand older d) (d.at.issue + 1) (a + 1) d.at.start (omega arith) (omega arith) in

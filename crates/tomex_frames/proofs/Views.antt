@@ -20,7 +20,7 @@ use Rattle.tomex_timing.proofs.Accounts.{kind_stalls, station_stalls}
 use Rattle.tomex_timing.proofs.Histories.{are_timed, history_more, length-times_in}
 use Rattle.tomex_timing.proofs.WaitLists.{length-waits_in, waits_add_up}
 use Rattle.tomex_html.specs.Html.{table_end}
-use Rattle.tomex_snapshots.specs.Entries.{entries_from, entries_of, is_there}
+use Rattle.tomex_snapshots.specs.Entries.{entries_from, entries_of, is_listed_in}
 use Rattle.tomex_snapshots.specs.declared.entries.Entry.{Entry}
 use Rattle.tomex_snapshots.specs.declared.entries.Span.{Span}
 use Rattle.tomex_frames.specs.Cells.{doing_in, doing_text}
@@ -37,17 +37,17 @@ use Rattle.tomex_frames.proofs.Waits.{IsPlaced, after, before, shown_waits}
 
 -- a step that is there in a cycle of the page
 is_listed : (page : Span) (es : List Entry) (e : Entry) (t : ℕ) → IsOn page t → e.from ≤ t → t ≤ e.at.end
-    → is_there (listed_cycles page es t) e ≡ true
-is_listed page es e t on from to = elim (cases_Bool (nat_le (count_by (is_there page) es) 16)) [
+    → is_listed_in (listed_cycles page es t) e ≡ true
+is_listed page es e t on from to = elim (cases_Bool (nat_le (count_by (is_listed_in page) es) 16)) [
   | inl few ↦ rw few (and_from _ _ (le-leb e.from page.to (omega (arith, on)))
       (le-leb page.from e.at.end (omega (arith, on))))
   | inr many ↦ rw many (and_from _ _ (le-leb e.from t from) (le-leb (t - 2) e.at.end (omega arith)))
 ]
 
 rows_kept_of : (span : Span) (t : ℕ) (es : List Entry)
-    → flat_map (row_if span t) es ≡ flat_map (step_row t) (filter (is_there span) es)
+    → flat_map (row_if span t) es ≡ flat_map (step_row t) (filter (is_listed_in span) es)
 rows_kept_of span t [] = refl
-rows_kept_of span t (e ∷ es) = elim (cases_Bool (is_there span e)) [
+rows_kept_of span t (e ∷ es) = elim (cases_Bool (is_listed_in span e)) [
   | inl there ↦ rw there (ap (λ (z : List ℕ). step_row t e ++ z) (rows_kept_of span t es))
   | inr absent ↦ rw absent (rows_kept_of span t es)
 ]
@@ -59,7 +59,7 @@ rows_are_of_steps page es t =
 
 pub nothing_is_lost : NothingIsLost
 nothing_is_lost page es e t on there from to =
-    contains_kept (is_there (listed_cycles page es t)) es e there (is_listed page es e t on from to)
+    contains_kept (is_listed_in (listed_cycles page es t)) es e there (is_listed page es e t on from to)
 
 pub waits_come_before_issues : WaitsComeBeforeIssues
 waits_come_before_issues config steps good =
@@ -136,8 +136,8 @@ rows_kept : (words : List ℕ) (page : ℕ → Span) (last : ℕ) (es : List Ent
 rows_kept words page last es some on placed [] = refl
 rows_kept words page last es some on placed (t ∷ ts) =
     let kept : count_by (says words t) (rows_of (page t) es t) ≡ count_by (says words t) es =
-    count_kept (says words t) (is_there (listed_cycles (page t) es t)) es
-    (All-weaker (IsPlaced last) (λ e. says words t e ≡ true → is_there (listed_cycles (page t) es t) e ≡ true)
+    count_kept (says words t) (is_listed_in (listed_cycles (page t) es t)) es
+    (All-weaker (IsPlaced last) (λ e. says words t e ≡ true → is_listed_in (listed_cycles (page t) es t) e ≡ true)
     (λ e is said. let there = there_if_said words last t e some is said in
     is_listed (page t) es e t (on t) there.0 there.1) es placed) in
     sum_by-cons (λ t. count_by (says words t) (rows_of (page t) es t)) t ts

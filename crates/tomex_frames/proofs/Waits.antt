@@ -6,6 +6,7 @@ use Rattle.std.specs.List.{range_with_len}
 use Rattle.std.specs.Str.{bytes_eq}
 use Rattle.std.proofs.lemmas.Bool.{and_right, cases_Bool, cases_lt, eq-eqb, le-leb, le-ltb, lt-leb, lt-ltb, ne_eqb}
 use Rattle.tomex_steps.specs.Steps.{is_number}
+use Rattle.tomex_timing.specs.Ahead.{one}
 use Rattle.tomex_timing.specs.Needs.{cycles_that}
 use Rattle.tomex_snapshots.specs.declared.entries.Entry.{Entry}
 use Rattle.tomex_frames.specs.Cells.{doing_in, doing_text, issue_cause, start_cause}
@@ -14,7 +15,8 @@ use Rattle.tomex_frames.specs.declared.doing.Cause.{Cause}
 use Rattle.tomex_frames.specs.declared.doing.Cause.TheVariants as causes
 use Rattle.tomex_frames.specs.declared.doing.Doing.{Doing}
 use Rattle.tomex_frames.specs.declared.doing.Doing.TheVariants.{Issues, Computes, Executes, Writes, Waits as WaitsFor}
-use Rattle.tomex_frames.proofs.Counts.{cut, one, same, ways}
+use Rattle.tomex_timing.proofs.Bands.{four_ways}
+use Rattle.tomex_frames.proofs.Counts.{cut, same}
 
 -- how the times and the waits of a step are related
 pub record IsPlaced (last : ℕ) (e : Entry) : Type 0 where
@@ -286,7 +288,7 @@ module _ (last : ℕ) (e : Entry) (placed : IsPlaced last e) where
   one_between p q r operand address computing =
       let none : cycles_that (λ t. false) (e.at.issue + 1) ready ≡ 0 =
       same (λ t. false) false (e.at.issue + 1) ready (λ t l m. refl) in
-      let all = ways (λ t. p (doing_in t e)) (λ t. q (doing_in t e)) (λ t. r (doing_in t e)) (λ t. false)
+      let all = four_ways (λ t. p (doing_in t e)) (λ t. q (doing_in t e)) (λ t. r (doing_in t e)) (λ t. false)
       (e.at.issue + 1) ready
       (λ t l m. elim (for_operands t l m) [
         | inl x ↦ rw x (omega arith)

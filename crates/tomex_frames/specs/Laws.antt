@@ -10,7 +10,7 @@ use Rattle.tomex_timing.specs.Search.{history, times_in, total_of}
 use Rattle.tomex_timing.specs.declared.part.Part.TheVariants.{Buses, Width}
 use Rattle.tomex_timing.specs.declared.times.Done.{Done}
 use Rattle.tomex_html.specs.Html.{table_end}
-use Rattle.tomex_snapshots.specs.Entries.{entries_of, is_there}
+use Rattle.tomex_snapshots.specs.Entries.{entries_of, is_listed_in}
 use Rattle.tomex_snapshots.specs.declared.entries.Entry.{Entry}
 use Rattle.tomex_snapshots.specs.declared.entries.Span.{Span}
 use Rattle.tomex_frames.specs.Cells.{doing_in, doing_text}
@@ -19,7 +19,7 @@ use Rattle.tomex_frames.specs.Status.{listed_cycles, status_table, step_row}
 
 -- the steps that a view lists
 abbrev pub rows_of : Span → List Entry → ℕ → List Entry
-rows_of page es t = filter (is_there (listed_cycles page es t)) es
+rows_of page es t = filter (is_listed_in (listed_cycles page es t)) es
 
 -- it has a row for each of them
 abbrev pub RowsAreOfSteps : Type 0
@@ -54,8 +54,8 @@ says words t e = bytes_eq words (doing_text (doing_in t e))
 abbrev pub cycles_with : List ℕ → ℕ → Entry → ℕ
 cycles_with words last e = count_by (λ t. says words t e) (range_with_len 1 last)
 
--- A step's row shows each cause for as many cycles as the step waits for it. Its address cycle counts as a wait for its
--- operand or its address.
+-- A step's row shows each cause for as many cycles as the step waits for it. Its address cycle counts as a wait for
+-- its operand or its address.
 pub record ShowsWaits (last : ℕ) (e : Entry) : Type 0 where
   pub branch : cycles_with (codes "waits: branch") last e ≡ e.waits.branch
   pub width : cycles_with (codes "waits: width") last e ≡ e.waits.width
@@ -71,7 +71,7 @@ abbrev pub StepsShowTheirWaits : Type 0
 StepsShowTheirWaits = (config : Configuration) (steps : List Step) → IsWithinLimits config
     → All (ShowsWaits (total_of (times_in config steps))) (entries_of config steps)
 
--- the number of rows with this in the views up to the last one, each view being one of its page's
+-- how often a row says this in the views of cycles 1 to `last`, each of which is on a page
 abbrev pub rows_with : List ℕ → (ℕ → Span) → ℕ → List Entry → ℕ
 rows_with words page last es =
     sum_by (λ t. count_by (says words t) (rows_of (page t) es t)) (range_with_len 1 last)

@@ -7,7 +7,7 @@ use Rattle.tomex_html.specs.Html.{table_end}
 use Rattle.tomex_frames.specs.Cells.{address_cell, cell_text, doing_in, doing_text, execute_cell, issue_cell}
 use Rattle.tomex_frames.specs.Cells.{station_cell, write_cell}
 use Rattle.tomex_frames.specs.Constants.{status_head}
-use Rattle.tomex_snapshots.specs.Entries.{is_there}
+use Rattle.tomex_snapshots.specs.Entries.{is_listed_in}
 use Rattle.tomex_snapshots.specs.declared.entries.Entry.{Entry}
 use Rattle.tomex_snapshots.specs.declared.entries.Span.{Span}
 
@@ -34,10 +34,10 @@ step_row t e =
 -- of a cycle and the two before it.
 abbrev pub listed_cycles : Span → List Entry → ℕ → Span
 listed_cycles page es t =
-    if nat_le (count_by (is_there page) es) 16 then page else record { from = t - 2; to = t }
+    if nat_le (count_by (is_listed_in page) es) 16 then page else record { from = t - 2; to = t }
 
 abbrev pub row_if : Span → ℕ → Entry → List ℕ
-row_if span t e = if is_there span e then step_row t e else []
+row_if span t e = if is_listed_in span e then step_row t e else []
 
 unfoldable pub status_table : Span → List Entry → ℕ → List ℕ
 status_table page es t = status_head ++ (flat_map (row_if (listed_cycles page es t) t) es ++ table_end)

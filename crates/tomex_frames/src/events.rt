@@ -1,7 +1,8 @@
 //! The events of a cycle.
 
-ghost use Rattle.std.specs.Prelude.{◌≡◌, ◌++◌, OnOk, string_bytes};
+ghost use Rattle.std.specs.Prelude.{◌≡◌, OnOk};
 ghost use Rattle.std.specs.List.{flat_map, list_any};
+ghost use Rattle.tomex_csv_text.specs.Growth.{Appends};
 ghost use Rattle.tomex_frames.specs.Events.{name_of_event};
 ghost use Rattle.tomex_frames.specs.Events.{all_events, event_text, events, happens, item, item_if, items};
 
@@ -77,8 +78,7 @@ fn push_item<A: Allocator>(
     event: Event,
     entry: &Entry,
 ) -> Result<(), AllocError>
-    ensures { OnOk result (string_bytes text.new ≡ string_bytes text.old
-        ++ item view.now.cycle view.now.entries.now event entry.now) }
+    ensures { OnOk result (Appends (item view.now.cycle view.now.entries.now event entry.now) text.old text.new) }
 {
     let station = entry.station();
     let name = Name(station);
@@ -112,8 +112,7 @@ fn push_item_if<A: Allocator>(
     event: Event,
     entry: &Entry,
 ) -> Result<(), AllocError>
-    ensures { OnOk result (string_bytes text.new ≡ string_bytes text.old
-        ++ item_if view.now.cycle view.now.entries.now event entry.now) }
+    ensures { OnOk result (Appends (item_if view.now.cycle view.now.entries.now event entry.now) text.old text.new) }
 {
     if event.happens(view.cycle, entry) {
         text.push_str("<dd>")?;
@@ -130,8 +129,8 @@ fn push_all_items<A: Allocator>(
     view: &View<'_>,
     event: Event,
 ) -> Result<(), AllocError>
-    ensures { OnOk result (string_bytes text.new ≡ string_bytes text.old
-        ++ flat_map (item_if view.now.cycle view.now.entries.now event) view.now.entries.now) }
+    ensures { OnOk result (
+        Appends (flat_map (item_if view.now.cycle view.now.entries.now event) view.now.entries.now) text.old text.new) }
 {
     for entry in view.entries {
         push_item_if(text, heap, view, event, entry)?;
@@ -154,8 +153,7 @@ fn push_items<A: Allocator>(
     view: &View<'_>,
     event: Event,
 ) -> Result<(), AllocError>
-    ensures { OnOk result (string_bytes text.new ≡ string_bytes text.old
-        ++ items view.now.cycle view.now.entries.now event) }
+    ensures { OnOk result (Appends (items view.now.cycle view.now.entries.now event) text.old text.new) }
 {
     if happens_to_any(view.entries, view.cycle, event) {
         push_all_items(text, heap, view, event)
@@ -171,8 +169,7 @@ fn push_event<A: Allocator>(
     view: &View<'_>,
     event: Event,
 ) -> Result<(), AllocError>
-    ensures { OnOk result (string_bytes text.new ≡ string_bytes text.old
-        ++ event_text view.now.cycle view.now.entries.now event) }
+    ensures { OnOk result (Appends (event_text view.now.cycle view.now.entries.now event) text.old text.new) }
 {
     let name = event.name();
     write!(text, "<div><dt>{name}</dt>")?;
@@ -186,8 +183,8 @@ fn push_all_events<A: Allocator>(
     view: &View<'_>,
     events: &[Event],
 ) -> Result<(), AllocError>
-    ensures { OnOk result (string_bytes text.new ≡ string_bytes text.old
-        ++ flat_map (event_text view.now.cycle view.now.entries.now) events.now) }
+    ensures { OnOk result (
+        Appends (flat_map (event_text view.now.cycle view.now.entries.now) events.now) text.old text.new) }
 {
     for event in events {
         push_event(text, heap, view, *event)?;
@@ -202,8 +199,7 @@ pub fn push_events<A: Allocator>(
     heap: Global,
     view: &View<'_>,
 ) -> Result<(), AllocError>
-    ensures { OnOk result (string_bytes text.new ≡ string_bytes text.old
-        ++ events view.now.cycle view.now.entries.now) }
+    ensures { OnOk result (Appends (events view.now.cycle view.now.entries.now) text.old text.new) }
 {
     text.push_str("<dl class=\"e\">\n")?;
     push_all_events(text, heap, view, all_events())?;

@@ -1,7 +1,8 @@
 //! The register status.
 
-ghost use Rattle.std.specs.Prelude.{◌≡◌, ◌<◌, ◌≤◌, ◌-◌, ◌++◌, OnOk, string_bytes};
+ghost use Rattle.std.specs.Prelude.{◌<◌, ◌≤◌, ◌-◌, OnOk};
 ghost use Rattle.std.specs.List.{flat_map, range_with_len};
+ghost use Rattle.tomex_csv_text.specs.Growth.{Appends};
 ghost use Rattle.tomex_snapshots.specs.Entries.{history_of};
 ghost use Rattle.tomex_frames.specs.Stations.{register_at, register_cell, register_status, registers_text};
 
@@ -18,8 +19,7 @@ fn push_register<A: Allocator>(
     was: Option<Tag>,
     now: Option<Tag>,
 ) -> Result<(), AllocError>
-    ensures { OnOk result (string_bytes text.new
-        ≡ string_bytes text.old ++ register_cell register was now) }
+    ensures { OnOk result (Appends (register_cell register was now) text.old text.new) }
 {
     let qi = Name(now);
     if same_name(was, now) {
@@ -39,8 +39,8 @@ fn push_register_at<A: Allocator>(
     register: usize,
 ) -> Result<(), AllocError>
     requires { register < 32 }
-    ensures { OnOk result (string_bytes text.new ≡ string_bytes text.old
-        ++ register_at view.now.cycle (history_of view.now.entries.now) register) }
+    ensures { OnOk result (
+        Appends (register_at view.now.cycle (history_of view.now.entries.now) register) text.old text.new) }
 {
     let was = view.snapshots.before.registers[register];
     let now = view.snapshots.now.registers[register];
@@ -55,8 +55,9 @@ fn push_some<A: Allocator>(
     to: usize,
 ) -> Result<(), AllocError>
     requires { to ≤ 32 }
-    ensures { OnOk result (string_bytes text.new ≡ string_bytes text.old
-        ++ flat_map (register_at view.now.cycle (history_of view.now.entries.now)) (range_with_len from (to - from))) }
+    ensures { OnOk result (Appends
+        (flat_map (register_at view.now.cycle (history_of view.now.entries.now)) (range_with_len from (to - from)))
+        text.old text.new) }
 {
     for register in from..to {
         push_register_at(text, view, register)?;
@@ -67,8 +68,8 @@ fn push_some<A: Allocator>(
 /// Adds x1 to x31.
 #[tactic(auto, unfolding(crate::specs::Stations::registers_text))]
 fn push_registers<A: Allocator>(text: &mut String<A>, view: &View<'_>) -> Result<(), AllocError>
-    ensures { OnOk result (string_bytes text.new ≡ string_bytes text.old
-        ++ registers_text view.now.cycle (history_of view.now.entries.now)) }
+    ensures { OnOk result (
+        Appends (registers_text view.now.cycle (history_of view.now.entries.now)) text.old text.new) }
 {
     push_some(text, view, 1, 32)
 }
@@ -79,8 +80,8 @@ pub fn push_register_status<A: Allocator>(
     text: &mut String<A>,
     view: &View<'_>,
 ) -> Result<(), AllocError>
-    ensures { OnOk result (string_bytes text.new ≡ string_bytes text.old
-        ++ register_status view.now.cycle (history_of view.now.entries.now)) }
+    ensures { OnOk result (
+        Appends (register_status view.now.cycle (history_of view.now.entries.now)) text.old text.new) }
 {
     text.push_str("<div class=\"q\"><h3>Register status (Qi)</h3>\n<dl class=\"r\">\n")?;
     push_registers(text, view)?;

@@ -1,7 +1,8 @@
 //! The reservation stations.
 
-ghost use Rattle.std.specs.Prelude.{◌≡◌, ◌<◌, ◌++◌, OnOk, string_bytes};
+ghost use Rattle.std.specs.Prelude.{◌≡◌, ◌<◌, OnOk, string_bytes};
 ghost use Rattle.std.specs.List.{flat_map};
+ghost use Rattle.tomex_csv_text.specs.Growth.{Appends};
 ghost use Rattle.tomex_snapshots.specs.Entries.{history_of};
 ghost use Rattle.tomex_frames.specs.Stations.{a_cell, all_columns, all_pools, busy_text, column_text, field_cell};
 ghost use Rattle.tomex_frames.specs.Stations.{free_text, pool_rows, q_cell, row_in, station_row, station_table, v_cell};
@@ -55,7 +56,7 @@ fn all_pools() -> &'static [PoolId]
 
 /// Adds V of an operand, if it is there.
 fn push_v(text: &mut String, field: Field) -> Result<(), AllocError>
-    ensures { OnOk result (string_bytes text.new ≡ string_bytes text.old ++ v_cell field) }
+    ensures { OnOk result (Appends (v_cell field) text.old text.new) }
 {
     match field {
         Field::Value(value) => write!(text, "{value:08x}"),
@@ -65,7 +66,7 @@ fn push_v(text: &mut String, field: Field) -> Result<(), AllocError>
 
 /// Adds Q of an operand, if it waits.
 fn push_q(text: &mut String, field: Field) -> Result<(), AllocError>
-    ensures { OnOk result (string_bytes text.new ≡ string_bytes text.old ++ q_cell field) }
+    ensures { OnOk result (Appends (q_cell field) text.old text.new) }
 {
     match field {
         Field::Waits(Tag { pool, number }) => write!(text, "{pool}{number}"),
@@ -75,7 +76,7 @@ fn push_q(text: &mut String, field: Field) -> Result<(), AllocError>
 
 /// Adds A, if it is there.
 fn push_a(text: &mut String, a: Option<u32>) -> Result<(), AllocError>
-    ensures { OnOk result (string_bytes text.new ≡ string_bytes text.old ++ a_cell a) }
+    ensures { OnOk result (Appends (a_cell a) text.old text.new) }
 {
     match a {
         Some(a) => write!(text, "{a:08x}"),
@@ -85,8 +86,7 @@ fn push_a(text: &mut String, a: Option<u32>) -> Result<(), AllocError>
 
 /// Adds a column's text for a busy station.
 fn push_busy(text: &mut String, busy: &Busy, column: Column) -> Result<(), AllocError>
-    ensures { OnOk result (string_bytes text.new
-        ≡ string_bytes text.old ++ busy_text busy.now column) }
+    ensures { OnOk result (Appends (busy_text busy.now column) text.old text.new) }
 {
     match column {
         Column::Busy => text.push_str("yes"),
@@ -101,7 +101,7 @@ fn push_busy(text: &mut String, busy: &Busy, column: Column) -> Result<(), Alloc
 
 /// Adds a column's text for a free station.
 fn push_free(text: &mut String, column: Column) -> Result<(), AllocError>
-    ensures { OnOk result (string_bytes text.new ≡ string_bytes text.old ++ free_text column) }
+    ensures { OnOk result (Appends (free_text column) text.old text.new) }
 {
     match column {
         Column::Busy => text.push_str("no"),
@@ -146,8 +146,7 @@ fn push_field<A: Allocator>(
     now: &Option<Busy>,
     column: Column,
 ) -> Result<(), AllocError>
-    ensures { OnOk result (string_bytes text.new
-        ≡ string_bytes text.old ++ field_cell was.now now.now column) }
+    ensures { OnOk result (Appends (field_cell was.now now.now column) text.old text.new) }
 {
     write_column(&mut scratch.was, was, column)?;
     write_column(&mut scratch.now, now, column)?;
@@ -161,8 +160,7 @@ fn push_fields<A: Allocator>(
     now: &Option<Busy>,
     columns: &[Column],
 ) -> Result<(), AllocError>
-    ensures { OnOk result (string_bytes text.new
-        ≡ string_bytes text.old ++ flat_map (field_cell was.now now.now) columns.now) }
+    ensures { OnOk result (Appends (flat_map (field_cell was.now now.now) columns.now) text.old text.new) }
 {
     for column in columns {
         push_field(text, scratch, was, now, *column)?;
@@ -178,8 +176,7 @@ fn push_row<A: Allocator>(
     was: &Option<Busy>,
     now: &Option<Busy>,
 ) -> Result<(), AllocError>
-    ensures { OnOk result (string_bytes text.new
-        ≡ string_bytes text.old ++ station_row tag was.now now.now) }
+    ensures { OnOk result (Appends (station_row tag was.now now.now) text.old text.new) }
 {
     let name = Name(Some(tag));
     write!(text, "<tr><th scope=\"row\">{name}</th>")?;
@@ -196,8 +193,8 @@ fn push_row_in<A: Allocator>(
     number: u8,
 ) -> Result<(), AllocError>
     requires { number < 16 }
-    ensures { OnOk result (string_bytes text.new ≡ string_bytes text.old
-        ++ row_in view.now.cycle (history_of view.now.entries.now) pool number) }
+    ensures { OnOk result (
+        Appends (row_in view.now.cycle (history_of view.now.entries.now) pool number) text.old text.new) }
 {
     let place = 16 * pool.place() + number as usize;
     let snapshots = &view.snapshots;
@@ -213,8 +210,8 @@ fn push_pool<A: Allocator>(
     config: &Config,
     pool: PoolId,
 ) -> Result<(), AllocError>
-    ensures { OnOk result (string_bytes text.new ≡ string_bytes text.old
-        ++ pool_rows config.now view.now.cycle (history_of view.now.entries.now) pool) }
+    ensures { OnOk result (
+        Appends (pool_rows config.now view.now.cycle (history_of view.now.entries.now) pool) text.old text.new) }
 {
     for number in 0..config.stations(pool) {
         push_row_in(text, scratch, view, pool, number)?;
@@ -229,8 +226,9 @@ fn push_pools<A: Allocator>(
     config: &Config,
     pools: &[PoolId],
 ) -> Result<(), AllocError>
-    ensures { OnOk result (string_bytes text.new ≡ string_bytes text.old
-        ++ flat_map (pool_rows config.now view.now.cycle (history_of view.now.entries.now)) pools.now) }
+    ensures { OnOk result (Appends
+        (flat_map (pool_rows config.now view.now.cycle (history_of view.now.entries.now)) pools.now)
+        text.old text.new) }
 {
     for pool in pools {
         push_pool(text, scratch, view, config, *pool)?;
@@ -246,8 +244,8 @@ pub fn push_station_table<A: Allocator>(
     view: &View<'_>,
     config: &Config,
 ) -> Result<(), AllocError>
-    ensures { OnOk result (string_bytes text.new ≡ string_bytes text.old
-        ++ station_table config.now view.now.cycle (history_of view.now.entries.now)) }
+    ensures { OnOk result (
+        Appends (station_table config.now view.now.cycle (history_of view.now.entries.now)) text.old text.new) }
 {
     text.push_str(station_head())?;
     push_pools(text, scratch, view, config, all_pools())?;

@@ -1,8 +1,9 @@
 //! Instruction status.
 
-ghost use Rattle.std.specs.Prelude.{◌≡◌, ◌++◌, OnOk, count_by, string_bytes};
+ghost use Rattle.std.specs.Prelude.{◌≡◌, OnOk, count_by};
 ghost use Rattle.std.specs.List.{flat_map};
-ghost use Rattle.tomex_snapshots.specs.Entries.{is_there};
+ghost use Rattle.tomex_csv_text.specs.Growth.{Appends};
+ghost use Rattle.tomex_snapshots.specs.Entries.{is_listed_in};
 ghost use Rattle.tomex_frames.specs.Status.{listed_cycles, row_cells, row_class, row_head, row_if};
 ghost use Rattle.tomex_frames.specs.Status.{status_table, step_row};
 
@@ -37,8 +38,7 @@ fn push_row_head<A: Allocator>(
     cycle: u64,
     entry: &Entry,
 ) -> Result<(), AllocError>
-    ensures { OnOk result (string_bytes text.new
-        ≡ string_bytes text.old ++ row_head cycle entry.now) }
+    ensures { OnOk result (Appends (row_head cycle entry.now) text.old text.new) }
 {
     let class = row_class(cycle, entry);
     let (number, instr) = (entry.number, entry.step.instr);
@@ -54,8 +54,7 @@ fn push_row_cells<A: Allocator>(
     cycle: u64,
     entry: &Entry,
 ) -> Result<(), AllocError>
-    ensures { OnOk result (string_bytes text.new
-        ≡ string_bytes text.old ++ row_cells cycle entry.now) }
+    ensures { OnOk result (Appends (row_cells cycle entry.now) text.old text.new) }
 {
     let (station, issue) = (station_cell(cycle, entry), issue_cell(cycle, entry));
     let (address, execute) = (address_cell(cycle, entry), execute_cell(cycle, entry));
@@ -65,8 +64,7 @@ fn push_row_cells<A: Allocator>(
 
 #[tactic(auto, unfolding(crate::specs::Status::step_row))]
 fn push_row<A: Allocator>(text: &mut String<A>, cycle: u64, entry: &Entry) -> Result<(), AllocError>
-    ensures { OnOk result (string_bytes text.new
-        ≡ string_bytes text.old ++ step_row cycle entry.now) }
+    ensures { OnOk result (Appends (step_row cycle entry.now) text.old text.new) }
 {
     let words = Words(doing_in(cycle, entry));
     push_row_head(text, cycle, entry)?;
@@ -76,9 +74,12 @@ fn push_row<A: Allocator>(text: &mut String<A>, cycle: u64, entry: &Entry) -> Re
 
 /// The number of steps that are listed in some of these cycles.
 fn count_in(span: Span, entries: &[Entry]) -> usize
-    ensures { result ≡ count_by (is_there span) entries.now }
+    ensures { result ≡ count_by (is_listed_in span) entries.now }
 {
-    entries.iter().filter(|entry| entry.is_there(span)).count()
+    entries
+        .iter()
+        .filter(|entry| entry.is_listed_in(span))
+        .count()
 }
 
 /// The cycles whose steps are listed in the view of a cycle.
@@ -102,11 +103,10 @@ fn push_rows<A: Allocator>(
     cycle: u64,
     entries: &[Entry],
 ) -> Result<(), AllocError>
-    ensures { OnOk result (string_bytes text.new
-        ≡ string_bytes text.old ++ flat_map (row_if span cycle) entries.now) }
+    ensures { OnOk result (Appends (flat_map (row_if span cycle) entries.now) text.old text.new) }
 {
     for entry in entries {
-        if entry.is_there(span) {
+        if entry.is_listed_in(span) {
             push_row(text, cycle, entry)?;
         }
     }
@@ -121,8 +121,7 @@ pub fn push_status_table<A: Allocator>(
     entries: &[Entry],
     cycle: u64,
 ) -> Result<(), AllocError>
-    ensures { OnOk result (string_bytes text.new
-        ≡ string_bytes text.old ++ status_table page entries.now cycle) }
+    ensures { OnOk result (Appends (status_table page entries.now cycle) text.old text.new) }
 {
     let span = listed_cycles(page, entries, cycle);
     text.push_str(status_head())?;

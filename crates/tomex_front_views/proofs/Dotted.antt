@@ -6,6 +6,7 @@ use Rattle.std.proofs.Math.ListN.{replicate, set, length-set}
 use Rattle.std.proofs.Math.Nat.{div-le_of_le-mul, mul-le-mul_right}
 use Rattle.std.specs.Prelude.{◌||◌, nat_le, if◌then◌else◌}
 use Rattle.std.specs.List.{list_any, range_with_len, slice_range}
+use Rattle.std.proofs.Math.Bool.{or-false}
 use Rattle.std.proofs.lemmas.Bool.{and_left, and_right, cases_eq, eq-eqb, ne_eqb}
 use Rattle.std.proofs.lemmas.List.{get_or-replicate, get_or-set_other}
 use Rattle.std.proofs.lemmas.List.{get_or-set_same, length-replicate, length-take-le}
@@ -81,10 +82,6 @@ or_true : (b : Bool) → (b || true) ≡ true
 or_true true = refl
 or_true false = refl
 
-or_false : (b : Bool) → (b || false) ≡ b
-or_false true = refl
-or_false false = refl
-
 -- one more row
 pub one_marked : (axes : Axes) (rows : List FrontRow) (k : ℕ) (d : FrontRow) (marks : List Bool) (place : ℕ)
     → k < length rows
@@ -110,7 +107,7 @@ one_marked axes rows k d marks place within at in_table before =
                 get_or-set_other marks place (column * 281 + line) true false apart
                 ∙ (before.each column line low high
                 ∙ sym (more ∙ (ap (λ (b : Bool). list_any test (take k rows) || b)
-                (elsewhere axes r place column line at low high apart) ∙ or_false _)))
+                (elsewhere axes r place column line at low high apart) ∙ or-false _)))
           ];
     }
 

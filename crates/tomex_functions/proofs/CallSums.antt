@@ -131,5 +131,5 @@ calls_add_up symbols config steps rows those =
     sum_by-IsPermutation (λ row. row.calls) (rows_at symbols calls visits keys) rows those.2
     ∙ (all_rows symbols calls visits keys (λ k there. sym (are.those k) ∙ there)
     ∙ (counts_of symbols calls keys
-    ∙ (by_keys (function_key symbols) (λ v. 1) (map as_visit calls) keys are.rising each
+    ∙ (by_keys (function_key symbols) (λ v. 1) (map as_visit calls) keys are.ascending each
     ∙ (sym (ones (map as_visit calls)) ∙ length-map _ _))))

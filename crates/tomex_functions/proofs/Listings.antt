@@ -93,10 +93,7 @@ rows_are symbols calls visits tally made sorted is ordered are moved order =
       order,
     )
 
--- of the groups to come, the first one, and the rest
-pub first_of : (P : Group → Type 0) (x : Group) (left rest : List Group) → left ≡ x ∷ rest → All P left → P x
-first_of P x left rest is all = All-head P x rest (subst (λ (xs : List Group). All P xs) is all)
-
+-- of the groups to come, one row more
 pub rows_next : (f : Group → Row) (P : Group → Type 0) {x : Group} {left rest : List Group} (old : List Row)
     {new whole : List Row} {row : Row} → left ≡ x ∷ rest → All P left → old ++ map f left ≡ whole → row ≡ f x
     → new ≡ old ++ row ∷ [] → All P rest × (new ++ map f rest ≡ whole)

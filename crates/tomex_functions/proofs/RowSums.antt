@@ -41,7 +41,7 @@ rows_add_up column value symbols calls visits rows is those =
     let are = those.1 in
     sum_by-IsPermutation (λ row. column row.sum) (rows_at symbols calls visits keys) rows those.2
     ∙ (all_rows column value is symbols calls visits keys
-    ∙ by_keys (function_key symbols) value visits keys are.rising (λ k there. are.those k ∙ there))
+    ∙ by_keys (function_key symbols) value visits keys are.ascending (λ k there. are.those k ∙ there))
 
 -- at a place of some visits there is one of all of them
 any_of_all : (key : Step → ℕ) (k pc : ℕ) (visits : List Visit)
@@ -60,5 +60,5 @@ any_of_all key k pc (v ∷ visits) there = go (any_of_all key k pc visits) (key 
 
 pub places_add_up : PlacesOfFunctionsAddUp
 places_add_up value symbols visits pcs k are =
-    by_keys pc_of value (visits_of (function_key symbols) k visits) pcs are.rising
+    by_keys pc_of value (visits_of (function_key symbols) k visits) pcs are.ascending
     (λ pc there. are.those pc ∙ any_of_all (function_key symbols) k pc visits there)

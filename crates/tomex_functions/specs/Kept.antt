@@ -3,20 +3,17 @@ use Rattle.std.specs.Prelude.{◌≡◌, ℕ, zero, suc, ◌<◌, List, [], ◌�
 use Rattle.std.specs.Prelude.{slice_index_or, IsPermutation, unwrap_or}
 use Rattle.std.specs.List.{flat_map}
 use Rattle.std.specs.List.Sorted.{IsNonDecreasing}
-use Rattle.std.specs.BTreeMap.{get, values}
+use Rattle.std.specs.BTreeMap.{get}
 use Rattle.std.specs.Fmt.{decimal}
 use Rattle.std.specs.declared.cmp.Reverse.{Reverse}
 use Rattle.std.specs.Ordering.{nat_cmp}
 use Rattle.tomex_steps.specs.declared.step.Step.{Step}
 use Rattle.tomex_symbols.specs.Functions.{function_at}
 use Rattle.tomex_symbols.specs.declared.symbol.Symbol.{Symbol}
-use Rattle.tomex_rvdec.specs.Text.{instr_text}
-use Rattle.tomex_rvexec.specs.Texts.{hex8}
 use Rattle.tomex_config.specs.Configuration.{Configuration}
 use Rattle.tomex_timing.specs.Needs.{drain}
 use Rattle.tomex_timing.specs.Search.{history}
 use Rattle.tomex_csv_text.specs.Csv.{record_text}
-use Rattle.tomex_run_views.specs.declared.counted.Counted.{Counted}
 use Rattle.tomex_run_views.specs.declared.tally.Group.{Group}
 use Rattle.tomex_run_views.specs.ByPlace.{pc_of, sum_columns, visits_in}
 use Rattle.tomex_run_views.specs.Tally.{fields_of_sum, only_drain, sum_of, with_drain}
@@ -25,9 +22,9 @@ use Rattle.tomex_functions.specs.declared.calls.Calls.{Calls}
 use Rattle.tomex_functions.specs.declared.rows.Listing.{Listing}
 use Rattle.tomex_functions.specs.declared.rows.Row.{Row}
 use Rattle.tomex_functions.specs.ByFunction.{AreRows, row_fields}
+use Rattle.tomex_functions.specs.ByPlace.{function_fields}
 use Rattle.tomex_functions.specs.Calls.{calls_in, calls_of}
 use Rattle.tomex_functions.specs.Functions.{function_key, function_of}
-use Rattle.tomex_functions.specs.ShownNames.{name_field}
 
 -- the addresses of a run's steps, in order, and their functions
 pub record IsIndexOf {A : Type 0} (symbols : List Symbol) (steps : List Step) (index : Index A) : Type 0 where
@@ -78,21 +75,14 @@ report_of_listing file listing =
     ++ (record_text (codes "drain" ∷ codes "-" ∷ codes "0" ∷ fields_of_sum listing.drain)
     ++ record_text (total_fields listing)))
 
--- and that of what was counted by address
-abbrev pub with_function : List ℕ → Group → Option Symbol → List (List ℕ)
-with_function file place function =
-    hex8 place.first.pc ∷ instr_text place.first.instr ∷ name_field file function ∷ fields_of_sum place.sum
-
-abbrev pub place_fields : List ℕ → List Symbol → Group → List (List ℕ)
-place_fields file symbols place = with_function file place (function_of symbols place.first)
-
-abbrev pub report_of_counted : {A : Type 0} → List ℕ → List Symbol → Counted A → List ℕ
-report_of_counted file symbols counted =
-    record_text (codes "pc" ∷ codes "instr" ∷ codes "function" ∷ sum_columns)
-    ++ (flat_map (λ place. record_text (place_fields file symbols place)) (values counted.tally.groups)
-    ++ (record_text (codes "drain" ∷ codes "-" ∷ codes "-" ∷ fields_of_sum (only_drain counted.drain))
-    ++ record_text
-    (codes "total" ∷ codes "-" ∷ codes "-" ∷ fields_of_sum (with_drain counted.drain counted.tally.all))))
+-- these are the fields of a step's function, if the step is one of the run's
+pub record IsFunctionField {A : Type 0} (file : List ℕ) (index : Index A) (step : Step) (own : List (List ℕ))
+    : Type 0 where
+  pub symbols : List Symbol
+  pub steps : List Step
+  pub index_is : IsIndexOf symbols steps index
+  pub has : HasAddress step.pc steps
+  pub own_is : own ≡ function_fields file symbols step
 
 -- what rows are ordered by: is there no function, the cycles, the greatest first, the address, and the number
 abbrev pub key_with : ℕ → Option Symbol → ℕ × Reverse ℕ × ℕ × ℕ

@@ -5,7 +5,8 @@ ghost use Rattle.std.specs.List.{flat_map};
 ghost use Rattle.csv.specs.Records.{fields_of, partial_of};
 ghost use Rattle.tomex_rvexec.specs.Run.{start_of};
 ghost use Rattle.tomex_rvexec.specs.Trace.{steps_from};
-ghost use Rattle.tomex_csv_text.specs.Csv.{IsReady, record_text, text_written};
+ghost use Rattle.tomex_csv_text.specs.Csv.{IsReady, record_text};
+ghost use Rattle.tomex_csv_text.specs.Growth.{Writes};
 ghost use Rattle.tomex_run_views.specs.Tally.{fields_of_sum};
 ghost use Rattle.tomex_symbols.specs.Symbols.{symbols_of};
 ghost use Rattle.tomex_functions.specs.ByFunction.{IsReportByFunction, address_field, row_fields};
@@ -74,8 +75,7 @@ fn put_row<A: Allocator>(
 ) -> Result<(), AllocError>
     requires ready { IsReady writer.old }
     ensures ready { OnOk result (IsReady writer.new) }
-    ensures text { OnOk result (text_written (λ v. v.items) writer.new
-        ≡ text_written (λ v. v.items) writer.old ++ record_text (row_fields file.now row.now)) }
+    ensures text { OnOk result (Writes (record_text (row_fields file.now row.now)) writer.old writer.new) }
 {
     fill_row(record, scratch, heap, file, row)?;
     put_record(writer, record)
@@ -90,8 +90,8 @@ fn put_rows<A: Allocator>(
 ) -> Result<(), AllocError>
     requires ready { IsReady writer.old }
     ensures ready { OnOk result (IsReady writer.new) }
-    ensures text { OnOk result (text_written (λ v. v.items) writer.new
-        ≡ text_written (λ v. v.items) writer.old ++ flat_map (λ row. record_text (row_fields file.now row)) rows.now) }
+    ensures text { OnOk result (
+        Writes (flat_map (λ row. record_text (row_fields file.now row)) rows.now) writer.old writer.new) }
 {
     let mut record = ByteRecord::new(heap);
     let mut scratch = String::new(heap);
@@ -108,8 +108,7 @@ fn put_total<A: Allocator>(
     listing: &Listing<A>,
 ) -> Result<(), AllocError>
     requires { IsReady writer.old }
-    ensures { OnOk result (text_written (λ v. v.items) writer.new
-        ≡ text_written (λ v. v.items) writer.old ++ record_text (total_fields listing.now)) }
+    ensures { OnOk result (Writes (record_text (total_fields listing.now)) writer.old writer.new) }
 {
     let mut record = ByteRecord::new(heap);
     let mut scratch = String::new(heap);
@@ -127,8 +126,7 @@ fn put_listing<A: Allocator>(
     listing: &Listing<A>,
 ) -> Result<(), AllocError>
     requires { IsReady writer.old }
-    ensures { OnOk result (text_written (λ v. v.items) writer.new
-        ≡ text_written (λ v. v.items) writer.old ++ report_of_listing file.now listing.now) }
+    ensures { OnOk result (Writes (report_of_listing file.now listing.now) writer.old writer.new) }
 {
     put_columns(writer, heap, &["pc", "function", "calls"])?;
     put_rows(writer, heap, file, listing.rows.as_slice())?;

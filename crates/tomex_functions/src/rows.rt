@@ -64,7 +64,7 @@ fn rows_of<A: Allocator + Clone>(
     ensures rows { IfOk result (λ rows. (symbols : List Symbol) (steps : List Step) → IsIndexOf symbols steps index.now
         → AreCalls symbols steps calls.now → All (λ group. HasAddress group.first.pc steps) (values tally.now.groups)
         → rows.items ≡ map (row_of_group symbols (calls_in symbols steps)) (values tally.now.groups)) }
-    ensures rising { OnOk result (IsOrdered nat_cmp tally.now.groups) }
+    ensures order { OnOk result (IsOrdered nat_cmp tally.now.groups) }
 {
     let mut rows = Vec::new(alloc);
     for group in tally.groups.values() {

@@ -3,6 +3,7 @@
 ghost use Rattle.std.specs.Prelude.{◌≡◌, ◌++◌, ◌∷◌, [], IfOk, OnOk, string_bytes};
 ghost use Rattle.std.specs.List.{flat_map};
 ghost use Rattle.csv.specs.Records.{fields_of, partial_of};
+ghost use Rattle.tomex_csv_text.specs.Growth.{Appends};
 ghost use Rattle.tomex_functions.specs.ShownNames.{name_field, shown_byte, shown_bytes, shown_function};
 
 use csv::ByteRecord;
@@ -16,7 +17,7 @@ const MOST_SHOWN: usize = 256;
 
 /// Adds a byte of a name that isn't UTF-8.
 fn push_byte(text: &mut String, byte: u8) -> Result<(), AllocError>
-    ensures { OnOk result (string_bytes text.new ≡ string_bytes text.old ++ shown_byte byte) }
+    ensures { OnOk result (Appends (shown_byte byte) text.old text.new) }
 {
     if byte < 128 {
         push_shown(text, char::from(byte))

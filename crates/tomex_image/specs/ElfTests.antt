@@ -6,7 +6,8 @@ use Rattle.tomex_image.specs.declared.error.ImageError.TheVariants.{Empty, Trunc
 use Rattle.tomex_image.specs.declared.error.ImageError.TheVariants.{Dynamic, Segment, Overlap, TooManySegments}
 use Rattle.tomex_image.specs.declared.error.ImageError.TheVariants.{Entry}
 use Rattle.tomex_image.specs.declared.elf.program_header.ProgramHeader.{ProgramHeader}
-use Rattle.tomex_image.specs.FileHeader.{is_riscv, is_executable, header_offset, header_size, header_count, entry_of}
+use Rattle.tomex_image.specs.FileHeader.{entry_of, header_count, header_offset, header_size, is_executable}
+use Rattle.tomex_image.specs.FileHeader.{is_rv32_file}
 use Rattle.tomex_image.specs.ProgramHeader.{headers_from, names_interpreter, is_loadable, takes_memory}
 use Rattle.tomex_image.specs.ProgramHeader.{with_segment, lies_in, shares_byte}
 use Rattle.tomex_image.specs.Tests.{Test, test}
@@ -20,7 +21,7 @@ most_segments = 16
 abbrev pub file_tests : List ℕ → List Test
 file_tests bytes =
     test (nat_lt (length bytes) 52) Truncated
-    ∷ test (not (is_riscv bytes)) NotRiscv
+    ∷ test (not (is_rv32_file bytes)) NotRiscv
     ∷ test (not (is_executable bytes)) NotExec
     ∷ test (nat_lt 0 (header_count bytes) && not (nat_eq (header_size bytes) 32)) HeaderSize
     ∷ test (nat_lt 0 (header_count bytes) && nat_lt (length bytes) (header_offset bytes + 32 * header_count bytes))

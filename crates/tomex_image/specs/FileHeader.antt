@@ -35,8 +35,8 @@ abbrev pub header_count : List ℕ → ℕ
 header_count bytes = half_at bytes 44
 
 -- ELFCLASS32, ELFDATA2LSB, EV_CURRENT, and EM_RISCV
-abbrev pub is_riscv : List ℕ → Bool
-is_riscv bytes =
+abbrev pub is_rv32_file : List ℕ → Bool
+is_rv32_file bytes =
     nat_eq (slice_index bytes 4) 1 && nat_eq (slice_index bytes 5) 1 && nat_eq (slice_index bytes 6) 1
     && nat_eq (machine bytes) 243
 

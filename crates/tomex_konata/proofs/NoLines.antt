@@ -1,10 +1,10 @@
 -- A step has no lines in a cycle in which it can't change.
-use Rattle.std.proofs.Common.{◌≡◌, ◌≢◌, ◌∙◌, ap, sym, refl, arith, inl, inr, ℕ, ◌+◌, ◌-◌, ◌<◌, ◌≤◌, ◌==◌, Bool, true}
-use Rattle.std.proofs.Common.{false, cond, ◌||◌, List, [], ◌++◌, Option, Some, None, min}
+use Rattle.std.proofs.Common.{◌≡◌, ◌≢◌, ◌∙◌, ap, sym, refl, arith, inl, inr, ℕ, ◌+◌, ◌-◌, ◌<◌, ◌≤◌, ◌==◌, Bool}
+use Rattle.std.proofs.Common.{false, cond, List, [], ◌++◌, Option, Some, None, min}
 use Rattle.std.specs.Prelude.{nat_le, nat_lt, unwrap_or}
 use Rattle.std.specs.List.{list_any}
 use Rattle.std.proofs.lemmas.Bool.{cases_Bool, cases_order, ne_eqb, eqb-true, eqb-false, lt-ltb, le-ltb, le-leb, lt-leb}
-use Rattle.std.proofs.lemmas.Bool.{leb-true}
+use Rattle.std.proofs.lemmas.Bool.{leb-true, or_parts}
 use Rattle.tomex_steps.specs.Steps.{is_number}
 use Rattle.tomex_timing.specs.declared.times.Times.{Times}
 use Rattle.tomex_run_views.specs.declared.stage.Stage.{Stage}
@@ -122,10 +122,6 @@ is_none : (c last t : ℕ) → t ≤ last → (min c last == t) ≡ false → c 
 is_none c last t within none = let other : min c last ≢ t = eqb-false (min c last) t none in
     λ same. other (omega (arith, within, same))
 
-or_false : (a b : Bool) → (a || b) ≡ false → (a ≡ false) × (b ≡ false)
-or_false true b e = absurd (cc)
-or_false false b e = (refl, e)
-
 nothing : (b : Bool) (lines turns wakes : List ℕ) → b ≡ false → turns ≡ [] → wakes ≡ [] → cond b lines []
     ++ (turns ++ wakes) ≡ []
 nothing b lines turns wakes not turn wake = rw (not, turn, wake) refl
@@ -134,15 +130,15 @@ pub quiet : (number last t : ℕ) (e : Entry) → t ≤ last → list_any (λ c.
     → step_lines number t e ≡ []
 unfolding step_lines
 quiet number last t e within none =
-    let p0 = or_false _ _ none in
-    let p1 = or_false _ _ p0.1 in
-    let p2 = or_false _ _ p1.1 in
-    let p3 = or_false _ _ p2.1 in
-    let p4 = or_false _ _ p3.1 in
-    let p5 = or_false _ _ p4.1 in
-    let p6 = or_false _ _ p5.1 in
-    let p7 = or_false _ _ p6.1 in
-    let p8 = or_false _ _ p7.1 in
+    let p0 = or_parts _ _ none in
+    let p1 = or_parts _ _ p0.1 in
+    let p2 = or_parts _ _ p1.1 in
+    let p3 = or_parts _ _ p2.1 in
+    let p4 = or_parts _ _ p3.1 in
+    let p5 = or_parts _ _ p4.1 in
+    let p6 = or_parts _ _ p5.1 in
+    let p7 = or_parts _ _ p6.1 in
+    let p8 = or_parts _ _ p7.1 in
     let issue = is_none e.at.issue last t within p0.0 in
     let still : IsStill e.at t = record {
       issue = issue;

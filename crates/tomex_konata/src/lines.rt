@@ -1,6 +1,7 @@
 //! The lines of a log.
 
-ghost use Rattle.std.specs.Prelude.{◌≡◌, ◌+◌, ◌<◌, ◌^◌, ◌++◌, OnOk, string_bytes};
+ghost use Rattle.std.specs.Prelude.{◌≡◌, ◌+◌, ◌<◌, ◌^◌, OnOk};
+ghost use Rattle.tomex_csv_text.specs.Growth.{Appends};
 ghost use Rattle.tomex_konata.specs.Konata.{begin_line, end_line, is_shared, issue_lines, name_of_stage, out_lines};
 ghost use Rattle.tomex_konata.specs.Konata.{place_of_stage, station_line, step_lines, turn_lines, wake_line};
 ghost use Rattle.tomex_konata.specs.Konata.{wake_lines};
@@ -47,8 +48,7 @@ fn push_station(
     pool: Option<PoolId>,
     station: Option<u8>,
 ) -> Result<(), AllocError>
-    ensures { OnOk result (string_bytes text.new
-        ≡ string_bytes text.old ++ station_line id pool station) }
+    ensures { OnOk result (Appends (station_line id pool station) text.old text.new) }
 {
     if let (Some(pool), Some(station)) = (pool, station) {
         write!(text, "L\t{id}\t1\t{pool}{station}\n")?;
@@ -58,8 +58,7 @@ fn push_station(
 
 /// Adds the lines of a step that issues.
 fn push_issue(text: &mut String, number: u64, entry: &Entry) -> Result<(), AllocError>
-    ensures { OnOk result (string_bytes text.new
-        ≡ string_bytes text.old ++ issue_lines number entry.now) }
+    ensures { OnOk result (Appends (issue_lines number entry.now) text.old text.new) }
 {
     let (id, pc, instr) = (entry.id, entry.step.pc, entry.step.instr);
     write!(
@@ -71,7 +70,7 @@ fn push_issue(text: &mut String, number: u64, entry: &Entry) -> Result<(), Alloc
 
 /// Adds the line of a stage that begins.
 fn push_begin(text: &mut String, id: usize, stage: Stage) -> Result<(), AllocError>
-    ensures { OnOk result (string_bytes text.new ≡ string_bytes text.old ++ begin_line id stage) }
+    ensures { OnOk result (Appends (begin_line id stage) text.old text.new) }
 {
     let name = name_of_stage(stage);
     write!(text, "S\t{id}\t0\t{name}\n")?;
@@ -80,7 +79,7 @@ fn push_begin(text: &mut String, id: usize, stage: Stage) -> Result<(), AllocErr
 
 /// Adds the line of a stage that ends.
 fn push_end(text: &mut String, id: usize, stage: Stage) -> Result<(), AllocError>
-    ensures { OnOk result (string_bytes text.new ≡ string_bytes text.old ++ end_line id stage) }
+    ensures { OnOk result (Appends (end_line id stage) text.old text.new) }
 {
     let name = name_of_stage(stage);
     write!(text, "E\t{id}\t0\t{name}\n")?;
@@ -94,7 +93,7 @@ fn push_turn(
     old: Option<Stage>,
     new: Option<Stage>,
 ) -> Result<(), AllocError>
-    ensures { OnOk result (string_bytes text.new ≡ string_bytes text.old ++ turn_lines id old new) }
+    ensures { OnOk result (Appends (turn_lines id old new) text.old text.new) }
 {
     match (old, new) {
         (None, Some(new)) => push_begin(text, id, new),
@@ -116,8 +115,7 @@ fn push_wake(
     cycle: u64,
     producer: Option<Producer>,
 ) -> Result<(), AllocError>
-    ensures { OnOk result (string_bytes text.new
-        ≡ string_bytes text.old ++ wake_line entry.now.id entry.now.at cycle producer) }
+    ensures { OnOk result (Appends (wake_line entry.now.id entry.now.at cycle producer) text.old text.new) }
 {
     if let Some(producer) = producer {
         if producer.end == cycle && entry.at.issue <= cycle {
@@ -140,8 +138,7 @@ fn is_shared(j: Option<Producer>, k: Option<Producer>) -> bool
 
 /// Adds the lines of the values that a step gets in a cycle.
 fn push_wakes(text: &mut String, entry: &Entry, cycle: u64) -> Result<(), AllocError>
-    ensures { OnOk result (string_bytes text.new
-        ≡ string_bytes text.old ++ wake_lines cycle entry.now) }
+    ensures { OnOk result (Appends (wake_lines cycle entry.now) text.old text.new) }
 {
     push_wake(text, entry, cycle, entry.j)?;
     if is_shared(entry.j, entry.k) {
@@ -159,8 +156,7 @@ pub fn push_step(
     entry: &Entry,
 ) -> Result<(), AllocError>
     requires few { number + entry.now.id < 2 ^ 64 }
-    ensures { OnOk result (string_bytes text.new
-        ≡ string_bytes text.old ++ step_lines number cycle entry.now) }
+    ensures { OnOk result (Appends (step_lines number cycle entry.now) text.old text.new) }
 {
     if cycle == entry.at.issue {
         push_issue(text, number + entry.id as u64, entry)?;
@@ -173,8 +169,7 @@ pub fn push_step(
 /// Adds the lines of a step that goes out after `gone` others.
 #[tactic(auto, unfolding(crate::specs::Konata::out_lines))]
 pub fn push_out(text: &mut String, gone: u64, entry: &Entry) -> Result<(), AllocError>
-    ensures { OnOk result (string_bytes text.new
-        ≡ string_bytes text.old ++ out_lines gone entry.now) }
+    ensures { OnOk result (Appends (out_lines gone entry.now) text.old text.new) }
 {
     if let Some(stage) = stage_in(&entry.at, entry.at.end) {
         let id = entry.id;

@@ -1,10 +1,10 @@
 //! The log of some steps of a run on one configuration.
 
 ghost use Rattle.std.specs.Prelude.{◌≡◌, ◌+◌, ◌-◌, ◌<◌, ◌^◌, ◌++◌, All, length, IfErr, IfOk, IsErrOf, OnOk};
-ghost use Rattle.std.specs.Prelude.{string_bytes};
 ghost use Rattle.tomex_rvexec.specs.Run.{start_of};
 ghost use Rattle.tomex_rvexec.specs.Trace.{steps_from};
 ghost use Rattle.tomex_timing.specs.Search.{total_of};
+ghost use Rattle.tomex_csv_text.specs.Growth.{Appends};
 ghost use Rattle.tomex_run_views.specs.Excerpt.{HasNoExcerpt};
 ghost use Rattle.tomex_konata.specs.Konata.{IsLogOf, head_of, log_of, next_since, with_cycle};
 ghost use Rattle.tomex_konata.specs.Kept.{event_lines, steps_out_after, events_text};
@@ -30,9 +30,8 @@ fn push_event(
     entry: &Entry,
 ) -> Result<(), AllocError>
     requires few { number + entry.now.id < 2 ^ 64 }
-    ensures { OnOk result (string_bytes text.new
-        ≡ string_bytes text.old
-        ++ event_lines number gone event.now.cycle event.now.kind entry.now) }
+    ensures { OnOk result (
+        Appends (event_lines number gone event.now.cycle event.now.kind entry.now) text.old text.new) }
 {
     match event.kind {
         Kind::Change => push_step(text, number, event.cycle, entry),
@@ -48,8 +47,7 @@ fn push_in_cycle<A: Allocator>(
     cycle: u64,
     lines: &str,
 ) -> Result<u64, AllocError>
-    ensures text { OnOk result (string_bytes text.new
-        ≡ string_bytes text.old ++ with_cycle (cycle - since) lines.now) }
+    ensures text { OnOk result (Appends (with_cycle (cycle - since) lines.now) text.old text.new) }
     ensures since { IfOk result (λ last. last ≡ next_since since cycle lines.now) }
 {
     if lines.is_empty() {
@@ -86,8 +84,7 @@ fn push_events<A: Allocator>(
     requires there { All (λ event. event.id < length entries.now) events.now }
     requires few { All (λ entry. number + entry.id < 2 ^ 64) entries.now }
     requires many { length events.now < 2 ^ 63 }
-    ensures { OnOk result (string_bytes text.new
-        ≡ string_bytes text.old ++ events_text number entries.now first 0 events.now) }
+    ensures { OnOk result (Appends (events_text number entries.now first 0 events.now) text.old text.new) }
 {
     let mut lines = String::new(heap);
     let mut since = first;

@@ -24,7 +24,7 @@ lanes_of workers = map (λ w. w.lane) workers
 abbrev shares : List Known → List ℕ
 shares seats = flat_map (λ s. s.view.share) seats
 
--- the least of rising numbers is the first
+-- the least of numbers in ascending order is the first
 least_first : (a n : ℕ) → least_of (range_with_len a (suc n)) ≡ a
 least_first a zero = refl
 least_first a (suc n) = let e = least_first (a + 1) n in omega arith

@@ -8,6 +8,10 @@ use Rattle.tomex_lanes.specs.declared.known.Known.{Known}
 abbrev pub known_list : Bool → List ℕ → Known
 known_list filling rows = record { filling = filling; rows = rows }
 
+-- one more row at the end of a list that is being filled
+abbrev pub Adds : ℕ → Known → Known → Type 0
+Adds row old new = new ≡ known_list true (old.rows ++ row ∷ [])
+
 -- A pass knows the list. A pass that may add to it is the only one, and the deque holds the end of the list.
 abbrev pub KnowsList : List ℕ → List ℕ → List Known → Known → Type 0
 KnowsList rows after views v = (v.rows ≡ rows) × (v.filling ≡ true → (after ≡ []) × (views ≡ v ∷ []))

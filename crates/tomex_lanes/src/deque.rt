@@ -44,7 +44,7 @@ impl<A: Allocator> Model for Victim<A> {
 }
 
 impl<A: Allocator> RowDeque<A> {
-    /// The deque of a worker, with all its rows, rising.
+    /// The deque of a worker, with all its rows in ascending order.
     pub fn with_rows(
         alloc: A,
         worker: usize,

@@ -34,7 +34,7 @@ impl<A: Allocator> Model for Lane<A> {
         × All (λ rows. AreBelow l.count rows) l.others.items };
 }
 
-/// The rows of a worker, rising.
+/// The rows of a worker, in ascending order.
 fn rows_of<A: Allocator>(
     alloc: A,
     worker: usize,
@@ -110,7 +110,7 @@ impl<A: Allocator> Lane<A> {
         self.count
     }
 
-    /// The rows that were dealt to the worker, rising, also those that were taken since.
+    /// The rows that were dealt to the worker, in ascending order, also those that were taken since.
     pub fn rows(&self) -> &[usize]
         ensures value { result.now ≡ self.now.rows }
         ensures below { AreBelow self.now.count self.now.rows }

@@ -1,10 +1,10 @@
 //! Steps on a deque of rows.
 
-ghost use Rattle.std.specs.Prelude.{◌≡◌, true, false, [], ◌∷◌, ◌++◌, ◌<◌, IfOk, IfSome, Contains};
+ghost use Rattle.std.specs.Prelude.{◌≡◌, true, false, ◌<◌, IfOk, IfSome, Contains};
 ghost use Rattle.crossbeam_deque.specs.Handles.{view, IsPassOf, worker_deque, worker_flavor};
 ghost use Rattle.crossbeam_deque.specs.Handles.{stealer_deque, worker_view};
 ghost use Rattle.tomex_lanes.specs.Rows.{rows_of};
-ghost use Rattle.tomex_lanes.specs.Rule.{known_list};
+ghost use Rattle.tomex_lanes.specs.Rule.{Adds, known_list};
 
 use crate::known::Known;
 use crate::rule::{Added, OfList, Shared, Taken};
@@ -25,8 +25,7 @@ fn add<A: Allocator>(owner: &mut Owner<A>, row: usize) -> Result<(), AllocError>
     requires { (worker_view owner.old).filling ≡ true }
     ensures same { (worker_deque owner.new ≡ worker_deque owner.old)
         × (worker_flavor owner.new ≡ worker_flavor owner.old) }
-    ensures added { IfOk result
-        (λ _. worker_view owner.new ≡ known_list true ((worker_view owner.old).rows ++ row ∷ [])) }
+    ensures added { IfOk result (λ _. Adds row (worker_view owner.old) (worker_view owner.new)) }
 {
     match owner.push_as::<Added>(row) {
         Ok(()) => Ok(()),

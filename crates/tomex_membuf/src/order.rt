@@ -2,7 +2,7 @@
 
 ghost use Rattle.std.specs.Prelude.{ℕ, Decides, Some, ◌≡◌, ◌<◌};
 ghost use Rattle.tomex_sets.specs.Sets.{has};
-ghost use Rattle.tomex_timing.specs.Recurrence.{shares_byte};
+ghost use Rattle.tomex_steps.specs.Steps.{shares_byte};
 ghost use Rattle.tomex_membuf.specs.Order.{HasAtMostOneAccess, HasEachBlocker, IsClear, IsClearAt, blocks};
 ghost use Rattle.tomex_membuf.specs.Order.{stations_conflict, is_finished_before, lets_pass};
 ghost use Rattle.tomex_tags.specs.Contents.{slot};
@@ -19,7 +19,7 @@ fn shares_byte(a: Option<ByteRange>, b: Option<ByteRange>) -> bool
     ensures { result ≡ shares_byte a b }
 {
     match (a, b) {
-        (Some(a), Some(b)) => a.from < b.to && b.from < a.to,
+        (Some(a), Some(b)) => a.shares_byte(b),
         _ => false,
     }
 }

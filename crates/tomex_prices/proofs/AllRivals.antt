@@ -1,9 +1,9 @@
 -- All rivals: a row stays at exactly the prices of its interval.
-use Rattle.std.proofs.Common.{◌≡◌, ℕ, ◌≤◌, arith, ap, sym, refl, Bool, true, false, not, ◌&&◌, ◌||◌}
+use Rattle.std.proofs.Common.{◌≡◌, ℕ, ◌≤◌, arith, ap, sym, refl, Bool, true, false, not, ◌&&◌}
 use Rattle.std.proofs.Common.{nat_le, List, [], ◌∷◌}
 use Rattle.std.specs.Prelude.{max, min, map}
 use Rattle.std.specs.List.{list_any}
-use Rattle.std.proofs.lemmas.Bool.{and_from, and_parts, true≢false, false≢true, leb-true, le-leb}
+use Rattle.std.proofs.lemmas.Bool.{and_from, and_parts, or_from, or_parts, false≢true, leb-true, le-leb}
 use Rattle.tomex_pareto.specs.Front.{dominates}
 use Rattle.tomex_prices.specs.declared.priced_row.PricedRow.{PricedRow}
 use Rattle.tomex_prices.specs.Interval.{at_price, fall, least, most, rise, stays}
@@ -18,19 +18,11 @@ KeepsAll q r (j ∷ js) = Keeps q r j × KeepsAll q r js
 any_beats : ℕ → List PricedRow → PricedRow → Bool
 any_beats q rows r = list_any (λ x. dominates x (at_price q r)) (map (at_price q) rows)
 
-or_none : (x y : Bool) → (x || y) ≡ false → (x ≡ false) × (y ≡ false)
-or_none true y e = absurd (true≢false e)
-or_none false y e = (refl, e)
-
-none_or : (x y : Bool) → x ≡ false → y ≡ false → (x || y) ≡ false
-none_or true y e f = absurd (true≢false e)
-none_or false y e f = f
-
 none_keeps : (q : ℕ) (r : PricedRow) (rows : List PricedRow)
     → list_any (λ x. dominates x (at_price q r)) (map (at_price q) rows) ≡ false → KeepsAll q r rows
 none_keeps q r [] e = tt
 none_keeps q r (j ∷ js) e =
-    let two = or_none (dominates (at_price q j) (at_price q r))
+    let two = or_parts (dominates (at_price q j) (at_price q r))
     (list_any (λ x. dominates x (at_price q r)) (map (at_price q) js)) e in
     (free_keeps q r j two.0, none_keeps q r js two.1)
 
@@ -38,7 +30,7 @@ keeps_none : (q : ℕ) (r : PricedRow) (rows : List PricedRow) → KeepsAll q r 
     → list_any (λ x. dominates x (at_price q r)) (map (at_price q) rows) ≡ false
 keeps_none q r [] k = refl
 keeps_none q r (j ∷ js) k =
-    none_or (dominates (at_price q j) (at_price q r))
+    or_from (dominates (at_price q j) (at_price q r))
     (list_any (λ x. dominates x (at_price q r)) (map (at_price q) js)) (keeps_free q r j k.0) (keeps_none q r js k.1)
 
 not_false : (b : Bool) → not b ≡ true → b ≡ false

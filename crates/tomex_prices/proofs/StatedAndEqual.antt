@@ -1,10 +1,10 @@
 -- A row of the front stays at the stated price, and at all prices if rows pay it equally often.
-use Rattle.std.proofs.Common.{◌≡◌, ◌∙◌, ◌<◌, ◌≤◌, ◌&&◌, ◌||◌, ◌==◌, ℕ, zero, suc, ap, arith}
+use Rattle.std.proofs.Common.{◌≡◌, ◌∙◌, ◌<◌, ◌≤◌, ◌&&◌, ◌==◌, ℕ, zero, suc, ap, arith}
 use Rattle.std.proofs.Common.{refl, sym, Bool, true, false, not}
 use Rattle.std.proofs.Common.{inl, inr, get_or, length, List, [], ◌∷◌}
 use Rattle.std.specs.Prelude.{max, min}
 use Rattle.std.specs.List.{list_any}
-use Rattle.std.proofs.lemmas.Bool.{cases_Bool, eqb-true, le-ltb, true≢false}
+use Rattle.std.proofs.lemmas.Bool.{cases_Bool, eqb-true, le-ltb, or_parts, true≢false}
 use Rattle.tomex_config.specs.Configuration.{Configuration, plain}
 use Rattle.tomex_config.specs.Cost.{PriceList}
 use Rattle.tomex_pareto.specs.Front.{front_of, rows_from}
@@ -49,10 +49,6 @@ abbrev EachIsPaid : ℕ → List PricedRow → Type 0
 EachIsPaid t [] = Unit {0}
 EachIsPaid t (j ∷ js) = (j.times ≡ t) × EachIsPaid t js
 
-or_none : (x y : Bool) → (x || y) ≡ false → (x ≡ false) × (y ≡ false)
-or_none true y e = absurd (true≢false e)
-or_none false y e = (refl, e)
-
 not_other : (n t : ℕ) → not (n == t) ≡ false → n ≡ t
 not_other n t e = elim (cases_Bool (n == t)) [
   | inl same ↦ eqb-true n t same
@@ -63,7 +59,7 @@ each_pays : (price : Price) (t : ℕ) (cs : List Configuration) → list_any (λ
     → EachPays price t cs
 each_pays price t [] e = tt
 each_pays price t (c ∷ cs) e =
-    let two = or_none (not (payments price c == t)) (list_any (λ d. not (payments price d == t)) cs) e in
+    let two = or_parts (not (payments price c == t)) (list_any (λ d. not (payments price d == t)) cs) e in
     (not_other (payments price c) t two.0, each_pays price t cs two.1)
 
 pays_at : (price : Price) (t k : ℕ) (cs : List Configuration) → k < length cs → EachPays price t cs

@@ -1,9 +1,9 @@
 -- A price: its stated value, how often a configuration pays it, and its name.
-use Rattle.std.specs.Prelude.{ℕ, ◌&&◌, ◌==◌, ◌++◌, codes, if◌then◌else◌, Bool, List}
+use Rattle.std.specs.Prelude.{ℕ, ◌++◌, codes, if◌then◌else◌, List}
 use Rattle.std.specs.Fmt.{decimal}
 use Rattle.tomex_rvdec.specs.Parts.{name_of_pool, name_of_unit}
 use Rattle.tomex_config.specs.declared.config.UnitOption.{UnitOption}
-use Rattle.tomex_config.specs.Configuration.{Configuration, option_of, stations_of}
+use Rattle.tomex_config.specs.Configuration.{Configuration, option_of, same_option, stations_of}
 use Rattle.tomex_config.specs.Cost.{PriceList, price_of}
 use Rattle.tomex_prices.specs.declared.price.Price.{Price}
 use Rattle.tomex_prices.specs.declared.price.Price.TheVariants.{Station, Choice, Bus, Width}

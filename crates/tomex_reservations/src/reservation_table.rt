@@ -64,52 +64,52 @@ impl<A: Allocator> ReservationTable<A> {
         }
     }
 
-    /// The first cycle from `from` on in which fewer than `most` of a line are taken. None are
-    /// taken after the cycle `bound`.
+    /// The first cycle from `from` on in which one of a line is free: fewer are taken than its capacity. None are taken
+    /// after the cycle `last_taken`.
     // Usually it is `from` itself; the search is out of line, so that this test is only a few
     // instructions.
     #[inline(always)]
-    pub fn first(&self, line: usize, most: u8, from: u64, bound: u64) -> Room
+    pub fn first_free(&self, line: usize, capacity: u8, from: u64, last_taken: u64) -> Room
         requires line { line < 6 }
-        requires most { 1 ≤ most }
+        requires capacity { 1 ≤ capacity }
         requires ahead { self.now.base ≤ from }
-        requires quiet { (t : ℕ) → bound < t → taken_at self.now line t ≡ 0 }
+        requires quiet { (t : ℕ) → last_taken < t → taken_at self.now line t ≡ 0 }
         requires from { from < 2 ^ 63 + 128 }
-        requires small { bound < 2 ^ 63 }
-        ensures first { IsFirst from (is_left self.now line most) result.cycle }
+        requires small { last_taken < 2 ^ 63 }
+        ensures first { IsFirst from (is_left self.now line capacity) result.cycle }
         ensures taken { result.taken ≡ taken_at self.now line result.cycle + 1 }
         ensures from { from ≤ result.cycle }
-        ensures by { result.cycle ≤ max from (bound + 1) }
+        ensures by { result.cycle ≤ max from (last_taken + 1) }
     {
         let taken = self.count_taken(line, from);
-        if taken < most {
+        if taken < capacity {
             Room {
                 cycle: from,
                 taken: u64::from(taken) + 1,
             }
         } else {
-            self.search(line, most, from, bound)
+            self.search(line, capacity, from, last_taken)
         }
     }
 
-    /// `first`, by a search.
+    /// `first_free`, by a search.
     #[inline(never)]
-    fn search(&self, line: usize, most: u8, from: u64, bound: u64) -> Room
+    fn search(&self, line: usize, capacity: u8, from: u64, last_taken: u64) -> Room
         requires line { line < 6 }
-        requires most { 1 ≤ most }
+        requires capacity { 1 ≤ capacity }
         requires ahead { self.now.base ≤ from }
-        requires quiet { (t : ℕ) → bound < t → taken_at self.now line t ≡ 0 }
+        requires quiet { (t : ℕ) → last_taken < t → taken_at self.now line t ≡ 0 }
         requires from { from < 2 ^ 63 + 128 }
-        requires small { bound < 2 ^ 63 }
-        ensures first { IsFirst from (is_left self.now line most) result.cycle }
+        requires small { last_taken < 2 ^ 63 }
+        ensures first { IsFirst from (is_left self.now line capacity) result.cycle }
         ensures taken { result.taken ≡ taken_at self.now line result.cycle + 1 }
         ensures from { from ≤ result.cycle }
-        ensures by { result.cycle ≤ max from (bound + 1) }
+        ensures by { result.cycle ≤ max from (last_taken + 1) }
     {
         let mut cycle = from;
         loop {
             let taken = self.count_taken(line, cycle);
-            if taken < most {
+            if taken < capacity {
                 return Room {
                     cycle,
                     taken: u64::from(taken) + 1,
@@ -163,26 +163,26 @@ impl<A: Allocator> ReservationTable<A> {
         Ok(())
     }
 
-    /// Takes one of a line in the first cycle from `from` on in which fewer than `most` are taken.
-    /// None are taken after the cycle `bound`.
+    /// Takes one of a line in the first cycle from `from` on in which fewer are taken than its capacity. None are taken
+    /// after the cycle `last_taken`.
     #[inline(always)]
     pub fn reserve(
         &mut self,
         line: usize,
-        most: u8,
+        capacity: u8,
         from: u64,
-        bound: u64,
+        last_taken: u64,
     ) -> Result<Room, AllocError>
         requires line { line < 6 }
-        requires most { 1 ≤ most }
+        requires capacity { 1 ≤ capacity }
         requires ahead { self.old.base ≤ from }
-        requires quiet { (t : ℕ) → bound < t → taken_at self.old line t ≡ 0 }
+        requires quiet { (t : ℕ) → last_taken < t → taken_at self.old line t ≡ 0 }
         requires from { from < 2 ^ 63 + 128 }
-        requires small { bound < 2 ^ 63 }
-        ensures first { IfOk result (λ r. IsFirst from (is_left self.old line most) r.cycle) }
+        requires small { last_taken < 2 ^ 63 }
+        ensures first { IfOk result (λ r. IsFirst from (is_left self.old line capacity) r.cycle) }
         ensures taken { IfOk result (λ r. r.taken ≡ taken_at self.old line r.cycle + 1) }
         ensures from { IfOk result (λ r. from ≤ r.cycle) }
-        ensures by { IfOk result (λ r. r.cycle ≤ max from (bound + 1)) }
+        ensures by { IfOk result (λ r. r.cycle ≤ max from (last_taken + 1)) }
         ensures base { self.new.base ≡ self.old.base }
         ensures with { IfOk result (λ r. (l t : ℕ) → l < 6 → self.old.base ≤ t
             → taken_at self.new l t ≡ taken_with self.old line r.cycle l t) }
@@ -190,7 +190,7 @@ impl<A: Allocator> ReservationTable<A> {
     {
         let place = (from - self.base) as usize;
         // Usually this cycle has room, and one access finds and takes it.
-        if place < self.slots.len() && self.slots[place][line] < most {
+        if place < self.slots.len() && self.slots[place][line] < capacity {
             let taken = self.slots[place][line];
             self.slots[place][line] = taken + 1;
             return Ok(Room {
@@ -198,7 +198,7 @@ impl<A: Allocator> ReservationTable<A> {
                 taken: u64::from(taken) + 1,
             });
         }
-        self.reserve_later(line, most, from, bound)
+        self.reserve_later(line, capacity, from, last_taken)
     }
 
     /// `reserve`, by a search.
@@ -206,26 +206,26 @@ impl<A: Allocator> ReservationTable<A> {
     fn reserve_later(
         &mut self,
         line: usize,
-        most: u8,
+        capacity: u8,
         from: u64,
-        bound: u64,
+        last_taken: u64,
     ) -> Result<Room, AllocError>
         requires line { line < 6 }
-        requires most { 1 ≤ most }
+        requires capacity { 1 ≤ capacity }
         requires ahead { self.old.base ≤ from }
-        requires quiet { (t : ℕ) → bound < t → taken_at self.old line t ≡ 0 }
+        requires quiet { (t : ℕ) → last_taken < t → taken_at self.old line t ≡ 0 }
         requires from { from < 2 ^ 63 + 128 }
-        requires small { bound < 2 ^ 63 }
-        ensures first { IfOk result (λ r. IsFirst from (is_left self.old line most) r.cycle) }
+        requires small { last_taken < 2 ^ 63 }
+        ensures first { IfOk result (λ r. IsFirst from (is_left self.old line capacity) r.cycle) }
         ensures taken { IfOk result (λ r. r.taken ≡ taken_at self.old line r.cycle + 1) }
         ensures from { IfOk result (λ r. from ≤ r.cycle) }
-        ensures by { IfOk result (λ r. r.cycle ≤ max from (bound + 1)) }
+        ensures by { IfOk result (λ r. r.cycle ≤ max from (last_taken + 1)) }
         ensures base { self.new.base ≡ self.old.base }
         ensures with { IfOk result (λ r. (l t : ℕ) → l < 6 → self.old.base ≤ t
             → taken_at self.new l t ≡ taken_with self.old line r.cycle l t) }
         ensures refused { OnErr result ((l t : ℕ) → taken_at self.new l t ≡ taken_at self.old l t) }
     {
-        let room = self.first(line, most, from, bound);
+        let room = self.first_free(line, capacity, from, last_taken);
         self.take(line, room.cycle)?;
         Ok(room)
     }

@@ -4,6 +4,7 @@ use Rattle.std.proofs.Common.{get_or, length, map, take}
 use Rattle.std.specs.Prelude.{◌||◌, ◌==◌}
 use Rattle.std.specs.List.{list_any, range_with_len}
 use Rattle.std.proofs.Math.ListN.{length-set, replicate, set}
+use Rattle.std.proofs.Math.Bool.{or-false}
 use Rattle.std.proofs.lemmas.Bool.{cases_eq, eq-eqb, ne_eqb}
 use Rattle.std.proofs.lemmas.List.{get_or-replicate, get_or-set_other, get_or-set_same, length-replicate, take_all}
 use Rattle.std.proofs.lemmas.List.Folds.{list_any_more}
@@ -26,10 +27,6 @@ none_flagged rows flags is = record {
 or_true : (b : Bool) → (b || true) ≡ true
 or_true true = refl
 or_true false = refl
-
-or_false : (b : Bool) → (b || false) ≡ b
-or_false true = refl
-or_false false = refl
 
 pub one_flagged : (rows : ℕ) (front : List FrontRow) (k : ℕ) (d : FrontRow) (flags : List Bool) → k < length front
     → (get_or front k d).row < rows → AreFlags rows (take k front) flags
@@ -54,7 +51,7 @@ one_flagged rows front k d flags low within before =
                 get_or-set_other flags r.row row true false apart
                 ∙ (before.each row below
                 ∙ sym (more ∙ (ap (λ (b : Bool). list_any test (take k front) || b)
-                (ne_eqb r.row row (λ e. apart (sym e))) ∙ or_false _)))
+                (ne_eqb r.row row (λ e. apart (sym e))) ∙ or-false _)))
           ];
     }
 

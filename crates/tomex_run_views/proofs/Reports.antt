@@ -22,8 +22,8 @@ use Rattle.tomex_timing.specs.Search.{history}
 use Rattle.tomex_timing.specs.Waiting.{AreWithin}
 use Rattle.tomex_timing.specs.declared.part.Waits.{Waits}
 use Rattle.tomex_csv_text.specs.Csv.{record_text}
-use Rattle.tomex_run_views.specs.ByPlace.{AreKeys, IsReportByPlace, Visit, pc_of, place_record, report_at, sum_columns}
-use Rattle.tomex_run_views.specs.ByPlace.{visits_in, visits_of}
+use Rattle.tomex_run_views.specs.ByPlace.{AreKeys, IsReportWith, Visit, dashes, pc_of, place_record, report_at}
+use Rattle.tomex_run_views.specs.ByPlace.{sum_columns, visits_in, visits_of}
 use Rattle.tomex_run_views.specs.declared.counted.Counted.{Counted}
 use Rattle.tomex_run_views.specs.declared.tally.Group.{Group}
 use Rattle.tomex_run_views.specs.declared.tally.Sum.{Sum}
@@ -62,7 +62,7 @@ module _ {A : Type 0} (key : Step → ℕ) (visits : List Visit) (tally : Tally 
     (ordered : IsOrdered nat_cmp tally.groups) where
   pub are_keys : AreKeys key visits (keys tally.groups)
   are_keys = record {
-    rising = ordered;
+    ascending = ordered;
     those = λ k.
         same_any (λ p. p == k) (is_at (nat_cmp k)) (λ p. flip p k) (keys tally.groups)
         ∙ (sym (is_some-lookup (is_at (nat_cmp k)) tally.groups.entries)
@@ -88,36 +88,46 @@ module _ {A : Type 0} (key : Step → ℕ) (visits : List Visit) (tally : Tally 
       ap₂ (λ a b. a ++ b) (same (visits_of key e.0 visits) e.1 (All-head IsKept e es all))
       (shown_are f g es (All-tail IsKept e es all) same)
 
--- a place's record is that of its visits
-record_is : (vs : List Visit) (place : Group) → group_of vs ≡ Some place
-    → record_text (place_fields place) ≡ place_record vs
-record_is [] place is = absurd (cc)
-record_is (v ∷ vs) place is =
-    ap (λ (o : Option Group). option_map_or (λ p. record_text (place_fields p)) o []) (sym is)
+-- the report by place, with more columns
+module _ {A : Type 0} (names : List (List ℕ)) (own : Step → List (List ℕ)) (config : Configuration) (steps : List Step)
+    (counted : Counted A) (is : IsCounted pc_of config steps counted)
+    (ordered : IsOrdered nat_cmp counted.tally.groups) where
+  -- a place's record is that of its visits
+  record_is : (vs : List Visit) (place : Group) → group_of vs ≡ Some place
+      → record_text (place_fields own place) ≡ place_record own vs
+  record_is [] place is = absurd (cc)
+  record_is (v ∷ vs) place is =
+      ap (λ (o : Option Group). option_map_or (λ p. record_text (place_fields own p)) o []) (sym is)
 
-report_is : {A : Type 0} (config : Configuration) (steps : List Step) (counted : Counted A)
-    → IsCounted pc_of config steps counted → IsOrdered nat_cmp counted.tally.groups
-    → report_of_counted counted
-    ≡ report_at (keys counted.tally.groups) (drain (history config steps)) (visits_in config steps)
-report_is config steps counted is ordered =
-    let places = shown_are pc_of (visits_in config steps) counted.tally is.tally ordered
-    (λ place. record_text (place_fields place)) place_record counted.tally.groups.entries
-    (entry_is pc_of (visits_in config steps) counted.tally is.tally ordered) record_is in
-    ap₂ (λ (a b : List ℕ). record_text (codes "pc" ∷ codes "instr" ∷ sum_columns) ++ (a ++ b)) places
-    (ap₂ (λ (n : ℕ) (s : Sum). record_text (codes "drain" ∷ codes "-" ∷ fields_of_sum (only_drain n))
-    ++ record_text (codes "total" ∷ codes "-" ∷ fields_of_sum (with_drain n s))) is.drain is.tally.all)
+  report_is : report_of_counted names own counted
+      ≡ report_at names own (keys counted.tally.groups) (drain (history config steps)) (visits_in config steps)
+  report_is =
+      let places = shown_are pc_of (visits_in config steps) counted.tally is.tally ordered
+      (λ place. record_text (place_fields own place)) (place_record own) counted.tally.groups.entries
+      (entry_is pc_of (visits_in config steps) counted.tally is.tally ordered) record_is in
+      ap₂ (λ (a b : List ℕ). record_text (codes "pc" ∷ codes "instr" ∷ names ++ sum_columns) ++ (a ++ b)) places
+      (ap₂ (λ (n : ℕ) (s : Sum).
+      record_text (codes "drain" ∷ codes "-" ∷ dashes names ++ fields_of_sum (only_drain n))
+      ++ record_text (codes "total" ∷ codes "-" ∷ dashes names ++ fields_of_sum (with_drain n s))) is.drain
+      is.tally.all)
 
--- the text of what was counted by address is the report by place
-pub report_of : {A B E : Type 0} (r : Result (Vec ℕ B) E) (config : Configuration) (steps : List Step)
-    (counted : Counted A) → IsCounted pc_of config steps counted
-    → IfOk r (λ text. text.items ≡ report_of_counted counted) → OnOk r (IsOrdered nat_cmp counted.tally.groups)
-    → IfOk r (λ text. IsReportByPlace config steps text.items)
-report_of (Ok text) config steps counted is written ordered = (
-  keys counted.tally.groups,
-  are_keys pc_of (visits_in config steps) counted.tally is.tally ordered,
-  written ∙ report_is config steps counted is ordered,
-)
-report_of (Err e) config steps counted is written ordered = tt
+  -- the text of what was counted by address is the report
+  pub report_of : (text : List ℕ) → text ≡ report_of_counted names own counted
+      → IsReportWith names own config steps text
+  report_of text written = (
+    keys counted.tally.groups,
+    are_keys pc_of (visits_in config steps) counted.tally is.tally ordered,
+    written ∙ report_is,
+  )
+
+-- so is a text that there may be
+pub report_if_made : {A B E : Type 0} (names : List (List ℕ)) (own : Step → List (List ℕ)) (config : Configuration)
+    (steps : List Step) (counted : Counted A) → IsCounted pc_of config steps counted → (r : Result (Vec ℕ B) E)
+    → IfOk r (λ text. text.items ≡ report_of_counted names own counted)
+    → OnOk r (IsOrdered nat_cmp counted.tally.groups) → IfOk r (λ text. IsReportWith names own config steps text.items)
+report_if_made names own config steps counted is (Ok text) written ordered =
+    report_of names own config steps counted is ordered text.items written
+report_if_made names own config steps counted is (Err e) written ordered = tt
 
 -- no wait is longer than a larger number
 pub wider : (n m : ℕ) (w : Waits) → n ≤ m → AreWithin n w → AreWithin m w

@@ -61,17 +61,17 @@ nowhere n k (pc ∷ pcs) below =
 -- and at one of them it is there once
 once : (n k : ℕ) (pcs : List ℕ) → IsStrictlySortedBy nat_cmp pcs → list_any (λ p. p == k) pcs ≡ true
     → sum_by (λ pc. cond (k == pc) n 0) pcs ≡ n
-once n k [] rising there = absurd (cc)
-once n k (pc ∷ pcs) rising there =
+once n k [] ascending there = absurd (cc)
+once n k (pc ∷ pcs) ascending there =
     sum_by-cons (λ pc. cond (k == pc) n 0) pc pcs
-    ∙ go (eqb_tells pc k) (λ in_rest. once n k pcs (sorted_tail nat_cmp pc pcs rising) in_rest)
+    ∙ go (eqb_tells pc k) (λ in_rest. once n k pcs (sorted_tail nat_cmp pc pcs ascending) in_rest)
   where
     go : ((pc == k) ≡ true) × (pc ≡ k) ⊎ ((pc == k) ≡ false) × (pc ≢ k)
         → (list_any (λ p. p == k) pcs ≡ true → sum_by (λ pc. cond (k == pc) n 0) pcs ≡ n)
         → cond (k == pc) n 0 + sum_by (λ pc. cond (k == pc) n 0) pcs ≡ n
     go (inl same) later =
         let above = subst (λ (k : ℕ). AllByRecursion (λ y. nat_cmp k y ≡ Less) pcs) same.1
-        (sorted_head nat_cmp pc pcs rising) in
+        (sorted_head nat_cmp pc pcs ascending) in
         rw (nowhere n k pcs above, same.1, eqb_itself k) (omega arith)
     go (inr other) later =
         rw (later (rw other.0 at there), ne_eqb k pc (λ e. other.1 (sym e))) (omega arith)
@@ -80,14 +80,14 @@ once n k (pc ∷ pcs) rising there =
 pub by_keys : (key : Step → ℕ) (f : Visit → ℕ) (visits : List Visit) (pcs : List ℕ) → IsStrictlySortedBy nat_cmp pcs
     → ((pc : ℕ) → list_any (λ v. key v.step == pc) visits ≡ true → list_any (λ p. p == pc) pcs ≡ true)
     → sum_by (λ pc. sum_by f (visits_of key pc visits)) pcs ≡ sum_by f visits
-by_keys key f [] pcs rising there = nothing pcs
+by_keys key f [] pcs ascending there = nothing pcs
   where
     nothing : (pcs : List ℕ) → sum_by (λ pc. 0) pcs ≡ 0
     nothing [] = refl
     nothing (pc ∷ pcs) = rw (sum_by-cons (λ pc. 0) pc pcs, nothing pcs) refl
-by_keys key f (v ∷ vs) pcs rising there =
-    let own = once (f v) (key v.step) pcs rising (there (key v.step) (rw (eqb_itself (key v.step)) refl)) in
-    let others = by_keys key f vs pcs rising (λ pc in_rest. there pc (rw in_rest (or-true _))) in
+by_keys key f (v ∷ vs) pcs ascending there =
+    let own = once (f v) (key v.step) pcs ascending (there (key v.step) (rw (eqb_itself (key v.step)) refl)) in
+    let others = by_keys key f vs pcs ascending (λ pc in_rest. there pc (rw in_rest (or-true _))) in
     omega (arith, one_more_in_all key f v vs pcs, own, others, sum_by-cons f v vs)
 
 -- as many as there are is one for each

@@ -1,6 +1,7 @@
--- The stalls report by place in the program: a record for each address at which the run has a step, rising, with how
--- many steps it has there, how many cycles they take, and how long they wait for what.
-use Rattle.std.specs.Prelude.{◌≡◌, ℕ, ◌+◌, ◌-◌, ◌==◌, List, [], ◌∷◌, ◌++◌, codes, filter, length, sum_by}
+-- The stalls report by place in the program: a record for each address at which the run has a step, in ascending
+-- order, with how many steps it has there, how many cycles they take, and how long they wait for what. A report may
+-- have more columns that say something of a place, such as its function.
+use Rattle.std.specs.Prelude.{◌≡◌, ℕ, ◌+◌, ◌-◌, ◌==◌, List, [], ◌∷◌, ◌++◌, codes, filter, length, map, sum_by}
 use Rattle.std.specs.List.{flat_map, list_any}
 use Rattle.std.specs.List.Sorted.{IsStrictlySortedBy}
 use Rattle.std.specs.Ordering.{nat_cmp}
@@ -41,9 +42,9 @@ pc_of step = step.pc
 abbrev pub visits_at : ℕ → List Visit → List Visit
 visits_at pc visits = visits_of pc_of pc visits
 
--- the keys of the steps, rising, each once
+-- the keys of the steps in ascending order, each once
 pub record AreKeys (key : Step → ℕ) (visits : List Visit) (keys : List ℕ) : Type 0 where
-  pub rising : IsStrictlySortedBy nat_cmp keys
+  pub ascending : IsStrictlySortedBy nat_cmp keys
   pub those : (k : ℕ) → list_any (λ p. p == k) keys ≡ list_any (λ v. key v.step == k) visits
 
 -- and so their addresses
@@ -90,23 +91,30 @@ drain_fields drain = sum_fields 0 drain (waits_of_all [])
 abbrev pub total_fields : ℕ → List Visit → List (List ℕ)
 total_fields drain visits = sum_fields (length visits) (cycles_of visits + drain) (waits_of_all visits)
 
--- the record of the steps at one address, which all have one instruction
-abbrev pub place_record : List Visit → List ℕ
-place_record [] = []
-place_record (v ∷ visits) =
-    record_text (hex8 v.step.pc ∷ instr_text v.step.instr ∷ fields_of_visits (v ∷ visits))
+-- the record of the steps at one address, which all have one instruction; `own` gives the fields of more columns
+abbrev pub place_record : (Step → List (List ℕ)) → List Visit → List ℕ
+place_record own [] = []
+place_record own (v ∷ visits) =
+    record_text (hex8 v.step.pc ∷ instr_text v.step.instr ∷ own v.step ++ fields_of_visits (v ∷ visits))
 
-abbrev pub report_at : List ℕ → ℕ → List Visit → List ℕ
-report_at pcs drain visits =
-    record_text (codes "pc" ∷ codes "instr" ∷ sum_columns)
-    ++ (flat_map (λ pc. place_record (visits_at pc visits)) pcs
-    ++ (record_text (codes "drain" ∷ codes "-" ∷ drain_fields drain)
-    ++ record_text (codes "total" ∷ codes "-" ∷ total_fields drain visits)))
+-- a dash in each of these columns
+abbrev pub dashes : List (List ℕ) → List (List ℕ)
+dashes names = map (λ name. codes "-") names
 
--- the text is the report of these visits
-abbrev pub IsReport : ℕ → List Visit → List ℕ → Type 0
-IsReport drain visits text = (pcs : List ℕ) × ArePlaces visits pcs × (text ≡ report_at pcs drain visits)
+-- with more columns of these names
+abbrev pub report_at : List (List ℕ) → (Step → List (List ℕ)) → List ℕ → ℕ → List Visit → List ℕ
+report_at names own pcs drain visits =
+    record_text (codes "pc" ∷ codes "instr" ∷ names ++ sum_columns)
+    ++ (flat_map (λ pc. place_record own (visits_at pc visits)) pcs
+    ++ (record_text (codes "drain" ∷ codes "-" ∷ dashes names ++ drain_fields drain)
+    ++ record_text (codes "total" ∷ codes "-" ∷ dashes names ++ total_fields drain visits)))
 
--- and of a run's steps on a configuration
+-- the text is the report of a run's steps on a configuration, with more columns
+abbrev pub IsReportWith : List (List ℕ) → (Step → List (List ℕ)) → Configuration → List Step → List ℕ → Type 0
+IsReportWith names own config steps text =
+    let visits = visits_in config steps in
+    (pcs : List ℕ) × ArePlaces visits pcs × (text ≡ report_at names own pcs (drain (history config steps)) visits)
+
+-- and with none
 abbrev pub IsReportByPlace : Configuration → List Step → List ℕ → Type 0
-IsReportByPlace config steps text = IsReport (drain (history config steps)) (visits_in config steps) text
+IsReportByPlace config steps text = IsReportWith [] (λ step. []) config steps text

@@ -15,7 +15,8 @@ use Rattle.tomex_run_views.specs.declared.counted.Counted.{Counted}
 use Rattle.tomex_run_views.specs.declared.tally.Group.{Group}
 use Rattle.tomex_run_views.specs.declared.tally.Sum.{Sum}
 use Rattle.tomex_run_views.specs.declared.tally.Tally.{Tally}
-use Rattle.tomex_run_views.specs.ByPlace.{Visit, cycles_of, sum_columns, sum_fields, visits_in, visits_of, waits_of_all}
+use Rattle.tomex_run_views.specs.ByPlace.{Visit, cycles_of, dashes, sum_columns, sum_fields, visits_in, visits_of}
+use Rattle.tomex_run_views.specs.ByPlace.{waits_of_all}
 
 -- The cycles of a step, by its waits: it issues after the step before it by the cycles in which it waits to issue. The
 -- first step issues by these after cycle 1, and one more after cycle 0.
@@ -82,14 +83,16 @@ with_drain drain sum = record sum { cycles = sum.cycles + drain }
 abbrev pub only_drain : ℕ → Sum
 only_drain drain = record no_sum { cycles = drain }
 
--- the fields of an address
-abbrev pub place_fields : Group → List (List ℕ)
-place_fields place = hex8 place.first.pc ∷ instr_text place.first.instr ∷ fields_of_sum place.sum
+-- the fields of an address, those of more columns before its sums
+abbrev pub place_fields : (Step → List (List ℕ)) → Group → List (List ℕ)
+place_fields own place =
+    hex8 place.first.pc ∷ instr_text place.first.instr ∷ own place.first ++ fields_of_sum place.sum
 
 -- the report of what was counted by address
-abbrev pub report_of_counted : {A : Type 0} → Counted A → List ℕ
-report_of_counted counted =
-    record_text (codes "pc" ∷ codes "instr" ∷ sum_columns)
-    ++ (flat_map (λ place. record_text (place_fields place)) (values counted.tally.groups)
-    ++ (record_text (codes "drain" ∷ codes "-" ∷ fields_of_sum (only_drain counted.drain))
-    ++ record_text (codes "total" ∷ codes "-" ∷ fields_of_sum (with_drain counted.drain counted.tally.all))))
+abbrev pub report_of_counted : {A : Type 0} → List (List ℕ) → (Step → List (List ℕ)) → Counted A → List ℕ
+report_of_counted names own counted =
+    record_text (codes "pc" ∷ codes "instr" ∷ names ++ sum_columns)
+    ++ (flat_map (λ place. record_text (place_fields own place)) (values counted.tally.groups)
+    ++ (record_text (codes "drain" ∷ codes "-" ∷ dashes names ++ fields_of_sum (only_drain counted.drain))
+    ++ record_text
+    (codes "total" ∷ codes "-" ∷ dashes names ++ fields_of_sum (with_drain counted.drain counted.tally.all))))

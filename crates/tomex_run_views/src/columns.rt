@@ -3,7 +3,8 @@
 ghost use Rattle.std.specs.Prelude.{◌≡◌, ◌++◌, [], OnOk, map};
 ghost use Rattle.std.specs.Fmt.{decimal};
 ghost use Rattle.csv.specs.Records.{fields_of, partial_of};
-ghost use Rattle.tomex_csv_text.specs.Csv.{IsReady, record_text, text_written};
+ghost use Rattle.tomex_csv_text.specs.Csv.{IsReady, record_text};
+ghost use Rattle.tomex_csv_text.specs.Growth.{Writes};
 ghost use Rattle.tomex_run_views.specs.ByPlace.{sum_columns};
 ghost use Rattle.tomex_run_views.specs.Tally.{fields_of_sum};
 
@@ -13,7 +14,7 @@ use std::alloc::{AllocError, Allocator, Global};
 use tomex_csv_text::{push_decimal, push_names, put_record};
 
 /// The names of the columns of a sum.
-const SUM_COLUMNS: [&str; 10] = [
+pub const SUM_COLUMNS: [&str; 10] = [
     "steps", "cycles", "branch", "width", "station", "operand", "address", "memory", "unit", "bus",
 ];
 
@@ -25,8 +26,8 @@ pub fn put_columns<A: Allocator>(
 ) -> Result<(), AllocError>
     requires ready { IsReady writer.old }
     ensures ready { OnOk result (IsReady writer.new) }
-    ensures text { OnOk result (text_written (λ v. v.items) writer.new
-        ≡ text_written (λ v. v.items) writer.old ++ record_text (map (λ n. n.now) names.now ++ sum_columns)) }
+    ensures text { OnOk result (
+        Writes (record_text (map (λ n. n.now) names.now ++ sum_columns)) writer.old writer.new) }
 {
     let mut record = ByteRecord::new(heap);
     push_names(&mut record, names)?;
@@ -82,8 +83,8 @@ pub fn put_sum<A: Allocator>(
 ) -> Result<(), AllocError>
     requires ready { IsReady writer.old }
     ensures ready { OnOk result (IsReady writer.new) }
-    ensures text { OnOk result (text_written (λ v. v.items) writer.new
-        ≡ text_written (λ v. v.items) writer.old ++ record_text (map (λ n. n.now) names.now ++ fields_of_sum sum.now)) }
+    ensures text { OnOk result (
+        Writes (record_text (map (λ n. n.now) names.now ++ fields_of_sum sum.now)) writer.old writer.new) }
 {
     let mut record = ByteRecord::new(heap);
     push_names(&mut record, names)?;

@@ -15,9 +15,10 @@ mod picture_error;
 mod pipeline;
 mod stage;
 mod stalls;
+mod step_columns;
 mod tally;
 
-pub use by_place::{addresses_of, stalls_by_pc};
+pub use by_place::{addresses_of, stalls_by_pc, text_by_place};
 pub use columns::{push_sum, put_columns, put_sum};
 pub use counted::{Counted, count_run};
 pub use excerpt::Excerpt;
@@ -27,4 +28,5 @@ pub use picture_error::PictureError;
 pub use pipeline::{first_issue, picture_of, pipeline_text, push_picture, signs_of};
 pub use stage::{Stage, stage_in};
 pub use stalls::{push_name_of_part, stalls_report};
+pub use step_columns::StepColumns;
 pub use tally::{Group, Sum, Tally};

@@ -1,9 +1,10 @@
 //! The lines of a picture.
 
-ghost use Rattle.std.specs.Prelude.{◌≡◌, ◌+◌, ◌<◌, ◌^◌, ◌++◌, codes, length, OnOk, string_bytes};
+ghost use Rattle.std.specs.Prelude.{◌≡◌, ◌+◌, ◌<◌, ◌^◌, ◌++◌, codes, length, OnOk};
 ghost use Rattle.tomex_rvdec.specs.Text.{instr_text};
 ghost use Rattle.tomex_rvexec.specs.Texts.{hex8};
 ghost use Rattle.tomex_csv_text.specs.Aligned.{left_aligned};
+ghost use Rattle.tomex_csv_text.specs.Growth.{Appends};
 ghost use Rattle.tomex_run_views.specs.Chart.{chart, line_of, lines_of};
 
 use crate::stage::sign_in;
@@ -26,7 +27,7 @@ pub struct Frame {
 
 /// Adds a step's chart: its signs from a cycle on, up to its end.
 fn push_chart<A: Allocator>(text: &mut String<A>, at: &Times, from: u64) -> Result<(), AllocError>
-    ensures { OnOk result (string_bytes text.new ≡ string_bytes text.old ++ chart at.now from) }
+    ensures { OnOk result (Appends (chart at.now from) text.old text.new) }
 {
     for cycle in from..=at.end {
         text.push_str(sign_in(at, cycle))?;
@@ -41,8 +42,8 @@ fn push_what<A: Allocator>(
     letters: usize,
     step: &Step,
 ) -> Result<(), AllocError>
-    ensures { OnOk result (string_bytes text.new ≡ string_bytes text.old
-        ++ (hex8 step.now.pc ++ (codes " " ++ left_aligned letters (instr_text step.now.instr)))) }
+    ensures { OnOk result (Appends
+        (hex8 step.now.pc ++ (codes " " ++ left_aligned letters (instr_text step.now.instr))) text.old text.new) }
 {
     let (pc, instr) = (step.pc, step.instr);
     write!(text, "{pc:08x} ")?;
@@ -61,8 +62,7 @@ fn push_line<A: Allocator>(
     step: &Step,
     at: &Times,
 ) -> Result<(), AllocError>
-    ensures { OnOk result (string_bytes text.new
-        ≡ string_bytes text.old ++ line_of frame.now number step.now at.now) }
+    ensures { OnOk result (Appends (line_of frame.now number step.now at.now) text.old text.new) }
 {
     push_aligned_number(text, scratch, frame.digits, number)?;
     text.push_str(" ")?;
@@ -83,8 +83,7 @@ pub fn push_lines<A: Allocator>(
 ) -> Result<(), AllocError>
     requires pairs { length times.now ≡ length steps.now }
     requires few { number + length steps.now < 2 ^ 63 }
-    ensures { OnOk result (string_bytes text.new
-        ≡ string_bytes text.old ++ lines_of frame.now number steps.now times.now) }
+    ensures { OnOk result (Appends (lines_of frame.now number steps.now times.now) text.old text.new) }
 {
     let mut scratch = String::new(heap);
     for (index, step) in steps.iter().enumerate() {

@@ -1,10 +1,11 @@
 //! The picture of some steps of a run on one configuration.
 
-ghost use Rattle.std.specs.Prelude.{◌≡◌, ◌+◌, ◌++◌, ◌<◌, ◌≤◌, ◌^◌, drop, length, nat_lt, take};
-ghost use Rattle.std.specs.Prelude.{IfErr, IfOk, IsErrOf, OnOk, string_bytes};
+ghost use Rattle.std.specs.Prelude.{◌≡◌, ◌+◌, ◌<◌, ◌≤◌, ◌^◌, drop, length, nat_lt, take};
+ghost use Rattle.std.specs.Prelude.{IfErr, IfOk, IsErrOf, OnOk};
 ghost use Rattle.tomex_rvexec.specs.Run.{start_of};
 ghost use Rattle.tomex_rvexec.specs.Trace.{steps_from};
 ghost use Rattle.tomex_timing.specs.Search.{total_of};
+ghost use Rattle.tomex_csv_text.specs.Growth.{Appends};
 ghost use Rattle.tomex_run_views.specs.Chart.{IsPictureOf, IsUnpictured, first_issue, frame_of};
 ghost use Rattle.tomex_run_views.specs.Chart.{longest_instruction, most_signs, picture_of, signs_of};
 
@@ -80,8 +81,8 @@ pub fn push_picture<A: Allocator, B: Allocator>(
     heap: Global,
     excerpt: &Excerpt<B>,
 ) -> Result<(), AllocError>
-    ensures { OnOk result (string_bytes text.new ≡ string_bytes text.old
-        ++ picture_of excerpt.now.number excerpt.now.steps excerpt.now.times) }
+    ensures { OnOk result (
+        Appends (picture_of excerpt.now.number excerpt.now.steps excerpt.now.times) text.old text.new) }
 {
     excerpt.keeps_limits();
     let frame = frame_of(heap, excerpt)?;

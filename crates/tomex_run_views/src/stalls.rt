@@ -1,6 +1,6 @@
 //! The stalls report of a run on one configuration, with its floors.
 
-ghost use Rattle.std.specs.Prelude.{◌≡◌, ◌++◌, ◌∷◌, [], ℕ, List, IfOk, OnOk, string_bytes};
+ghost use Rattle.std.specs.Prelude.{◌≡◌, ◌++◌, ◌∷◌, [], ℕ, List, IfOk, OnOk};
 ghost use Rattle.std.specs.List.{flat_map};
 ghost use Rattle.csv.specs.Records.{fields_of, partial_of};
 ghost use Rattle.tomex_rvdec.specs.declared.pool.UnitId.{UnitId};
@@ -9,7 +9,8 @@ ghost use Rattle.tomex_rvexec.specs.Run.{start_of};
 ghost use Rattle.tomex_rvexec.specs.Trace.{steps_from};
 ghost use Rattle.tomex_timing.specs.Needs.{all_parts};
 ghost use Rattle.tomex_floor.specs.Floor.{floors_by_width, latency_of};
-ghost use Rattle.tomex_csv_text.specs.Csv.{IsReady, record_text, text_written};
+ghost use Rattle.tomex_csv_text.specs.Csv.{IsReady, record_text};
+ghost use Rattle.tomex_csv_text.specs.Growth.{Appends, Writes};
 ghost use Rattle.tomex_run_views.specs.StallsReport.{IsStallsReport, floor_record, floor_records, header};
 ghost use Rattle.tomex_run_views.specs.StallsReport.{name_of_part, other_record, other_records};
 ghost use Rattle.tomex_run_views.specs.StallsReport.{part_fields, part_record, report_of_needs};
@@ -21,15 +22,13 @@ use tomex_config::Config;
 use tomex_csv_text::{into_text, push_decimal, push_names, put_record};
 use tomex_floor::floors;
 use tomex_study::Program;
-use tomex_timing::evaluate::needs;
 use tomex_timing::{Needs, Part};
 
 /// Writes the names of the columns.
 fn put_header<A: Allocator>(writer: &mut Writer<Vec<u8, A>>, heap: Global) -> Result<(), AllocError>
     requires ready { IsReady writer.old }
     ensures ready { OnOk result (IsReady writer.new) }
-    ensures text { OnOk result (text_written (λ v. v.items) writer.new
-        ≡ text_written (λ v. v.items) writer.old ++ record_text header) }
+    ensures text { OnOk result (Writes (record_text header) writer.old writer.new) }
 {
     let mut record = ByteRecord::new(heap);
     push_names(&mut record, &["part", "count", "peak", "stalls"])?;
@@ -38,7 +37,7 @@ fn put_header<A: Allocator>(writer: &mut Writer<Vec<u8, A>>, heap: Global) -> Re
 
 /// Adds a part's name, which is that of its column in the front report.
 pub fn push_name_of_part<A: Allocator>(text: &mut String<A>, part: Part) -> Result<(), AllocError>
-    ensures { OnOk result (string_bytes text.new ≡ string_bytes text.old ++ name_of_part part) }
+    ensures { OnOk result (Appends (name_of_part part) text.old text.new) }
 {
     match part {
         Part::Stations(pool) => write!(text, "{pool}"),
@@ -91,8 +90,7 @@ fn put_part<A: Allocator>(
 ) -> Result<(), AllocError>
     requires ready { IsReady writer.old }
     ensures ready { OnOk result (IsReady writer.new) }
-    ensures text { OnOk result (text_written (λ v. v.items) writer.new
-        ≡ text_written (λ v. v.items) writer.old ++ part_record config.now needs.now part) }
+    ensures text { OnOk result (Writes (part_record config.now needs.now part) writer.old writer.new) }
 {
     fill_part(record, scratch, config, needs, part)?;
     put_record(writer, record)
@@ -107,9 +105,7 @@ fn put_parts<A: Allocator>(
 ) -> Result<(), AllocError>
     requires ready { IsReady writer.old }
     ensures ready { OnOk result (IsReady writer.new) }
-    ensures text { OnOk result (text_written (λ v. v.items) writer.new
-        ≡ text_written (λ v. v.items) writer.old
-        ++ flat_map (part_record config.now needs.now) all_parts) }
+    ensures text { OnOk result (Writes (flat_map (part_record config.now needs.now) all_parts) writer.old writer.new) }
 {
     let mut record = ByteRecord::new(heap);
     let mut scratch = String::new(heap);
@@ -129,8 +125,7 @@ fn put_other<A: Allocator>(
 ) -> Result<(), AllocError>
     requires ready { IsReady writer.old }
     ensures ready { OnOk result (IsReady writer.new) }
-    ensures text { OnOk result (text_written (λ v. v.items) writer.new
-        ≡ text_written (λ v. v.items) writer.old ++ other_record name.now cycles) }
+    ensures text { OnOk result (Writes (other_record name.now cycles) writer.old writer.new) }
 {
     let mut record = ByteRecord::new(heap);
     push_names(&mut record, &[name, "-", "-"])?;
@@ -146,8 +141,7 @@ fn put_others<A: Allocator>(
 ) -> Result<(), AllocError>
     requires ready { IsReady writer.old }
     ensures ready { OnOk result (IsReady writer.new) }
-    ensures text { OnOk result (text_written (λ v. v.items) writer.new
-        ≡ text_written (λ v. v.items) writer.old ++ other_records needs.now) }
+    ensures text { OnOk result (Writes (other_records needs.now) writer.old writer.new) }
 {
     put_other(writer, heap, "branch", needs.branch)?;
     put_other(writer, heap, "operand", needs.operand)?;
@@ -167,8 +161,7 @@ fn put_floor<A: Allocator>(
 ) -> Result<(), AllocError>
     requires ready { IsReady writer.old }
     ensures ready { OnOk result (IsReady writer.new) }
-    ensures text { OnOk result (text_written (λ v. v.items) writer.new
-        ≡ text_written (λ v. v.items) writer.old ++ floor_record width cycles) }
+    ensures text { OnOk result (Writes (floor_record width cycles) writer.old writer.new) }
 {
     let mut record = ByteRecord::new(heap);
     let mut scratch = String::new(heap);
@@ -187,8 +180,7 @@ fn put_floors<A: Allocator>(
 ) -> Result<(), AllocError>
     requires { IsReady writer.old }
     ensures { OnOk result ((latency : UnitId → ℕ) (steps : List Step)
-        → floors.now ≡ floors_by_width latency steps → text_written (λ v. v.items) writer.new
-        ≡ text_written (λ v. v.items) writer.old ++ floor_records latency steps) }
+        → floors.now ≡ floors_by_width latency steps → Writes (floor_records latency steps) writer.old writer.new) }
 {
     put_floor(writer, heap, 1, floors[0])?;
     put_floor(writer, heap, 2, floors[1])?;
@@ -206,8 +198,7 @@ fn put_needs<A: Allocator>(
 ) -> Result<(), AllocError>
     requires { IsReady writer.old }
     ensures { OnOk result ((steps : List Step) → floors.now ≡ floors_by_width (latency_of config.now) steps
-        → text_written (λ v. v.items) writer.new
-        ≡ text_written (λ v. v.items) writer.old ++ report_of_needs config.now needs.now steps) }
+        → Writes (report_of_needs config.now needs.now steps) writer.old writer.new) }
 {
     put_header(writer, heap)?;
     put_parts(writer, heap, config, needs)?;
@@ -247,8 +238,8 @@ pub fn stalls_report<A: Allocator + Clone>(
     ensures { IfOk result (λ text.
         IsStallsReport config.now (steps_from program.now.limit (start_of program.now.image)) text.items) }
 {
-    let steps = program.steps();
-    let needs = needs(alloc.clone()?, steps, config)?;
-    let floors = floors(alloc.clone()?, steps, config)?;
+    let run = program.run();
+    let needs = run.needs(&alloc, config)?;
+    let floors = floors(alloc.clone()?, run, config)?;
     text_of_needs(alloc, heap, config, &needs, &floors)
 }

@@ -1,7 +1,7 @@
 -- The table of the instruction words: which word means which instruction (the manual's chapter "RV32/64G Instruction
 -- Set Listings", the tables of RV32I and RV32M). A row for each operation gives its fixed bits; a row for each form
 -- says where its operands are.
-use Rattle.std.specs.Prelude.{◌≡◌, ℕ, ◌+◌, ◌*◌, ◌^◌, ◌<◌, Option, Some, None, nat_eq, Bool}
+use Rattle.std.specs.Prelude.{◌≡◌, ℕ, ◌^◌, ◌<◌, Option, nat_eq, Bool}
 use Rattle.std.specs.Prelude.{true, false, IsTrue, ◌&&◌, List, [], ◌∷◌, find, option_map}
 use Rattle.tomex_rvdec.specs.declared.op.Op.{Op}
 use Rattle.tomex_rvdec.specs.declared.op.Op.TheVariants.{Lui, Auipc, Jal, Jalr, Beq, Bne, Blt, Bge, Bltu, Bgeu, Lb}
@@ -130,7 +130,7 @@ form_of Ebreak = forms.Whole
 abbrev pub with_operands : Op → ℕ → ℕ → ℕ → ℕ → Instruction
 with_operands op rd rs1 rs2 imm = record { op = op; rd = rd; rs1 = rs1; rs2 = rs2; imm = imm }
 
--- the instruction of an operation in a word; a field that the form lacks is zero
+-- the instruction of an operation in a word; a field that the form doesn't have is zero
 abbrev pub operands_at : Form → ℕ → Op → Instruction
 operands_at forms.Register w op = with_operands op (rd_field w) (rs1_field w) (rs2_field w) 0
 operands_at forms.Immediate w op = with_operands op (rd_field w) (rs1_field w) 0 (imm_i w)

@@ -2,7 +2,7 @@
 
 ghost use Rattle.std.specs.Prelude.{◌≡◌, IfSome, IfNone, IsTrue};
 ghost use Rattle.tomex_rvdec.specs.Fields.{opcode};
-ghost use Rattle.tomex_rvdec.specs.Meaning.{Means, selects, meaning};
+ghost use Rattle.tomex_rvdec.specs.Meaning.{Means, selects, meaning, operands_at, with_operands};
 ghost use Rattle.tomex_rvdec.specs.Instruction.{Instruction};
 ghost use Rattle.tomex_rvdec.specs.declared.op.Op.{Op};
 
@@ -131,6 +131,25 @@ fn op_of(word: u32) -> Option<Op>
     }
 }
 
+/// The operands of an operation of this form in a word: rd, rs1, rs2 and the immediate. One that the form doesn't have
+/// is 0.
+fn operands_of(form: Form, word: u32) -> (u8, u8, u8, u32)
+    ensures { (op : Op) → with_operands op result.0 result.1 result.2 result.3 ≡ operands_at form word op }
+{
+    let (rd, rs1, rs2) = (rd_of(word), rs1_of(word), rs2_of(word));
+    match form {
+        Form::Register => (rd, rs1, rs2, 0),
+        Form::Immediate | Form::Offset => (rd, rs1, 0, imm_i_of(word)),
+        Form::Shift => (rd, rs1, 0, u32::from(rs2)),
+        Form::Store => (0, rs1, rs2, imm_s_of(word)),
+        Form::Branch => (0, rs1, rs2, imm_b_of(word)),
+        Form::Upper => (rd, 0, 0, imm_u_of(word)),
+        Form::Jump => (rd, 0, 0, imm_j_of(word)),
+        Form::Fence => (rd, rs1, 0, word >> 20),
+        Form::Whole => (0, 0, 0, 0),
+    }
+}
+
 /// The instruction that the word means, if any, by the table's rows.
 #[tactic(auto, unfolding(crate::specs::Meaning::IsMeant))]
 fn from_table(word: u32) -> Option<Instr>
@@ -138,80 +157,14 @@ fn from_table(word: u32) -> Option<Instr>
     ensures none { IfNone result ((x : Instruction) → Means word x → ⊥) }
 {
     let op = op_of(word)?;
-    let (rd, rs1, rs2) = (rd_of(word), rs1_of(word), rs2_of(word));
-    let instr = match op.form() {
-        Form::Register => Instr {
-            op,
-            rd,
-            rs1,
-            rs2,
-            imm: 0,
-        },
-        Form::Immediate => Instr {
-            op,
-            rd,
-            rs1,
-            rs2: 0,
-            imm: imm_i_of(word),
-        },
-        Form::Offset => Instr {
-            op,
-            rd,
-            rs1,
-            rs2: 0,
-            imm: imm_i_of(word),
-        },
-        Form::Shift => Instr {
-            op,
-            rd,
-            rs1,
-            rs2: 0,
-            imm: u32::from(rs2),
-        },
-        Form::Store => Instr {
-            op,
-            rd: 0,
-            rs1,
-            rs2,
-            imm: imm_s_of(word),
-        },
-        Form::Branch => Instr {
-            op,
-            rd: 0,
-            rs1,
-            rs2,
-            imm: imm_b_of(word),
-        },
-        Form::Upper => Instr {
-            op,
-            rd,
-            rs1: 0,
-            rs2: 0,
-            imm: imm_u_of(word),
-        },
-        Form::Jump => Instr {
-            op,
-            rd,
-            rs1: 0,
-            rs2: 0,
-            imm: imm_j_of(word),
-        },
-        Form::Fence => Instr {
-            op,
-            rd,
-            rs1,
-            rs2: 0,
-            imm: word >> 20,
-        },
-        Form::Whole => Instr {
-            op,
-            rd: 0,
-            rs1: 0,
-            rs2: 0,
-            imm: 0,
-        },
-    };
-    Some(instr)
+    let (rd, rs1, rs2, imm) = operands_of(op.form(), word);
+    Some(Instr {
+        op,
+        rd,
+        rs1,
+        rs2,
+        imm,
+    })
 }
 
 /// The instruction that the word means; `None` if it is not an instruction of RV32IM.

@@ -17,7 +17,7 @@ has_one set x e = eq-eqb (bit_at set x) 1 e
 pub has_none : (set x : ℕ) → bit_at set x ≡ 0 → has set x ≡ false
 has_none set x e = ap (λ b. b == 1) e
 
--- a number that is no greater and lacks one of the bits is less
+-- a number that is no greater and doesn't have one of the bits is less
 pub fewer : (set new x : ℕ) → new ≤ set → has set x ≡ true → has new x ≡ false → new < set
 fewer set new x l had lost = elim (cases_order new set) [
   | inl e ↦ absurd (both_ways (has set x) (ap (λ n. has n x) (sym e) ∙ lost) had)

@@ -52,5 +52,5 @@ name_text None = []
 name_text (Some tag) = tag_text tag
 
 -- the step waits to issue in some of these cycles, or has issued and not ended before them
-abbrev pub is_there : Span → Entry → Bool
-is_there span e = nat_le e.from span.to && nat_le span.from e.at.end
+abbrev pub is_listed_in : Span → Entry → Bool
+is_listed_in span e = nat_le e.from span.to && nat_le span.from e.at.end

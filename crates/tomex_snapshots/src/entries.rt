@@ -1,7 +1,7 @@
 //! The steps of a run, each with what a page shows of it.
 
 ghost use Rattle.std.specs.Prelude.{◌≡◌, ◌<◌, ◌^◌, length, is_some, IfOk};
-ghost use Rattle.tomex_snapshots.specs.Entries.{entries_from, has_unit, is_there, station_of};
+ghost use Rattle.tomex_snapshots.specs.Entries.{entries_from, has_unit, is_listed_in, station_of};
 
 use std::alloc::{AllocError, Allocator};
 use std::fmt;
@@ -47,8 +47,8 @@ impl Entry {
 
     /// True if the step waits to issue in some of these cycles, or has issued and not ended before
     /// them.
-    pub fn is_there(&self, span: Span) -> bool
-        ensures { result ≡ is_there span self.now }
+    pub fn is_listed_in(&self, span: Span) -> bool
+        ensures { result ≡ is_listed_in span self.now }
     {
         self.from <= span.to && span.from <= self.at.end
     }

@@ -1,5 +1,6 @@
 -- What follows from a step of a run: its operands, its destination, the bytes that it touches.
-use Rattle.std.specs.Prelude.{ℕ, ◌+◌, ◌==◌, Option, Some, None, if◌then◌else◌, nat_eq, Bool, false, option_map}
+use Rattle.std.specs.Prelude.{ℕ, ◌+◌, ◌==◌, ◌&&◌, Option, Some, None, if◌then◌else◌, nat_eq, nat_lt, Bool, false}
+use Rattle.std.specs.Prelude.{option_map}
 use Rattle.tomex_rvdec.specs.declared.op.Op.{Op}
 use Rattle.tomex_rvdec.specs.declared.op.Op.TheVariants.{Lb, Lh, Lw, Lbu, Lhu, Sb, Sh, Sw}
 use Rattle.tomex_rvdec.specs.declared.pool.PoolId.{PoolId}
@@ -38,6 +39,11 @@ bytes_at op address =
 -- the bytes that a load or store touches
 abbrev pub bytes_of : Step → Option ByteRange
 bytes_of x = bytes_at x.instr.op (address_of x)
+
+-- two accesses have a byte in common
+abbrev pub shares_byte : Option ByteRange → Option ByteRange → Bool
+shares_byte (Some a) (Some b) = nat_lt a.from b.to && nat_lt b.from a.to
+shares_byte _ _ = false
 
 abbrev pub operand : ℕ → ℕ → Operand
 operand value register = record { register = register; value = value }

@@ -1,7 +1,7 @@
 //! One step of a run, and what follows from it.
 
-ghost use Rattle.std.specs.Prelude.{◌≡◌, ◌≤◌};
-ghost use Rattle.tomex_steps.specs.Steps.{access_size, bytes_at};
+ghost use Rattle.std.specs.Prelude.{◌≡◌, ◌≤◌, Some};
+ghost use Rattle.tomex_steps.specs.Steps.{access_size, bytes_at, shares_byte};
 
 use tomex_rvdec::{Instr, Op, PoolId, UnitId};
 
@@ -46,6 +46,14 @@ impl ByteRange {
             from,
             to: from + size,
         })
+    }
+
+    /// True if it shares a byte with another range. Neither is empty.
+    #[inline(always)]
+    pub fn shares_byte(self, other: ByteRange) -> bool
+        ensures { result ≡ shares_byte (Some self) (Some other) }
+    {
+        self.from < other.to && other.from < self.to
     }
 }
 

@@ -82,7 +82,7 @@ fn rest(a: u32, b: u32) -> u32
 
 /// The result of an operation of M on its two operands; 0 for every other operation.
 ///
-/// Division by zero and the one overflow have the manual's answers: they don't fault.
+/// Division by zero and the one overflow have the manual's results: they don't fault.
 #[inline(never)]
 pub fn muldiv(op: Op, a: u32, b: u32) -> u32
     ensures { result ≡ muldiv_of op a b }

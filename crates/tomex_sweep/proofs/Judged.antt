@@ -11,7 +11,7 @@ use Rattle.tomex_pareto.specs.declared.front_row.FrontRow.{FrontRow}
 use Rattle.tomex_sweep.specs.Finished.{finished_from}
 use Rattle.tomex_pareto.specs.Front.{front_of, rows_from}
 use Rattle.tomex_pareto.specs.Pareto.{Dominates}
-use Rattle.tomex_sweep.proofs.Finished.{finished_apart, finished_of, of_finished}
+use Rattle.tomex_sweep.proofs.FinishedRows.{finished_apart, finished_of, of_finished}
 use Rattle.tomex_pareto.proofs.Rows.{IsAt, at_row, row_at, rows_apart}
 use Rattle.tomex_pareto.proofs.Rows.{same_row}
 use Rattle.tomex_pareto.proofs.Pareto.{Has, front_is, only_front}

@@ -1,5 +1,5 @@
 -- Lemmas of this crate.
-pub mod Finished
+pub mod FinishedRows
 pub mod Gathered
 pub mod Judged
 pub mod Verdicts

@@ -40,7 +40,7 @@ fn finished_rows<A: Allocator>(
 }
 
 /// The front of the finished rows.
-#[tactic(auto, using(crate::proofs::Finished::finished_numbered))]
+#[tactic(auto, using(crate::proofs::FinishedRows::finished_numbered))]
 pub(crate) fn front_of_finished<A: Allocator + Clone>(
     alloc: A,
     costs: &[u64],

@@ -13,7 +13,7 @@ use Rattle.std.proofs.lemmas.Map.Keys.{IsDistinct-IsPermutation, apart_from_dist
 use Rattle.tomex_symbols.specs.declared.symbol.Symbol.{Symbol}
 use Rattle.tomex_symbols.specs.Functions.{AreNumbered, begins_after, best, chosen, function_at, goes_before, holds}
 use Rattle.tomex_symbols.specs.Functions.{or_else, reaches}
-use Rattle.tomex_symbols.specs.Sweep.{IsUpTo, last_of}
+use Rattle.tomex_symbols.specs.Sweep.{Precedes, last_of}
 use Rattle.tomex_symbols.proofs.Rising.{Rises, before_up, not_before_up, up_both, up_refl, up_trans}
 
 -- members of a list
@@ -39,13 +39,13 @@ there s ss t h = Contains-append_right (s ∷ []) ss t h
 pub record IsLast (p : Symbol → Bool) (ss : List Symbol) (s : Symbol) : Type 0 where
   pub one : Contains ss s
   pub passes : p s ≡ true
-  pub most : (t : Symbol) → Contains ss t → p t ≡ true → IsUpTo t s
+  pub most : (t : Symbol) → Contains ss t → p t ≡ true → Precedes t s
 
 abbrev pub IsBest : (Symbol → Bool) → List Symbol → Option Symbol → Type 0
 IsBest p ss None = (t : Symbol) → Contains ss t → p t ≡ false
 IsBest p ss (Some s) = IsLast p ss s
 
-unpassed : (p : Symbol → Bool) (t u : Symbol) → p t ≡ false → p t ≡ true → IsUpTo t u
+unpassed : (p : Symbol → Bool) (t u : Symbol) → p t ≡ false → p t ≡ true → Precedes t u
 unpassed p t u f e = absurd (true≢false (sym e ∙ f))
 
 -- one more symbol in front
@@ -63,20 +63,20 @@ skipped p s ss (Some r) f h = record {
 }
 
 -- it comes after those that pass
-kept : (p : Symbol → Bool) (s r : Symbol) (ss : List Symbol) → IsUpTo s r → IsLast p ss r → IsLast p (s ∷ ss) r
+kept : (p : Symbol → Bool) (s r : Symbol) (ss : List Symbol) → Precedes s r → IsLast p ss r → IsLast p (s ∷ ss) r
 kept p s r ss u h = record {
   one = there s ss r h.one;
   passes = h.passes;
-  most = λ t c e. ⊎_elim (λ (i : s ≡ t). subst (λ (v : Symbol). IsUpTo v r) i u)
+  most = λ t c e. ⊎_elim (λ (i : s ≡ t). subst (λ (v : Symbol). Precedes v r) i u)
       (λ (d : Contains ss t). h.most t d e) (cons_cases s ss t c);
 }
 
 first : (p : Symbol → Bool) (s : Symbol) (ss : List Symbol) → p s ≡ true
-    → ((t : Symbol) → Contains ss t → p t ≡ true → IsUpTo t s) → IsLast p (s ∷ ss) s
+    → ((t : Symbol) → Contains ss t → p t ≡ true → Precedes t s) → IsLast p (s ∷ ss) s
 first p s ss e h = record {
   one = here s ss;
   passes = e;
-  most = λ t c f. ⊎_elim (λ (i : s ≡ t). subst (λ (v : Symbol). IsUpTo v s) i (up_refl s))
+  most = λ t c f. ⊎_elim (λ (i : s ≡ t). subst (λ (v : Symbol). Precedes v s) i (up_refl s))
       (λ (d : Contains ss t). h t d f) (cons_cases s ss t c);
 }
 
@@ -101,9 +101,9 @@ best_is p (s ∷ ss) =
     (skipped p s ss (best p ss) e (best_is p ss)))
     (cases_Bool (p s))
 
-last_step : (p : Symbol → Bool) (s : Symbol) (ss : List Symbol) (o : Option Symbol) → All (IsUpTo s) ss
+last_step : (p : Symbol → Bool) (s : Symbol) (ss : List Symbol) (o : Option Symbol) → All (Precedes s) ss
     → IsBest p ss o → IsBest p (s ∷ ss) (or_else o (cond (p s) (Some s) None))
-last_step p s ss (Some r) u h = kept p s r ss (All-contains (IsUpTo s) ss r u h.one) h
+last_step p s ss (Some r) u h = kept p s r ss (All-contains (Precedes s) ss r u h.one) h
 last_step p s ss None u h =
     ⊎_elim
     (λ (e : p s ≡ true). subst (λ (x : Bool). IsBest p (s ∷ ss) (cond x (Some s) None)) (sym e)

@@ -12,7 +12,7 @@ use Rattle.std.proofs.lemmas.List.Elements.{Contains-append_cases, Contains-appe
 use Rattle.std.proofs.lemmas.List.Folds.{list_any_at, list_any_none}
 use Rattle.tomex_symbols.specs.declared.symbol.Symbol.{Symbol}
 use Rattle.tomex_symbols.specs.Functions.{AreNumbered, begins_after, best, function_at, holds, or_else, reaches}
-use Rattle.tomex_symbols.specs.Sweep.{InOrder, IsSwept, IsUpTo, if_at, is_unsized, last_address, last_of}
+use Rattle.tomex_symbols.specs.Sweep.{InOrder, IsSwept, Precedes, if_at, is_unsized, last_address, last_of}
 use Rattle.tomex_symbols.proofs.Best.{IsBest, IsLast, best_is, cons_cases, extended, here, last_is, nothing, only_one}
 use Rattle.tomex_symbols.proofs.Best.{there}
 use Rattle.tomex_symbols.proofs.Rising.{Rises, rises, rises_take}
@@ -143,7 +143,7 @@ begins_up_to (s ∷ []) t r c =
 begins_up_to (s ∷ u ∷ ss) t r c =
     ⊎_elim
     (λ (e : s ≡ t). subst (λ (z : Symbol). z.address ≤ last_address (u ∷ ss)) e
-    (let m = (All-contains (IsUpTo s) (u ∷ ss) u r.0 (here u ss)).address in
+    (let m = (All-contains (Precedes s) (u ∷ ss) u r.0 (here u ss)).address in
     let n = begins_up_to (u ∷ ss) u r.1 (here u ss) in
     omega arith))
     (λ (d : Contains (u ∷ ss) t). begins_up_to (u ∷ ss) t r.1 d)

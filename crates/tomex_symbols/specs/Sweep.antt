@@ -1,17 +1,17 @@
--- What a sweep over addresses in rising order knows about the symbols, which it visits in theirs.
+-- What a sweep over addresses in ascending order knows about the symbols, which it visits in theirs.
 use Rattle.std.specs.Prelude.{◌≡◌, ℕ, ◌+◌, ◌<◌, ◌≤◌, List, [], ◌∷◌, length, slice_index_or, take, All}
 use Rattle.std.specs.Prelude.{Bool, nat_eq, if◌then◌else◌, Option, Some, None}
 use Rattle.tomex_symbols.specs.declared.symbol.Symbol.{Symbol}
 use Rattle.tomex_symbols.specs.Functions.{holds, or_else, rank_of}
 
--- b comes no earlier than a: of symbols at one address, the one to be chosen comes last
-pub record IsUpTo (a b : Symbol) : Type 0 where
+-- a is before b, or is equal to it: of symbols at one address, the one to be chosen is the last
+pub record Precedes (a b : Symbol) : Type 0 where
   pub address : a.address ≤ b.address
   pub rank : a.address ≡ b.address → rank_of b ≤ rank_of a
   pub number : a.address ≡ b.address → rank_of a ≡ rank_of b → b.number ≤ a.number
 
 abbrev pub InOrder : List Symbol → Type 0
-InOrder ss = (k : ℕ) (d : Symbol) → k + 1 < length ss → IsUpTo (slice_index_or ss k d) (slice_index_or ss (k + 1) d)
+InOrder ss = (k : ℕ) (d : Symbol) → k + 1 < length ss → Precedes (slice_index_or ss k d) (slice_index_or ss (k + 1) d)
 
 -- the last symbol that passes a test
 abbrev pub last_of : (Symbol → Bool) → List Symbol → Option Symbol

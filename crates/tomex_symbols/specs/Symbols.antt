@@ -90,6 +90,6 @@ symbols_in bytes (Some t) = symbols_from bytes t 0 (t.symbols.size / 16)
 abbrev pub symbols_of : List ℕ → List Symbol
 symbols_of bytes = symbols_in bytes (tables_of bytes)
 
--- one of its symbols counts
+-- the file has a symbol that names code
 abbrev pub has_symbols : List ℕ → Bool
 has_symbols bytes = nat_lt 0 (length (symbols_of bytes))

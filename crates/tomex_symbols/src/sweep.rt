@@ -1,4 +1,4 @@
-//! A sweep over addresses in rising order, and over symbols in theirs.
+//! A sweep over addresses in ascending order, and over symbols in theirs.
 ghost use Rattle.std.specs.Prelude.{◌≡◌, ◌≤◌, ◌<◌, ◌+◌, ◌++◌, [], ◌∷◌, length, ℕ, ◌-◌, ◌^◌, if◌then◌else◌, All, OnOk};
 ghost use Rattle.std.specs.Prelude.{IfOk, take, drop, Some, None};
 ghost use Rattle.tomex_symbols.specs.Functions.{AreNumbered, function_at, holds};

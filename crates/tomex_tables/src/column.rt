@@ -1,6 +1,7 @@
 //! A column of a table.
 
-ghost use Rattle.std.specs.Prelude.{◌≡◌, ◌++◌, [], OnErr, OnOk, string_bytes};
+ghost use Rattle.std.specs.Prelude.{◌≡◌, [], OnErr, OnOk, string_bytes};
+ghost use Rattle.tomex_csv_text.specs.Growth.{Appends};
 ghost use Rattle.tomex_tables.specs.Table.{aligned_in, has_line, with_entry};
 
 use std::alloc::{AllocError, Allocator, Global};
@@ -68,8 +69,7 @@ impl Column {
         line: Line,
     ) -> Result<(), AllocError>
         requires { has_line line self.now }
-        ensures { OnOk result (string_bytes text.new
-            ≡ string_bytes text.old ++ aligned_in line self.now) }
+        ensures { OnOk result (Appends (aligned_in line self.now) text.old text.new) }
     {
         match line {
             Line::Names => push_aligned(text, self.width, self.name.as_str()),

@@ -1,7 +1,8 @@
 //! A table of columns.
 
-ghost use Rattle.std.specs.Prelude.{◌≡◌, ◌++◌, length, All, IfOk, OnOk, string_bytes};
+ghost use Rattle.std.specs.Prelude.{◌≡◌, length, All, IfOk, OnOk};
 ghost use Rattle.std.specs.List.{flat_map};
+ghost use Rattle.tomex_csv_text.specs.Growth.{Appends};
 ghost use Rattle.tomex_tables.specs.Table.{has_line, spaced_in, table_line, table_of};
 
 use crate::column::{Column, Line};
@@ -15,8 +16,7 @@ fn push_spaced<A: Allocator>(
     line: Line,
 ) -> Result<(), AllocError>
     requires { All (has_line line) columns.now }
-    ensures { OnOk result (string_bytes text.new
-        ≡ string_bytes text.old ++ flat_map (spaced_in line) columns.now) }
+    ensures { OnOk result (Appends (flat_map (spaced_in line) columns.now) text.old text.new) }
 {
     for column in columns {
         text.push_str("  ")?;
@@ -32,8 +32,7 @@ fn push_line<A: Allocator>(
     line: Line,
 ) -> Result<(), AllocError>
     requires { All (has_line line) columns.now }
-    ensures { OnOk result (string_bytes text.new
-        ≡ string_bytes text.old ++ table_line columns.now line) }
+    ensures { OnOk result (Appends (table_line columns.now line) text.old text.new) }
 {
     if let [first, rest @ ..] = columns {
         first.push_line(text, line)?;

@@ -1,8 +1,8 @@
 -- A broadcast reaches one busy station after another.
-use Rattle.std.proofs.Common.{ℕ, ◌<◌, ◌≤◌, ◌≡◌, ◌∙◌, Bool, true, false, arith, refl, ap, sym, inl, inr, Option, Some}
+use Rattle.std.proofs.Common.{ℕ, ◌<◌, ◌≤◌, ◌≡◌, ◌∙◌, true, false, arith, refl, ap, sym, inl, inr, Option, Some}
 use Rattle.std.proofs.Common.{None, length, slice_index_or, slice_set}
-use Rattle.std.specs.Prelude.{◌==◌, ◌||◌, if◌then◌else◌, option_map}
-use Rattle.std.proofs.lemmas.Bool.{both_ways, cases_Bool, eqb-true, eqb-false}
+use Rattle.std.specs.Prelude.{◌==◌, if◌then◌else◌, option_map}
+use Rattle.std.proofs.lemmas.Bool.{both_ways, cases_Bool, eqb-true, eqb-false, or_parts}
 use Rattle.std.proofs.lemmas.List.{get_or-set_same, get_or-set_other, length-set}
 use Rattle.tomex_sets.specs.Sets.{has, IsWithout}
 use Rattle.tomex_tags.specs.declared.station.Station.{Station}
@@ -34,14 +34,10 @@ there from value (Waits tag) e = elim (cases_Bool (from == place_of_tag tag)) [
   | inl g ↦ absurd (eqb-false (place_of_tag tag) from e (sym (eqb-true from (place_of_tag tag) g)))
 ]
 
-neither : (a b : Bool) → (a || b) ≡ false → (a ≡ false) × (b ≡ false)
-neither true b e = absurd (both_ways (true || b) e refl)
-neither false b e = (refl, e)
-
 deaf : (from value : ℕ) (o : Option Station) → awaits from o ≡ false → o ≡ option_map (hears (only from (Some value))) o
 deaf from value None e = refl
 deaf from value (Some s) e =
-    let two = neither (comes_from from s.j) (comes_from from s.k) e in
+    let two = or_parts (comes_from from s.j) (comes_from from s.k) e in
     ap (λ (z : Station). Some z) (sym (rw (there from value s.j two.0, there from value s.k two.1) refl))
 
 pub first_heard : (from value rest : ℕ) (old : Pools) → AreBusy old.slots old.busy old.issue_numbers

@@ -1,18 +1,17 @@
 //! Floors of small runs, compared with those of another implementation of the rules, and with
 //! totals.
 
-ghost use Rattle.std.specs.Prelude.{◌<◌, ◌≤◌};
+ghost use Rattle.std.specs.Prelude.{◌<◌, ◌≤◌, length, IfOk};
 
 use std::alloc::{AllocError, Global};
 use std::test::Fail;
 use tomex_config::{Config, UnitOption};
 use tomex_floor::floors;
-use tomex_rvexec::{Step, trace};
+use tomex_rvexec::trace;
 use tomex_tests_fixtures::machines::{config_of, one_unit_each};
 use tomex_tests_fixtures::programs::{LOOP_WORDS, PRODUCT_WORDS};
 use tomex_tests_fixtures::{Attempt, Heap, Try, image_of, refusals};
-use tomex_timing::evaluate::needs;
-use tomex_timing::{Needs, Part};
+use tomex_timing::{Needs, Part, Run};
 
 /// A program, loaded at a base into memory of this size.
 struct Program {
@@ -21,20 +20,19 @@ struct Program {
     words: &'static [u32],
 }
 
-/// The steps of a program's run.
-fn trace_of(alloc: Global, program: &Program) -> Result<Vec<Step>, Fail> {
+/// The run of a program of at most 2000 steps.
+fn run_of(alloc: Global, program: &Program) -> Result<Run, Fail>
+    ensures { IfOk result (λ run. length run ≤ 2000) }
+{
     let image = image_of(alloc, program.base, program.size, program.words)?;
-    Ok(trace(alloc, &image, 2000)?)
+    Ok(Run::new(alloc, trace(alloc, &image, 2000)?)?)
 }
 
 /// The floors of a program's run for these latencies.
 fn floors_of(alloc: Global, program: &Program, latencies: [u8; 5]) -> Result<[u64; 4], Fail> {
-    let steps = trace_of(alloc, program)?;
+    let run = run_of(alloc, program)?;
     let config = one_unit_each([1; 6], latencies, 1)?;
-    if steps.len() > 2000 {
-        return Err("a long trace".into());
-    }
-    Ok(floors(alloc, steps.as_slice(), &config)?)
+    Ok(floors(alloc, &run, &config)?)
 }
 
 const PRODUCT: Program = Program {
@@ -118,8 +116,8 @@ fn floors_are_those_of_another_implementation(rt: HostRuntime) -> Result<(), Fai
 #[test]
 fn the_floor_of_no_steps_is_0(rt: HostRuntime) -> Result<(), Fail> {
     let config = one_unit_each([1; 6], [1; 5], 1)?;
-    let none: Vec<Step> = Vec::new(rt.alloc());
-    assert!(rt; floors(rt.alloc(), none.as_slice(), &config)? == [0; 4]);
+    let none = Run::new(rt.alloc(), Vec::new(rt.alloc()))?;
+    assert!(rt; floors(rt.alloc(), &none, &config)? == [0; 4]);
     Ok(())
 }
 
@@ -169,15 +167,17 @@ impl Random {
         }
     }
 
-    /// The steps of a program of 30 such instructions.
-    fn steps(&mut self, alloc: Global) -> Result<Vec<Step>, Fail> {
+    /// The run of a program of 30 such instructions.
+    fn run(&mut self, alloc: Global) -> Result<Run, Fail>
+        ensures { IfOk result (λ run. length run ≤ 2000) }
+    {
         let mut words = Vec::new(alloc);
         for _ in 0..30 {
             words.push(self.word())?;
         }
         words.extend_from_slice(&[0x00100073, 0x00100073])?;
         let image = image_of(alloc, 0, 4096, words.as_slice())?;
-        Ok(trace(alloc, &image, 2000)?)
+        Ok(Run::new(alloc, trace(alloc, &image, 2000)?)?)
     }
 
     /// A number of parts, or of cycles.
@@ -249,13 +249,10 @@ fn bounds(floors: &[u64; 4], width: u8, needs: &Needs) -> bool
 fn are_floors(alloc: Global, random: &mut Random, most: u32) -> Result<bool, Fail>
     requires { (0 < most) × (most < 256) }
 {
-    let steps = random.steps(alloc)?;
+    let run = random.run(alloc)?;
     let config = random.config(most)?;
-    if steps.len() > 2000 {
-        return Err("a long trace".into());
-    }
-    let needs = needs(alloc, steps.as_slice(), &config)?;
-    let floors = floors(alloc, steps.as_slice(), &config)?;
+    let needs = run.needs(&alloc, &config)?;
+    let floors = floors(alloc, &run, &config)?;
     Ok(do_fall(&floors) && bounds(&floors, config.width(), &needs))
 }
 
@@ -272,16 +269,16 @@ fn no_random_machine_is_faster(rt: HostRuntime) -> Result<(), Fail> {
 /// Evaluates the floors of a program with accesses.
 #[derive(Clone, Copy)]
 struct Evaluation<'a> {
-    steps: &'a [Step],
+    run: &'a Run,
     config: Config,
 }
 
 impl<'a> Attempt for Evaluation<'a> {
     fn attempt(&self, heap: Heap) -> Result<Try, AllocError> {
-        if self.steps.len() > 2000 {
+        if self.run.steps().len() > 2000 {
             return Ok(Try::Wrong);
         }
-        let floors = floors(heap, self.steps, &self.config);
+        let floors = floors(heap, self.run, &self.config);
         let is_right = floors.map(|floors| floors == [26, 24, 24, 24]);
         Ok(is_right.map_or(Try::Refused, Try::right_if))
     }
@@ -289,9 +286,9 @@ impl<'a> Attempt for Evaluation<'a> {
 
 #[test]
 fn memory_is_refused(rt: HostRuntime) -> Result<(), Fail> {
-    let steps = trace_of(rt.alloc(), &ACCESSES)?;
+    let run = run_of(rt.alloc(), &ACCESSES)?;
     let evaluation = Evaluation {
-        steps: steps.as_slice(),
+        run: &run,
         config: one_unit_each([1; 6], [1, 3, 5, 1, 2], 1)?,
     };
     assert!(rt; refusals(rt.alloc(), &evaluation)? > Some(0));

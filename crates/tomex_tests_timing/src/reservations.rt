@@ -15,7 +15,7 @@ impl Attempt for Taking {
         if table.take(BUSES, 5).is_err() {
             return Ok(Try::Refused);
         }
-        let room = table.first(BUSES, 1, 5, 5);
+        let room = table.first_free(BUSES, 1, 5, 5);
         Ok(Try::right_if(room.cycle == 6 && room.taken == 1))
     }
 }

@@ -1,11 +1,9 @@
 -- The cycles of a run are its waits and its issues; the cycles of its stations are its waits and its operations.
-use Rattle.std.proofs.Common.{ℕ, zero, suc, ◌+◌, ◌-◌, ◌<◌, ◌≤◌, ◌≡◌, Bool, true, false, cond, arith, refl, inl, inr}
-use Rattle.std.proofs.Common.{List, [], ◌∷◌, Option, Some, None, max, nat_lt, not, ◌&&◌, count_by, is_some}
+use Rattle.std.proofs.Common.{ℕ, ◌+◌, ◌-◌, ◌<◌, ◌≤◌, ◌≡◌, Bool, true, false, cond, arith, refl, inl, inr}
+use Rattle.std.proofs.Common.{List, [], ◌∷◌, Option, Some, None, max, nat_lt, not, ◌&&◌, is_some}
 use Rattle.std.specs.Bool.{MatchBool}
-use Rattle.std.specs.List.{range_with_len}
 use Rattle.std.proofs.lemmas.Bool.{cases_Bool, lt-ltb, MatchBool-at_true, MatchBool-at_false}
 use Rattle.std.proofs.lemmas.Bool.Decides.{nat_tests}
-use Rattle.std.proofs.lemmas.List.Sums.{sum_by-cons}
 use Rattle.tomex_rvdec.specs.declared.pool.PoolId.{PoolId}
 use Rattle.tomex_rvdec.specs.declared.pool.PoolId.TheVariants as pools
 use Rattle.tomex_rvdec.specs.declared.pool.UnitId.{UnitId}
@@ -14,41 +12,28 @@ use Rattle.tomex_steps.specs.Steps.{step_pool, step_unit, step_dest, is_in}
 use Rattle.tomex_config.specs.Configuration.{Configuration, IsWithinLimits, option_of}
 use Rattle.tomex_timing.specs.declared.part.Part.TheVariants.{Width}
 use Rattle.tomex_timing.specs.declared.times.Done.{Done}
+use Rattle.tomex_timing.specs.Ahead.{one}
 use Rattle.tomex_timing.specs.History.{is_of, cycle_of, last_issue, greatest_end}
 use Rattle.tomex_timing.specs.Laws.{IssueCyclesAddUp, StationCyclesAddUp, StationWaitsAreStalls, UnitWaitsAreStalls}
 use Rattle.tomex_timing.specs.Laws.{work_by}
-use Rattle.tomex_timing.specs.Needs.{lacks_branch, lacks_width, lacks_station, lacks_operand, lacks_address}
+use Rattle.tomex_timing.specs.Needs.{cycles_that, lacks_branch, lacks_width, lacks_station, lacks_operand}
+use Rattle.tomex_timing.specs.Needs.{lacks_address}
 use Rattle.tomex_timing.specs.Needs.{lacks_memory, lacks_unit, waits_of, pool_stalls, stalls, stalls_by}
 use Rattle.tomex_timing.specs.Recurrence.{IsLeast, IsTimed, AreTimed, can_end, can_issue_another}
 use Rattle.tomex_timing.specs.Recurrence.{are_branches_finished, has_operands, are_conflicts_finished}
-use Rattle.tomex_timing.proofs.Bands.{none_of, none_pass}
+use Rattle.tomex_timing.proofs.Bands.{four_ways, none_of, none_pass}
 use Rattle.tomex_timing.proofs.Bound.{end_low, issue_low, timed_by}
 use Rattle.tomex_timing.proofs.Limits.{latency_low}
 use Rattle.tomex_timing.proofs.AfterEnd.{last_issue_by}
 use Rattle.tomex_timing.proofs.Width.{issue_from}
-use Rattle.tomex_timing.proofs.Stations.{one}
 use Rattle.tomex_timing.proofs.Tests.{IsAtOnce, IsOperation, at_once, operation}
 
--- tests of which each cycle passes one count all of them
-four_ways : (p q r s : ℕ → Bool) (n a : ℕ) → ((t : ℕ) → one (p t) + one (q t) + one (r t) + one (s t) ≡ 1)
-    → count_by p (range_with_len a n) + count_by q (range_with_len a n) + count_by r (range_with_len a n)
-    + count_by s (range_with_len a n) ≡ n
-four_ways p q r s zero a each = refl
-four_ways p q r s (suc n) a each =
-    let k = four_ways p q r s n (a + 1) each in
-    let h : one (p a) + one (q a) + one (r a) + one (s a) ≡ 1 = each a in
-    rw (sum_by-cons, sum_by-cons, sum_by-cons, sum_by-cons) (omega arith)
-
-three_ways : (p q r : ℕ → Bool) (n a : ℕ) → ((t : ℕ) → one (p t) + one (q t) + one (r t) ≡ 1)
-    → count_by p (range_with_len a n) + count_by q (range_with_len a n) + count_by r (range_with_len a n) ≡ n
-three_ways p q r n a each =
-    let k = four_ways p q r (λ t. false) n a (λ t. omega (arith, each t)) in
-    let z = none_of_all n a in
+three_ways : (p q r : ℕ → Bool) (from to : ℕ) → ((t : ℕ) → one (p t) + one (q t) + one (r t) ≡ 1)
+    → cycles_that p from to + cycles_that q from to + cycles_that r from to ≡ to - from
+three_ways p q r from to each =
+    let k = four_ways p q r (λ t. false) from to (λ t l m. omega (arith, each t)) in
+    let z = none_pass (λ t. false) from to (λ t l m. refl) in
     omega arith
-  where
-    none_of_all : (n a : ℕ) → count_by (λ t. false) (range_with_len a n) ≡ 0
-    none_of_all zero a = refl
-    none_of_all (suc n) a = rw (sum_by-cons, none_of_all n (a + 1)) refl
 
 issue_ways : (b w : Bool) → one (not b) + one (b && not w) + one (b && w) ≡ 1
 issue_ways b w = grind (arith, nat_tests)
@@ -57,7 +42,7 @@ issue_ways b w = grind (arith, nat_tests)
 pub issue_account : (config : Configuration) (older : List Done) (d : Done) → (waits_of config older d).branch
     + (waits_of config older d).width + (waits_of config older d).station ≡ d.at.issue - max 1 (last_issue older)
 issue_account config older d = three_ways (lacks_branch older) (lacks_width config older) (lacks_station config older)
-    (d.at.issue - max 1 (last_issue older)) (max 1 (last_issue older))
+    (max 1 (last_issue older)) d.at.issue
     (λ t. issue_ways (are_branches_finished older t) (can_issue_another config older t))
 
 -- what needs no station waits for none
@@ -122,8 +107,8 @@ pub start_account : (config : Configuration) (older : List Done) (d : Done) → 
     + (waits_of config older d).unit ≡ d.at.start - (d.at.issue + 1)
 start_account config older d =
     four_ways (lacks_operand older d) (lacks_address older d) (lacks_memory older d) (lacks_unit older d)
-    (d.at.start - (d.at.issue + 1)) (d.at.issue + 1)
-    (λ t. start_ways (has_operands older d.step t) (nat_lt (cycle_of d.at.address) t)
+    (d.at.issue + 1) d.at.start
+    (λ t l m. start_ways (has_operands older d.step t) (nat_lt (cycle_of d.at.address) t)
     (are_conflicts_finished older d.step t))
 
 abbrev in_units : Option UnitId → ℕ → ℕ

@@ -5,8 +5,8 @@ use Rattle.std.specs.List.{range_with_len}
 use Rattle.std.proofs.lemmas.Bool.{cases_lt, le-leb}
 use Rattle.std.proofs.lemmas.Bool.Decides.{nat_tests}
 use Rattle.std.proofs.lemmas.List.Sums.{sum_by-cons}
+use Rattle.tomex_timing.specs.Ahead.{one}
 use Rattle.tomex_timing.specs.Needs.{cycles_that}
-use Rattle.tomex_timing.proofs.Stations.{one}
 
 abbrev pub is_in_band : ℕ → ℕ → ℕ → Bool
 is_in_band a b t = nat_le a t && not (nat_le b t)
@@ -45,3 +45,19 @@ none_pass p from to none = elim (cases_lt to from) [
       let k = band p from from from to (omega arith) (omega arith) l (λ t a b. rw (none t a b, le-leb from t a) refl) in
       omega arith
 ]
+
+-- tests of which each cycle passes one count all of them
+count_ways : (p q r s : ℕ → Bool) (n a : ℕ)
+    → ((t : ℕ) → a ≤ t → t < a + n → one (p t) + one (q t) + one (r t) + one (s t) ≡ 1)
+    → count_by p (range_with_len a n) + count_by q (range_with_len a n) + count_by r (range_with_len a n)
+    + count_by s (range_with_len a n) ≡ n
+count_ways p q r s zero a each = refl
+count_ways p q r s (suc n) a each =
+    let k = count_ways p q r s n (a + 1) (λ t l m. each t (omega arith) (omega arith)) in
+    let h : one (p a) + one (q a) + one (r a) + one (s a) ≡ 1 = each a (omega arith) (omega arith) in
+    rw (sum_by-cons, sum_by-cons, sum_by-cons, sum_by-cons) (omega arith)
+
+pub four_ways : (p q r s : ℕ → Bool) (from to : ℕ)
+    → ((t : ℕ) → from ≤ t → t < to → one (p t) + one (q t) + one (r t) + one (s t) ≡ 1)
+    → cycles_that p from to + cycles_that q from to + cycles_that r from to + cycles_that s from to ≡ to - from
+four_ways p q r s from to each = count_ways p q r s (to - from) from (λ t l m. each t l (omega arith))

@@ -96,7 +96,7 @@ station_waits config h d good timed l =
         (and_swap (nat_le (branch_finish h + 1) t) (nat_le (slot_from config h) t) ∙ and_true _)
 
 module _ (h : List Done) (d : Done) where
-  -- the first cycles in which the operands are there, the address too, and no older access in the way
+  -- the first cycles in which the operands are there, the address too, and no older access blocks the step
   abbrev operands_at : ℕ
   operands_at = operands_from d.at.issue (source_end h (j_of d.step)) (source_end h (k_of d.step))
 

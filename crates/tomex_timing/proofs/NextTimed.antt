@@ -21,7 +21,7 @@ use Rattle.tomex_timing.specs.Recurrence.{can_end, can_issue, can_start, has_ope
 use Rattle.tomex_timing.specs.Search.{least}
 use Rattle.tomex_timing.specs.Station.{is_held, has_station, is_free}
 use Rattle.tomex_timing.specs.Waiting.{operands_from}
-use Rattle.tomex_timing.specs.Recent.{HasRegisters, facts_of, ready_from, register_of}
+use Rattle.tomex_timing.specs.Recent.{AreInRange, facts_of, ready_from, register_of}
 use Rattle.tomex_timing.proofs.Summary.{source_agree, IsSummary}
 use Rattle.tomex_timing.proofs.Least.{first_from_le, least_agree}
 use Rattle.tomex_timing.proofs.Limits.{latency_low, stations_high}
@@ -38,7 +38,7 @@ pub record ComesNext (config : Configuration) (h : List Done) (held : Held) (s :
   pub good : IsWithinLimits config
   pub timed : AreTimed config h
   pub shown : IsSummary h held
-  pub registers : HasRegisters (facts_of s)
+  pub range : AreInRange (facts_of s)
   pub by : IsNextBy config held (facts_of s) next
 
 -- the issue and the station of a step of this pool
@@ -134,8 +134,8 @@ module _ {config : Configuration} {h : List Done} {held : Held} {s : Step} {next
 
   pub has_marks : (u : UnitId) → Runs (Some u) → last_issue h ≤ next.at.issue → HasMarks h s next
   has_marks u run late =
-      let j = source_agree h held.latest.ends (j_of s) c.shown.kept.ends c.registers.j in
-      let k = source_agree h held.latest.ends (k_of s) c.shown.kept.ends c.registers.k in
+      let j = source_agree h held.latest.ends (j_of s) c.shown.kept.ends c.range.j in
+      let k = source_agree h held.latest.ends (k_of s) c.shown.kept.ends c.range.k in
       let ready : next.marks.ready
       ≡ ready_from next.at.issue next.at.address (source_end h (j_of s)) (source_end h (k_of s)) =
       rw (j, k) at run.ready in
@@ -218,7 +218,7 @@ module _ {config : Configuration} {h : List Done} {held : Held} {s : Step} {next
       record {
         issue = first;
         address = address_part (is_memory s) h s next.at.issue next.at.address
-            (rw (source_agree h held.latest.ends (j_of s) c.shown.kept.ends c.registers.j, c.shown.kept.address)
+            (rw (source_agree h held.latest.ends (j_of s) c.shown.kept.ends c.range.j, c.shown.kept.address)
             at c.by.address);
         start = run.start;
         finish = run.finish;

@@ -7,7 +7,7 @@ use Rattle.tomex_rvdec.specs.declared.pool.PoolId.{PoolId}
 use Rattle.tomex_steps.specs.declared.step.ByteRange.{ByteRange}
 use Rattle.tomex_steps.specs.declared.step.Step.{Step}
 use Rattle.tomex_steps.specs.Results.{is_among}
-use Rattle.tomex_steps.specs.Steps.{bytes_of, step_dest, step_pool, step_unit}
+use Rattle.tomex_steps.specs.Steps.{bytes_of, shares_byte, step_dest, step_pool, step_unit}
 use Rattle.tomex_steps.proofs.Fields.{dest_needs_pool, unit_with_pool}
 use Rattle.tomex_config.specs.Configuration.{Configuration}
 use Rattle.tomex_timing.specs.declared.times.Done.{Done}
@@ -16,7 +16,6 @@ use Rattle.tomex_timing.specs.History.{cycle_of, greatest_end}
 use Rattle.tomex_timing.specs.Laws.{AccessesConflict, AddressesRise, ConflictsAreFinished, ResultsComeLater}
 use Rattle.tomex_timing.specs.Laws.{StartsComeLater, TimesAreInReach}
 use Rattle.tomex_timing.specs.Recurrence.{AreTimed, IsLeast, IsTimed, are_conflicts_finished, can_address, can_end}
-use Rattle.tomex_timing.specs.Recurrence.{shares_byte}
 use Rattle.tomex_timing.proofs.Bound.{end_low, in_reach, timed_by}
 use Rattle.tomex_timing.proofs.Tests.{at_once, can_address_is, cases_unit, operation, unit_of}
 

@@ -1,5 +1,5 @@
 -- Where fewer of a pool's stations are held than there are, one of them is free.
-use Rattle.std.proofs.Common.{ℕ, zero, suc, ◌+◌, ◌<◌, ◌≤◌, ◌≡◌, Bool, true, false, cond, arith, refl, ◌⊎◌, inl, inr}
+use Rattle.std.proofs.Common.{ℕ, zero, suc, ◌+◌, ◌<◌, ◌≤◌, ◌≡◌, Bool, true, false, arith, refl, ◌⊎◌, inl, inr}
 use Rattle.std.proofs.Common.{List, [], ◌∷◌, Option, Some, None, nat_lt, ◌==◌, not, ◌&&◌, count_by}
 use Rattle.std.specs.List.{list_all}
 use Rattle.std.proofs.lemmas.Bool.{cases_Bool, ltb-true}
@@ -8,6 +8,7 @@ use Rattle.std.proofs.lemmas.List.Sums.{sum_by-cons}
 use Rattle.tomex_rvdec.specs.declared.pool.PoolId.{PoolId}
 use Rattle.tomex_config.specs.Configuration.{Configuration, stations_of}
 use Rattle.tomex_timing.specs.declared.times.Done.{Done}
+use Rattle.tomex_timing.specs.Ahead.{one}
 use Rattle.tomex_steps.specs.Steps.{is_number}
 use Rattle.tomex_timing.specs.Station.{is_held, has_station, is_free}
 use Rattle.tomex_timing.specs.Recurrence.{IsLeast}
@@ -34,9 +35,6 @@ least_cases p n =
 abbrev pub lower : Option ℕ → ℕ → Bool
 lower None n = false
 lower (Some m) n = nat_lt m n
-
-abbrev pub one : Bool → ℕ
-one b = cond b 1 0
 
 split_number : (m n : ℕ) → one (nat_lt m (suc n)) ≡ one (nat_lt m n) + one (m == n)
 split_number m n = grind (arith, nat_tests)

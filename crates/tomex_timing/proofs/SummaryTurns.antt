@@ -158,7 +158,7 @@ module _ {config : Configuration} {h : List Done} {held : Held} {s : Step} {next
       let shown : IsSummary h held = c.shown in
       let tabled = is_after.table in
       record {
-        kept = rw is_after.latest (kept_on config h s next.at held.latest c.registers.dest c.timed shown.kept is);
+        kept = rw is_after.latest (kept_on config h s next.at held.latest c.range.dest c.timed shown.kept is);
         base = tabled.base;
         starts = λ unit t m. tabled.starts unit t (omega arith) ∙ rw (
           shown.starts unit t (omega arith),

@@ -26,7 +26,7 @@ use Rattle.tomex_timing.specs.Needs.{AreNeeds, waits_in}
 use Rattle.tomex_timing.specs.Recurrence.{IsTimed}
 use Rattle.tomex_timing.specs.Search.{times_of, history, times_in}
 use Rattle.tomex_timing.specs.Waiting.{AreWithin, IsWithin, needs_after, taken_from, waits_by}
-use Rattle.tomex_timing.specs.Recent.{AreFacts, HasRegisters, facts_of}
+use Rattle.tomex_timing.specs.Recent.{AreFacts, AreInRange, facts_of}
 use Rattle.tomex_timing.proofs.Charges.{waits_are}
 use Rattle.tomex_timing.proofs.Histories.{are_timed, history_more, times_more, history_bound, length-history}
 use Rattle.tomex_timing.proofs.Limits.{buses_high, stations_high, units_high}
@@ -57,13 +57,13 @@ pub record IsStep (config : Configuration) (steps : List Step) (i : ℕ) (x : St
   pub place : i < length steps
   pub at : slice_index_or steps i x ≡ x
   pub facts : f ≡ facts_of x
-  pub registers : HasRegisters f
+  pub range : AreInRange f
 
 pub step_from : (config : Configuration) (steps : List Step) (i : ℕ) (x : Step) {f : Facts} → IsWithinLimits config
-    → length steps < 2 ^ 56 → i < length steps → slice_index_or steps i x ≡ x → f ≡ facts_of x → HasRegisters f
+    → length steps < 2 ^ 56 → i < length steps → slice_index_or steps i x ≡ x → f ≡ facts_of x → AreInRange f
     → IsStep config steps i x f
-step_from config steps i x good few place at facts registers =
-    record { good = good; few = few; place = place; at = at; facts = facts; registers = registers }
+step_from config steps i x good few place at facts range =
+    record { good = good; few = few; place = place; at = at; facts = facts; range = range }
 
 -- the step whose facts are at a place
 step_at : (steps : List Step) (i : ℕ) (d : Facts) → i < length steps → (x : Step) × (slice_index_or steps i x ≡ x)
@@ -72,7 +72,7 @@ step_at [] i d l = absurd (omega arith)
 step_at (x ∷ steps) zero d l = (x, refl, refl)
 step_at (x ∷ steps) (suc i) d l = step_at steps i d (omega arith)
 
-length_facts : (steps : List Step) (facts : List Facts) → AreFacts steps facts → length facts ≡ length steps
+pub length_facts : (steps : List Step) (facts : List Facts) → AreFacts steps facts → length facts ≡ length steps
 length_facts steps facts are = rw are.are (length-map steps facts_of)
 
 pub step_of : (config : Configuration) (steps : List Step) (facts : List Facts) (i : ℕ) (d : Facts)
@@ -83,16 +83,16 @@ step_of config steps facts i d good are l few =
     let there = step_at steps i d (omega arith) in (
       there.0,
       step_from config steps i there.0 good (omega arith) (omega arith) there.1
-          (ap (λ fs. slice_index_or fs i d) are.are ∙ there.2) (are.registers i d l),
+          (ap (λ fs. slice_index_or fs i d) are.are ∙ there.2) (are.range i d l),
     )
 
 -- one step's facts more
 pub facts_more : (steps : List Step) (facts : List Facts) (i : ℕ) (x : Step) (f : Facts) → i < length steps
-    → slice_index_or steps i x ≡ x → f ≡ facts_of x → HasRegisters f → AreFacts (take i steps) facts
+    → slice_index_or steps i x ≡ x → f ≡ facts_of x → AreInRange f → AreFacts (take i steps) facts
     → AreFacts (take (i + 1) steps) (facts ++ (f ∷ []))
-facts_more steps facts i x f l at of registers are = record {
+facts_more steps facts i x f l at of range are = record {
   are = rw (take_more steps i x l, at, map-append, of, are.are) refl;
-  registers = All-push HasRegisters facts f are.registers registers;
+  range = All-push AreInRange facts f are.range range;
 }
 
 -- and what comes next with it, by what is held before
@@ -147,7 +147,7 @@ module _ {config : Configuration} {steps : List Step} {i : ℕ} {x : Step} {f : 
     good = turn.step.good;
     timed = are_timed config (take i steps) turn.step.good;
     shown = turn.shown;
-    registers = rw turn.step.facts at turn.step.registers;
+    range = rw turn.step.facts at turn.step.range;
     by = rw turn.step.facts at turn.by;
   }
 
@@ -185,7 +185,7 @@ module _ {config : Configuration} {steps : List Step} {i : ℕ} {x : Step} {f : 
       let j = end_in held.latest.ends f.j in
       let k = end_in held.latest.ends f.k in
       record {
-        register = turn.step.registers.dest;
+        register = turn.step.range.dest;
         few = few;
         station = number_fits config held.ends f.pool next.marks.from next.at.issue next.at.station turn.step.good
             turn.by.issue;
@@ -231,7 +231,7 @@ ready {config} {steps} {i} {x} {f} {held} step shown =
     let low = small config steps i held step.good (omega arith) shown in
     let few : held.latest.issued < 2 ^ 63 = omega (arith, low.1) in
     record {
-      registers = step.registers;
+      range = step.range;
       memory = rw step.facts (bytes_of_memory x);
       settled = settled_by config (history config (take i steps)) held step.good
           (are_timed config (take i steps) step.good) shown;

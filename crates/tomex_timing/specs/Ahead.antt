@@ -8,6 +8,7 @@ use Rattle.std.specs.List.{list_all, filter}
 use Rattle.tomex_rvdec.specs.Parts.{place_of_unit}
 use Rattle.tomex_rvdec.specs.declared.pool.PoolId.{PoolId}
 use Rattle.tomex_rvdec.specs.declared.pool.UnitId.{UnitId}
+use Rattle.tomex_steps.specs.Steps.{shares_byte}
 use Rattle.tomex_steps.specs.declared.step.ByteRange.{ByteRange}
 use Rattle.tomex_config.specs.Configuration.{Configuration, stations_of, option_of}
 use Rattle.tomex_timing.specs.declared.accesses.Access.{Access}
@@ -17,9 +18,8 @@ use Rattle.tomex_timing.specs.declared.recent.Facts.{Facts}
 use Rattle.tomex_timing.specs.declared.recent.Latest.{Latest}
 use Rattle.tomex_timing.specs.declared.recent.Recent.{Recent}
 use Rattle.tomex_timing.specs.History.{is_of}
-use Rattle.tomex_timing.specs.Recurrence.{shares_byte}
 use Rattle.tomex_timing.specs.Waiting.{operands_from}
-use Rattle.tomex_timing.specs.Recent.{HasRegisters, address_among, is_memory_pool, issue_from, latest_after}
+use Rattle.tomex_timing.specs.Recent.{AreInRange, address_among, is_memory_pool, issue_from, latest_after}
 use Rattle.tomex_timing.specs.Recent.{nothing_yet, ready_from}
 use Rattle.tomex_reservations.specs.Reservations.{Reserved, IsFirst, IsFreeFirst, bus_line, end_at, is_left}
 use Rattle.tomex_reservations.specs.Reservations.{station_place, taken_at}
@@ -75,6 +75,7 @@ ends_with _ _ end ends = ends
 abbrev pub ends_after : Facts → Times → List ℕ → List ℕ
 ends_after f at ends = ends_with f.pool at.station at.end ends
 
+-- 1 if a test passes, 0 if not
 abbrev pub one : Bool → ℕ
 one b = if b then 1 else 0
 
@@ -182,7 +183,7 @@ pub record IsSettledBy (held : Held) : Type 0 where
 
 -- a step of these facts can be timed by what is held, and kept
 pub record IsReady (config : Configuration) (held : Held) (f : Facts) : Type 0 where
-  pub registers : HasRegisters f
+  pub range : AreInRange f
   pub memory : is_some f.bytes ≡ is_memory_pool f.pool
   pub settled : IsSettledBy held
   pub small : held.latest.end < 2 ^ 63

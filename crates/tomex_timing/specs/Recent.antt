@@ -1,6 +1,6 @@
 -- What the evaluator reads of a step, what it keeps of the latest cycles of the steps before, and on which of these the
 -- next step's issue, address and operands depend.
-use Rattle.std.specs.Prelude.{ℕ, ◌+◌, ◌<◌, ◌≡◌, ◌==◌, nat_lt, Bool, ◌||◌, if◌then◌else◌, List, Option, Some, None}
+use Rattle.std.specs.Prelude.{ℕ, ◌+◌, ◌^◌, ◌<◌, ◌≡◌, ◌==◌, nat_lt, Bool, ◌||◌, if◌then◌else◌, List, Option, Some, None}
 use Rattle.std.specs.Prelude.{slice_set, replicate, map, max, IfSome, All}
 use Rattle.tomex_rvdec.specs.declared.pool.PoolId.{PoolId}
 use Rattle.tomex_rvdec.specs.declared.pool.PoolId.TheVariants.{Load, Store}
@@ -18,6 +18,7 @@ abbrev pub register_of : Option Operand → Option ℕ
 register_of None = None
 register_of (Some o) = Some o.register
 
+-- the facts that the recurrence reads of a step
 abbrev pub facts_of : Step → Facts
 facts_of s = record {
   pool = step_pool s;
@@ -30,16 +31,17 @@ facts_of s = record {
   is_branch = is_branch s;
 }
 
--- the registers are the machine's
-pub record HasRegisters (f : Facts) : Type 0 where
+-- the registers are the machine's, and an access has at least one byte
+pub record AreInRange (f : Facts) : Type 0 where
   pub dest : IfSome f.dest (λ r. r < 32)
   pub j : IfSome f.j (λ r. r < 32)
   pub k : IfSome f.k (λ r. r < 32)
+  pub bytes : IfSome f.bytes (λ b. (b.from < b.to) × (b.to < 2 ^ 63))
 
 -- the facts of a run's steps
 pub record AreFacts (steps : List Step) (facts : List Facts) : Type 0 where
   pub are : facts ≡ map facts_of steps
-  pub registers : All HasRegisters facts
+  pub range : All AreInRange facts
 
 abbrev pub is_memory_pool : Option PoolId → Bool
 is_memory_pool pool = is_in Load pool || is_in Store pool

@@ -4,12 +4,12 @@
 -- Patterson, "Computer Architecture: A Quantitative Approach", the chapter on Tomasulo's algorithm.
 -- What they leave open this project chooses, and says so.
 use Rattle.std.specs.Prelude.{ℕ, ◌+◌, ◌-◌, ◌<◌, ◌≡◌, ◌==◌, nat_lt, nat_le, Bool, false, not, ◌&&◌, ◌||◌}
-use Rattle.std.specs.Prelude.{IsTrue, List, [], ◌∷◌, Option, Some, None, count_by, is_some, MatchOption}
+use Rattle.std.specs.Prelude.{IsTrue, List, [], ◌∷◌, Some, None, count_by, is_some, MatchOption}
 use Rattle.std.specs.Bool.{MatchBool}
 use Rattle.std.specs.List.{list_all}
 use Rattle.tomex_rvdec.specs.declared.pool.UnitId.{UnitId}
 use Rattle.tomex_steps.specs.Steps.{step_pool, step_unit, step_dest, j_of, k_of, bytes_of, is_branch, is_store}
-use Rattle.tomex_steps.specs.declared.step.ByteRange.{ByteRange}
+use Rattle.tomex_steps.specs.Steps.{shares_byte}
 use Rattle.tomex_steps.specs.declared.step.Step.{Step}
 use Rattle.tomex_config.specs.Configuration.{Configuration, option_of}
 use Rattle.tomex_timing.specs.declared.times.Done.{Done}
@@ -47,10 +47,6 @@ can_address older s issue t =
 -- the producers of both operands have ended
 abbrev pub has_operands : List Done → Step → ℕ → Bool
 has_operands older s t = nat_lt (source_end older (j_of s)) t && nat_lt (source_end older (k_of s)) t
-
-abbrev pub shares_byte : Option ByteRange → Option ByteRange → Bool
-shares_byte (Some a) (Some b) = nat_lt a.from b.to && nat_lt b.from a.to
-shares_byte _ _ = false
 
 -- two accesses that share a byte, one of them a store: the later one waits for the earlier one's finish
 abbrev pub conflicts : Step → Step → Bool

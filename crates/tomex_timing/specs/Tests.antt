@@ -23,7 +23,7 @@ pub record CanAddress (older : List Done) (s : Step) (issue t : ℕ) : Type 0 wh
   pub after_base : source_end older (j_of s) < t
   pub in_order : last_address older < t
 
--- both operands are there, each older access in the way has finished, and a unit is left
+-- both operands are there, each older access that blocks it has finished, and a unit is left
 pub record CanStart (config : Configuration) (older : List Done) (s : Step) (unit : UnitId) (issue address t : ℕ) : Type
     0 where
   pub after_issue : issue < t

@@ -2,7 +2,6 @@
 
 ghost use Rattle.std.specs.Prelude.{◌≡◌, ℕ, ◌+◌, ◌^◌, ◌<◌, ◌≤◌, ◌&&◌, ◌||◌, Some, not, max, nat_lt, nat_le, All};
 ghost use Rattle.tomex_timing.specs.Ahead.{ArePast, access_conflicts};
-ghost use Rattle.tomex_timing.specs.Recurrence.{shares_byte};
 
 use crate::recent::Facts;
 use tomex_rvexec::ByteRange;
@@ -15,19 +14,12 @@ pub(crate) struct Access {
     pub finish: u64,
 }
 
-/// True if two accesses share a byte.
-fn shares_byte(a: ByteRange, b: ByteRange) -> bool
-    ensures { result ≡ shares_byte (Some a) (Some b) }
-{
-    a.from < b.to && b.from < a.to
-}
-
 /// True if a step that touches these bytes conflicts with an older access: it shares a byte with it, and one of the two
 /// is a store.
 fn conflicts(older: &Access, bytes: ByteRange, is_store: bool) -> bool
     ensures { result ≡ access_conflicts older.now (Some bytes) is_store }
 {
-    (older.is_store || is_store) && shares_byte(older.bytes, bytes)
+    (older.is_store || is_store) && older.bytes.shares_byte(bytes)
 }
 
 /// The cycle, or the one after `finish` if that is later and has to be waited for.

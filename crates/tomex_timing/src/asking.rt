@@ -10,7 +10,7 @@ ghost use Rattle.tomex_timing.specs.Ahead.{RunsOn, end_in, ends_after, held_by, 
 ghost use Rattle.tomex_timing.specs.Demands.{demand_after, demands_after, stations_asked, units_asked};
 ghost use Rattle.tomex_timing.specs.History.{cycle_of, is_of};
 ghost use Rattle.tomex_timing.specs.Waiting.{past_branches, taken_from, waits_by};
-ghost use Rattle.tomex_timing.specs.Recent.{HasRegisters, latest_after};
+ghost use Rattle.tomex_timing.specs.Recent.{AreInRange, latest_after};
 
 use crate::accesses::past_conflicts;
 use crate::demands::{Demand, Demands};
@@ -162,7 +162,7 @@ fn run_issued<A: Allocator>(
 ) -> Result<Next, AllocError>
     requires pool { facts.now.pool ≡ Some pool }
     requires unit { facts.now.unit ≡ Some unit }
-    requires registers { HasRegisters facts.now }
+    requires range { AreInRange facts.now }
     requires settled { IsSettledBy (held_by recent.old) }
     requires small { recent.old.latest.end < 2 ^ 63 }
     requires count { let latest = recent.old.latest in

@@ -32,7 +32,7 @@ pub use laws::{
 };
 pub use needs::Needs;
 pub use part::{Need, Part, Waits};
-pub use recent::register_of;
+pub use recent::Facts;
 pub use run::Run;
 pub use tables::{Busy, Field, Tables, Tag};
 pub use times::{Done, Times};

@@ -1,12 +1,10 @@
 //! The times of the next step, given what is kept of the earlier ones.
 
 ghost use Rattle.std.specs.Prelude.{◌≡◌, ℕ, ◌+◌, ◌-◌, ◌^◌, ◌<◌, ◌≤◌, None, max, IfSome, slice_index};
-ghost use Rattle.tomex_config.specs.Configuration.{IsWithinLimits, option_of};
-ghost use Rattle.tomex_rvdec.specs.Parts.{place_of_unit};
 ghost use Rattle.tomex_timing.specs.Ahead.{IsIdle, IsNextBy, IsReady, TakesBus, TakesStation, end_in, held_by};
 ghost use Rattle.tomex_reservations.specs.Reservations.{bus_line, end_at, taken_at};
 ghost use Rattle.tomex_timing.specs.History.{cycle_of};
-ghost use Rattle.tomex_timing.specs.Recent.{address_among, is_memory_pool, issue_from, ready_from};
+ghost use Rattle.tomex_timing.specs.Recent.{address_among, issue_from, ready_from};
 
 use crate::accesses::past_conflicts;
 use crate::recent::{Facts, Latest, Recent};
@@ -134,7 +132,7 @@ fn end_after<A: Allocator>(
     ensures { TakesBus config.now table.now dest finish result.cycle result.taken }
 {
     if dest.is_some() {
-        table.first(BUSES, config.buses(), finish + 1, bound)
+        table.first_free(BUSES, config.buses(), finish + 1, bound)
     } else {
         Room {
             cycle: finish,
@@ -192,7 +190,7 @@ pub(crate) fn next_step<A: Allocator>(config: &Config, recent: &Recent<A>, facts
     let clear = past_conflicts(&recent.accesses, facts, ready, latest.end);
     let start = recent
         .table
-        .first(unit.place(), config.units(unit), clear, latest.end);
+        .first_free(unit.place(), config.units(unit), clear, latest.end);
     let finish = start.cycle + u64::from(config.latency(unit)) - 1;
     let end = end_after(config, &recent.table, facts.dest, finish, latest.end);
     Next {

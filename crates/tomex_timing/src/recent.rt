@@ -1,11 +1,12 @@
 //! The evaluator's record of the earlier steps: the latest of each kind of cycle, and everything that may still block a
 //! next step.
 
-ghost use Rattle.std.specs.Prelude.{◌≡◌, ◌<◌, ◌≤◌, ◌^◌, ◌+◌, ◌==◌, if◌then◌else◌, IfOk, IfSome};
+ghost use Rattle.std.specs.Prelude.{◌≡◌, ◌<◌, ◌^◌, ◌+◌, ◌==◌, if◌then◌else◌, IfOk, IfSome};
 ghost use Rattle.std.specs.Option.{ForSome};
 ghost use Rattle.tomex_timing.specs.Ahead.{CanKeep, CanReserve, IsHeldAfter, IsTableAfter, accesses_after};
 ghost use Rattle.tomex_timing.specs.Ahead.{held_by, nothing_held};
-ghost use Rattle.tomex_timing.specs.Recent.{AreFacts, facts_of, register_of, HasRegisters, nothing_yet, latest_after};
+ghost use Rattle.tomex_timing.specs.Recent.{AreFacts, AreInRange, facts_of, is_memory_pool, latest_after, nothing_yet};
+ghost use Rattle.tomex_timing.specs.Recent.{register_of};
 
 use crate::accesses::Access;
 use crate::times::Times;
@@ -14,9 +15,9 @@ use tomex_reservations::{BUSES, ReservationTable, Stations};
 use tomex_rvdec::{PoolId, UnitId};
 use tomex_rvexec::{ByteRange, Operand, Step};
 
-/// The facts that the recurrence reads of a step, taken from its instruction only once.
+/// The facts that a recurrence reads of a step, taken from its instruction only once.
 #[derive(Clone, Copy, Debug)]
-pub(crate) struct Facts {
+pub struct Facts {
     pub pool: Option<PoolId>,
     pub unit: Option<UnitId>,
     pub dest: Option<u8>,
@@ -43,8 +44,7 @@ pub(crate) struct Latest {
     pub end: u64,
 }
 
-/// All that is kept. There is no list of steps: each question about them is answered from one of
-/// these fields.
+/// All that is kept. There is no list of steps: these fields say of them what a next step depends on.
 #[derive(Drop)]
 pub(crate) struct Recent<A: Allocator> {
     pub latest: Latest,
@@ -56,7 +56,7 @@ pub(crate) struct Recent<A: Allocator> {
 }
 
 /// The register of an operand.
-pub fn register_of(operand: Option<Operand>) -> Option<u8>
+fn register_of(operand: Option<Operand>) -> Option<u8>
     requires { ForSome operand (λ o. o.register < 32) }
     ensures value { result ≡ register_of operand }
     ensures register { IfSome result (λ r. r < 32) }
@@ -69,9 +69,9 @@ pub fn register_of(operand: Option<Operand>) -> Option<u8>
 
 impl Facts {
     #[inline(always)]
-    pub fn of(step: &Step) -> Facts
+    pub(crate) fn of(step: &Step) -> Facts
         ensures facts { result ≡ facts_of step.now }
-        ensures registers { HasRegisters result }
+        ensures range { AreInRange result }
     {
         Facts {
             pool: step.pool(),
@@ -83,6 +83,14 @@ impl Facts {
             is_store: step.is_store(),
             is_branch: step.is_branch(),
         }
+    }
+
+    /// True for a load or store.
+    #[inline(always)]
+    pub fn is_memory(&self) -> bool
+        ensures { result ≡ is_memory_pool self.now.pool }
+    {
+        matches!(self.pool, Some(PoolId::Load | PoolId::Store))
     }
 }
 

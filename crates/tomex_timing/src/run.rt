@@ -3,6 +3,7 @@
 ghost use Rattle.std.specs.Prelude.{◌≡◌, ◌<◌, ◌^◌, length, IfOk};
 ghost use Rattle.tomex_timing.specs.Demands.{AreDemands};
 ghost use Rattle.tomex_timing.specs.Needs.{AreNeeds};
+ghost use Rattle.tomex_timing.specs.Recent.{AreFacts};
 ghost use Rattle.tomex_timing.specs.Search.{history};
 
 use crate::demands::Demands;
@@ -47,6 +48,13 @@ impl<A: Allocator> Run<A> {
         ensures { result.now ≡ self.now }
     {
         self.steps.as_slice()
+    }
+
+    /// The facts of its steps, in program order.
+    pub fn facts(&self) -> &[Facts]
+        ensures { AreFacts self.now result.now }
+    {
+        self.facts.as_slice()
     }
 
     /// The needs of the run's steps on a configuration: `evaluate::needs` of these steps.

@@ -19,7 +19,7 @@ pub(crate) struct Turn {
     pub taken: Taken,
 }
 
-/// The next step's times and waits. It can then be kept.
+/// The next step's times, its waits and what it takes.
 // Inlined, so that a loop that ignores the waits doesn't compute them.
 #[inline(always)]
 pub(crate) fn next_turn<A: Allocator>(config: &Config, recent: &Recent<A>, facts: &Facts) -> Turn

@@ -76,7 +76,7 @@ impl<J: Plan, A: Allocator> Board<J, A> {
     }
 
     /// The least bound in the bands that may judge the row: those whose floor is at most its cost.
-    /// Each of them is loaded once, in rising order. `None` if nothing was published in any of
+    /// Each of them is loaded once, in ascending order. `None` if nothing was published in any of
     /// them.
     pub fn look(&self, seat: &mut Seat<J>, i: usize) -> Option<Bound>
         requires board { seat.old.board ≡ self.now }

@@ -20,8 +20,8 @@ use crate::words::{OPEN, TAKEN, mark_word};
 use std::alloc::Allocator;
 
 impl<J: Plan, A: Allocator> Board<J, A> {
-    /// Takes a row into the seat's hand. False if the row wasn't open at that step: then the seat
-    /// notes that, and the row's mark if it is closed.
+    /// Claims the row if it is open. If not, returns false, and the seat notes that it isn't open (and
+    /// its mark, if it is closed).
     pub fn claim(&self, seat: &mut Seat<J>, i: usize) -> bool
         requires board { seat.old.board ≡ self.now }
         requires row { i < length J.costs }

@@ -1,7 +1,7 @@
 //! The file header (System V ABI, "ELF Header"): 52 bytes, and their tests.
 ghost use Rattle.std.specs.Prelude.{◌≡◌, ◌+◌, ◌*◌, ◌<◌, ◌≤◌, IfNone, length};
 ghost use Rattle.tomex_image.specs.ElfTests.{file_tests};
-ghost use Rattle.tomex_image.specs.FileHeader.{entry_of, header_count, header_offset, is_riscv};
+ghost use Rattle.tomex_image.specs.FileHeader.{entry_of, header_count, header_offset, is_rv32_file};
 ghost use Rattle.tomex_image.specs.Tests.{first_failing};
 
 use crate::elf::bytes::{read_half, read_word};
@@ -42,9 +42,9 @@ const ET_EXEC: u16 = 2;
 const EM_RISCV: u16 = 243;
 
 /// True if the file has 32 bits, low byte first, version 1, and is for RISC-V.
-fn is_for_riscv(bytes: &[u8]) -> bool
+fn is_rv32_file(bytes: &[u8]) -> bool
     requires { 52 ≤ length bytes.now }
-    ensures { result ≡ is_riscv bytes.now }
+    ensures { result ≡ is_rv32_file bytes.now }
 {
     bytes[EI_CLASS] == ELFCLASS32
         && bytes[EI_DATA] == ELFDATA2LSB
@@ -90,7 +90,7 @@ pub fn file_refusal(bytes: &[u8]) -> Option<ImageError>
         return Some(ImageError::Truncated);
     }
     let count = read_half(bytes, E_PHNUM);
-    if !is_for_riscv(bytes) {
+    if !is_rv32_file(bytes) {
         Some(ImageError::NotRiscv)
     } else if read_half(bytes, E_TYPE) != ET_EXEC {
         Some(ImageError::NotExec)

@@ -1,5 +1,5 @@
 -- Each turn of the loop adds a step's floors, none of which is above 67 times the steps.
-use Rattle.std.proofs.Common.{ℕ, zero, suc, ◌+◌, ◌-◌, ◌≡◌, ◌≤◌, ◌<◌, ◌^◌, ◌∙◌, arith, refl, ap, inl, sym, List, [], ◌∷◌}
+use Rattle.std.proofs.Common.{ℕ, zero, suc, ◌+◌, ◌-◌, ◌≡◌, ◌≤◌, ◌<◌, ◌^◌, ◌∙◌, arith, refl, ap, inl, List, [], ◌∷◌}
 use Rattle.std.proofs.Common.{◌++◌, reverse, take, length, get_or, take_all}
 use Rattle.std.specs.Prelude.{nat_le, slice_index, slice_index_or}
 use Rattle.std.proofs.lemmas.Bool.{and_parts, leb-true}
@@ -8,9 +8,12 @@ use Rattle.tomex_rvdec.specs.declared.pool.UnitId.{UnitId}
 use Rattle.tomex_steps.specs.declared.step.Step.{Step}
 use Rattle.tomex_config.specs.Configuration.{Configuration, IsWithinLimits}
 use Rattle.tomex_timing.specs.declared.times.Done.{Done}
+use Rattle.tomex_timing.specs.declared.recent.Facts.{Facts}
+use Rattle.tomex_timing.specs.Recent.{AreFacts}
 use Rattle.tomex_timing.specs.Recurrence.{conflicts}
-use Rattle.tomex_timing.proofs.Limits.{width_low}
 use Rattle.tomex_timing.proofs.AfterEnd.{AllBy}
+use Rattle.tomex_timing.proofs.Limits.{width_low}
+use Rattle.tomex_timing.proofs.Turns.{IsStep, length_facts, step_of}
 use Rattle.tomex_floor.specs.declared.latest.Latest.{Latest}
 use Rattle.tomex_floor.specs.Floor.{floor_of, floors_by_width, floors_of, latency_of}
 use Rattle.tomex_floor.specs.Kept.{AreConflicts, AreLatest, histories, history_after}
@@ -28,11 +31,11 @@ by_so_far config steps i n good few =
     let l = length-take i steps in run_by config (n + 1) (take i steps) (2 ^ 63) good (omega (arith, l, few))
 
 more_so_far : (config : Configuration) (steps : List Step) (i n : ℕ) (x : Step) → i < length steps
-    → x ≡ get_or steps i x
+    → get_or steps i x ≡ x
     → so_far config steps (i + 1) n ≡ history_after (latency_of config) x (so_far config steps i) n
 more_so_far config steps i n x l is =
     ap (λ (xs : List Step). floors_of (latency_of config) (n + 1) (reverse xs))
-    (take_more steps i x l ∙ ap (λ (y : Step). take i steps ++ (y ∷ [])) (sym is))
+    (take_more steps i x l ∙ ap (λ (y : Step). take i steps ++ (y ∷ [])) is)
     ∙ floors_more (latency_of config) (n + 1) (take i steps) x
 
 width_high : (config : Configuration) → IsWithinLimits config → config.width ≤ 4
@@ -50,37 +53,47 @@ at_width latency steps (suc (suc zero)) l = refl
 at_width latency steps (suc (suc (suc zero))) l = refl
 at_width latency steps (suc (suc (suc (suc n)))) l = absurd (omega arith)
 
+-- the step whose facts are at a place
+here : (config : Configuration) (steps : List Step) (facts : List Facts) (i : ℕ) (d : Facts) → IsWithinLimits config
+    → AreFacts steps facts → length steps < 2 ^ 56 → i < length facts
+    → (x : Step) × IsStep config steps i x (slice_index_or facts i d)
+here config steps facts i d good are few l =
+    let same = length_facts steps facts are in step_of config steps facts i d good are l (omega (arith, same, few))
+
 pub pass_all-finishes-requires-clause-small : goal.pass_all-finishes-requires-clause-small
 pass_all-finishes-requires-clause-small g c = λ k d l.
     let n : k < 4 = omega arith in
-    latest_by (2 ^ 63) (so_far c.args.config.now c.args.steps.now c.loop-step.step-index k) _
-    (by_so_far c.args.config.now c.args.steps.now c.loop-step.step-index k c.keeps_limits.ensures c.requires.few)
+    latest_by (2 ^ 63) (so_far c.args.config.now c.args.run.now c.loop-step.step-index k) _
+    (by_so_far c.args.config.now c.args.run.now c.loop-step.step-index k c.keeps_limits.ensures c.requires.few)
     (c.loop-step.invariant.latest k d n)
 
 pub pass_all-finishes-requires-clause-conflict : goal.pass_all-finishes-requires-clause-conflict
 pass_all-finishes-requires-clause-conflict g c = λ n l.
-    let h = so_far c.args.config.now c.args.steps.now c.loop-step.step-index in
-    rw (c.conflict-conflict.ensures h c.step-item.result n l c.of-facts.ensures.facts c.loop-step.invariant.accesses)
-    (finish_by (λ x. conflicts x c.step-item.result) (2 ^ 63) (h n)
-    (by_so_far c.args.config.now c.args.steps.now c.loop-step.step-index n c.keeps_limits.ensures c.requires.few))
+    let h = so_far c.args.config.now c.args.run.now c.loop-step.step-index in
+    let at = here c.args.config.now c.args.run.now c.facts-facts.result.now c.loop-step.step-index _
+    c.keeps_limits.ensures c.facts-facts.ensures c.requires.few c.loop-step-test.true in
+    rw (c.conflict-conflict.ensures h at.0 n l at.1.facts c.loop-step.invariant.accesses)
+    (finish_by (λ x. conflicts x at.0) (2 ^ 63) (h n)
+    (by_so_far c.args.config.now c.args.run.now c.loop-step.step-index n c.keeps_limits.ensures c.requires.few))
 
 pub loop-step-preserved : goal.loop-step-preserved
 loop-step-preserved g c =
-    let x = c.step-item.result in
-    let h = so_far c.args.config.now c.args.steps.now c.loop-step.step-index in
+    let h = so_far c.args.config.now c.args.run.now c.loop-step.step-index in
+    let at = here c.args.config.now c.args.run.now c.facts-facts.result.now c.loop-step.step-index _
+    c.keeps_limits.ensures c.facts-facts.ensures c.requires.few c.loop-step-test.true in
     let before = c.loop-step.invariant in
-    let facts = c.of-facts.ensures.facts in
-    let conflicts : AreConflicts x h c.conflict-conflict.result =
-    λ n l. c.conflict-conflict.ensures h x n l facts before.accesses in
-    let more : (n : ℕ) → so_far c.args.config.now c.args.steps.now (c.loop-step.step-index + 1) n
-    ≡ history_after (latency_of c.args.config.now) x h n =
-    λ n. more_so_far c.args.config.now c.args.steps.now c.loop-step.step-index n x c.loop-step-test.true
-    c.step-item.is in
+    let conflicts : AreConflicts at.0 h c.conflict-conflict.result =
+    λ n l. c.conflict-conflict.ensures h at.0 n l at.1.facts before.accesses in
+    let more : (n : ℕ) → so_far c.args.config.now c.args.run.now (c.loop-step.step-index + 1) n
+    ≡ history_after (latency_of c.args.config.now) at.0 h n =
+    λ n. more_so_far c.args.config.now c.args.run.now c.loop-step.step-index n at.0 at.1.place at.1.at in
     record {
       count = c.pass_all-finishes.ensures.count;
-      latest = λ n d l. rw (more n) (c.pass_all-finishes.ensures.latest x h facts before.latest conflicts n d l);
-      accesses = λ n b l. rw (more n) (c.in_ok-note.ensures (latency_of c.args.config.now) x h facts
-          (λ n l. c.pass_all-finishes.ensures.finishes x h n l facts before.latest conflicts) before.accesses n b l);
+      latest = λ n d l. rw (more n)
+          (c.pass_all-finishes.ensures.latest at.0 h at.1.facts before.latest conflicts n d l);
+      accesses = λ n b l. rw (more n) (c.in_ok-note.ensures (latency_of c.args.config.now) at.0 h at.1.facts
+          (λ n l. c.pass_all-finishes.ensures.finishes at.0 h n l at.1.facts before.latest conflicts)
+          before.accesses n b l);
     }
 
 -- the latest cycles at the end include the floors
@@ -102,10 +115,13 @@ all_whole config steps i latest past are =
       whole config steps i 3 latest past are (omega arith),
     ) refl
 
+past : {steps : List Step} {facts : List Facts} {i : ℕ} → AreFacts steps facts → length facts ≤ i → length steps ≤ i
+past {steps} {facts} are l = let same = length_facts steps facts are in omega (arith, same, l)
+
 pub returns-clause-exact : goal.returns-clause-exact
 returns-clause-exact g c =
-    all_whole c.args.config.now c.args.steps.now c.loop-step.step-index c.loop-step.latest c.loop-step-test.false
-    c.loop-step.invariant.latest
+    all_whole c.args.config.now c.args.run.now c.loop-step.step-index c.loop-step.latest
+    (past c.facts-facts.ensures c.loop-step-test.false) c.loop-step.invariant.latest
 
 pub returns-clause-bound : goal.returns-clause-bound
 returns-clause-bound g c =
@@ -113,11 +129,11 @@ returns-clause-bound g c =
     let low = width_low config c.keeps_limits.ensures in
     let high = width_high config c.keeps_limits.ensures in
     let own : config.width - 1 + 1 ≡ config.width = omega (arith, low) in
-    let bound = floor_is_bound config (latency_of config) config.width c.args.steps.now c.keeps_limits.ensures
+    let bound = floor_is_bound config (latency_of config) config.width c.args.run.now c.keeps_limits.ensures
     (omega arith) (λ u. inl (omega arith)) in
     rw (
-      all_whole config c.args.steps.now c.loop-step.step-index c.loop-step.latest c.loop-step-test.false
-          c.loop-step.invariant.latest,
-      at_width (latency_of config) c.args.steps.now (config.width - 1) (omega (arith, low, high)),
+      all_whole config c.args.run.now c.loop-step.step-index c.loop-step.latest
+          (past c.facts-facts.ensures c.loop-step-test.false) c.loop-step.invariant.latest,
+      at_width (latency_of config) c.args.run.now (config.width - 1) (omega (arith, low, high)),
       own,
     ) bound

@@ -7,6 +7,6 @@ use Rattle.tomex_floor.proofs.evaluate.floors.Given as goal
 abbrev pub invariant-loop-step : goal.invariant-loop-step
 invariant-loop-step g l = record {
   count : length l.latest ≡ 4;
-  latest : AreLatest (histories (latency_of l.config) (reverse (take l.step-index l.steps))) l.latest;
-  accesses : AreTouched (histories (latency_of l.config) (reverse (take l.step-index l.steps))) l.accesses.by_word;
+  latest : AreLatest (histories (latency_of l.config) (reverse (take l.step-index l.run))) l.latest;
+  accesses : AreTouched (histories (latency_of l.config) (reverse (take l.step-index l.run))) l.accesses.by_word;
 }

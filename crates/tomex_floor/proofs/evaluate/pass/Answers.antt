@@ -1,7 +1,7 @@
 -- The latest cycles are those after the step's times.
 use Rattle.std.proofs.Common.{◌<◌, subst}
 use Rattle.std.specs.Prelude.{IfSome}
-use Rattle.tomex_floor.specs.declared.facts.Facts.{Facts}
+use Rattle.tomex_timing.specs.declared.recent.Facts.{Facts}
 use Rattle.tomex_floor.specs.Floor.{floor_times, latency_of}
 use Rattle.tomex_floor.proofs.Turns.{latest_more}
 use Rattle.tomex_floor.proofs.evaluate.pass.Goals as goal

@@ -5,7 +5,8 @@ use Rattle.tomex_steps.specs.declared.step.Step.{Step}
 use Rattle.tomex_timing.specs.declared.times.Done.{Done}
 use Rattle.tomex_floor.specs.declared.latest.Latest.{Latest}
 use Rattle.tomex_floor.specs.Floor.{latency_of}
-use Rattle.tomex_floor.specs.Kept.{AreConflicts, AreLatest, IsLatest, facts_of, finish_of, history_after}
+use Rattle.tomex_timing.specs.Recent.{facts_of}
+use Rattle.tomex_floor.specs.Kept.{AreConflicts, AreLatest, IsLatest, finish_of, history_after}
 use Rattle.tomex_floor.proofs.evaluate.pass_all.Given as goal
 
 abbrev pub invariant-loop-n : goal.invariant-loop-n

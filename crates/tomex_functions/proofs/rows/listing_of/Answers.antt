@@ -25,7 +25,7 @@ returns g c =
     (c.as_slice-3.ensures.value ∙ c.in_ok-keys.ensures) in
     let counted = c.in_ok-counted.ensures.counted (function_key symbols) keys in
     let calls = c.in_ok-calls.ensures symbols (c.as_slice-2.ensures.value ∙ functions) in
-    let ordered = c.in_ok-rows.ensures.rising in
+    let ordered = c.in_ok-rows.ensures.order in
     let has = addresses_are (function_key symbols) c.args.config.now steps c.in_ok-counted.counted.tally counted.tally
     ordered in
     record {

@@ -3,7 +3,8 @@ use Rattle.std.proofs.Common.{◌≡◌, refl, rules}
 use Rattle.std.specs.BTreeMap.{values}
 use Rattle.tomex_functions.specs.Calls.{calls_in}
 use Rattle.tomex_functions.specs.Kept.{HasAddress, row_of_group}
-use Rattle.tomex_functions.proofs.Listings.{first_of, rows_next}
+use Rattle.tomex_run_views.proofs.Written.{first_of}
+use Rattle.tomex_functions.proofs.Listings.{rows_next}
 use Rattle.tomex_functions.proofs.rows.rows_of.Goals as goal
 
 pub loop-group-init : goal.loop-group-init

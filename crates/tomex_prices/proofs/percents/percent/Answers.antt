@@ -5,5 +5,5 @@ use Rattle.tomex_prices.proofs.percents.percent.Goals as goal
 
 pub loop-rival-init : goal.loop-rival-init
 loop-rival-init g c =
-    let few = percent_few c.args.surveyed.now c.args.row c.loop-rival.rival-items in
+    let few = percent_few c.args.surveyed.now c.args.row c.rows-rival-items.result.now in
     record { least = omega (arith, few); few = (let z : 100 ≤ 100 = omega arith in z) }

@@ -6,9 +6,9 @@ use Rattle.tomex_study.proofs.Rows.{as_many_cycles}
 use Rattle.tomex_prices.proofs.AllRows.{made_apart, next_priced, small_more}
 use Rattle.tomex_prices.proofs.priced_row.rows_with.Goals as goal
 
-pub row-requires : goal.row-requires
-row-requires g c =
-    rw c.study.ensures at (rw c.rows-config-items.ensures.value at c.loop-row-test.true)
+pub row-cycles-requires : goal.row-cycles-requires
+row-cycles-requires g c =
+    rw c.study-study.ensures at (rw c.rows-config-items.ensures.value at c.loop-row-test.true)
 
 pub loop-row-preserved : goal.loop-row-preserved
 loop-row-preserved g c =
@@ -18,12 +18,12 @@ loop-row-preserved g c =
     let row = c.with_price_apart.result in
     let before = c.loop-row.apart.items in
     let within : k < length s.rows =
-    rw c.study.ensures at (rw c.rows-config-items.ensures.value at c.loop-row-test.true) in
+    rw c.study-study.ensures at (rw c.rows-config-items.ensures.value at c.loop-row-test.true) in
     let many = as_many_cycles s in
     let less : k < length (cycles_of s) = omega (arith, many, within) in
-    let item = rw c.study.ensures at (rw c.rows-config-items.ensures.value at c.config-item.is) in
-    let made = made_apart s c.args.price k config c.prices-prices.result c.row.result.cycles row within
-    (rw c.study.ensures at c.prices-prices.ensures.value) (ap (λ (r : FrontRow). r.cycles) c.row.ensures)
+    let item = rw c.study-study.ensures at (rw c.rows-config-items.ensures.value at c.config-item.is) in
+    let made = made_apart s c.args.price k config c.prices-prices.result c.row-cycles.result.cycles row within
+    (rw c.study-study.ensures at c.prices-prices.ensures.value) (ap (λ (r : FrontRow). r.cycles) c.row-cycles.ensures)
     c.with_price_apart.ensures.parts in
     record {
       rows = next_priced c.args.price s.prices k s.rows (cycles_of s) before within less item made

@@ -5,9 +5,9 @@ use Rattle.tomex_run_views.proofs.laws.places_add_up.Goals as goal
 
 pub returns-clause-steps : goal.returns-clause-steps
 returns-clause-steps c key visits keys are =
-    ones_in_all key visits keys ∙ (by_keys key (λ v. 1) visits keys are.rising (λ k there. are.those k ∙ there)
+    ones_in_all key visits keys ∙ (by_keys key (λ v. 1) visits keys are.ascending (λ k there. are.those k ∙ there)
     ∙ sym (ones visits))
 
 pub returns-clause-sums : goal.returns-clause-sums
 returns-clause-sums c value key visits keys are =
-    by_keys key value visits keys are.rising (λ k there. are.those k ∙ there)
+    by_keys key value visits keys are.ascending (λ k there. are.those k ∙ there)

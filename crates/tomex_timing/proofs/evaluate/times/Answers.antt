@@ -16,20 +16,20 @@ loop-step-init g c = record {
 pub next_step-requires : goal.next_step-requires
 next_step-requires g c =
     ready (step_from c.args.config.now c.args.steps.now c.loop-step.step-index c.step-item.result c.keeps_limits.ensures
-    c.requires.few c.loop-step-test.true (search rules) c.of-facts.ensures.facts c.of-facts.ensures.registers)
+    c.requires.few c.loop-step-test.true (search rules) c.of-facts.ensures.facts c.of-facts.ensures.range)
     c.loop-step.invariant.shown
 
 pub keep-requires : goal.keep-requires
 keep-requires g c =
     (ready (step_from c.args.config.now c.args.steps.now c.loop-step.step-index c.step-item.result
     c.keeps_limits.ensures c.requires.few c.loop-step-test.true (search rules) c.of-facts.ensures.facts
-    c.of-facts.ensures.registers) c.loop-step.invariant.shown).keeps _ c.next_step.ensures
+    c.of-facts.ensures.range) c.loop-step.invariant.shown).keeps _ c.next_step.ensures
 
 pub loop-step-preserved : goal.loop-step-preserved
 loop-step-preserved g c =
     let turn = turn_of (step_from c.args.config.now c.args.steps.now c.loop-step.step-index c.step-item.result
     c.keeps_limits.ensures c.requires.few c.loop-step-test.true (search rules) c.of-facts.ensures.facts
-    c.of-facts.ensures.registers) c.loop-step.invariant.shown c.next_step.ensures in
+    c.of-facts.ensures.range) c.loop-step.invariant.shown c.next_step.ensures in
     record {
       shown = held_turn turn c.in_ok-keep.ensures;
       times = rw (c.in_ok-push.ensures.items, c.loop-step.invariant.times) (sym (times_turn turn));

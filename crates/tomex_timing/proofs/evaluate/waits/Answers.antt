@@ -16,14 +16,14 @@ loop-step-init g c = record {
 pub next_turn-turn-requires : goal.next_turn-turn-requires
 next_turn-turn-requires g c =
     ready (step_from c.args.config.now c.args.steps.now c.loop-step.step-index c.step-item.result c.keeps_limits.ensures
-    c.requires.few c.loop-step-test.true (search rules) c.of-facts.ensures.facts c.of-facts.ensures.registers)
+    c.requires.few c.loop-step-test.true (search rules) c.of-facts.ensures.facts c.of-facts.ensures.range)
     c.loop-step.invariant.shown
 
 pub loop-step-preserved : goal.loop-step-preserved
 loop-step-preserved g c =
     let turn = turn_of (step_from c.args.config.now c.args.steps.now c.loop-step.step-index c.step-item.result
     c.keeps_limits.ensures c.requires.few c.loop-step-test.true (search rules) c.of-facts.ensures.facts
-    c.of-facts.ensures.registers) c.loop-step.invariant.shown c.next_turn-turn.ensures.next in
+    c.of-facts.ensures.range) c.loop-step.invariant.shown c.next_turn-turn.ensures.next in
     record {
       shown = held_turn turn c.in_ok-keep.ensures;
       waits = rw (c.in_ok-push.ensures.items, c.loop-step.invariant.waits)

@@ -8,5 +8,5 @@ loop-step-preserved g c =
     let is : slice_index_or c.args.steps.now c.loop-step.step-index c.step-item.result ≡ c.step-item.result =
     search rules in
     rw c.in_ok-push.ensures.items (facts_more c.args.steps.now c.loop-step.facts.items c.loop-step.step-index
-    c.step-item.result c.of.result c.loop-step-test.true is c.of.ensures.facts c.of.ensures.registers
+    c.step-item.result c.of.result c.loop-step-test.true is c.of.ensures.facts c.of.ensures.range
     c.loop-step.invariant)

@@ -8,19 +8,19 @@ use Rattle.tomex_reservations.proofs.reservation_table.ReservationTable.search.G
 
 pub loop-line-smaller : goal.loop-line-smaller
 loop-line-smaller g c =
-    let fails : is_left c.args.self.now c.args.line c.args.most c.loop-line.cycle ≡ false = search rules in
-    let on = left_on c.args.self.now c.args.line c.args.most c.args.from c.loop-line.cycle c.args.bound c.requires.most
-    c.requires.quiet c.loop-line.invariant fails in
+    let fails : is_left c.args.self.now c.args.line c.args.capacity c.loop-line.cycle ≡ false = search rules in
+    let on = left_on c.args.self.now c.args.line c.args.capacity c.args.from c.loop-line.cycle c.args.last_taken
+    c.requires.capacity c.requires.quiet c.loop-line.invariant fails in
     omega (arith, on.by)
 
 pub loop-line-preserved : goal.loop-line-preserved
 loop-line-preserved g c =
-    let fails : is_left c.args.self.now c.args.line c.args.most c.loop-line.cycle ≡ false = search rules in
-    left_on c.args.self.now c.args.line c.args.most c.args.from c.loop-line.cycle c.args.bound c.requires.most
-    c.requires.quiet c.loop-line.invariant fails
+    let fails : is_left c.args.self.now c.args.line c.args.capacity c.loop-line.cycle ≡ false = search rules in
+    left_on c.args.self.now c.args.line c.args.capacity c.args.from c.loop-line.cycle c.args.last_taken
+    c.requires.capacity c.requires.quiet c.loop-line.invariant fails
 
-pub returns-then-taken-most-clause-first : goal.returns-then-taken-most-clause-first
-returns-then-taken-most-clause-first g c =
-    let here : is_left c.args.self.now c.args.line c.args.most c.loop-line.cycle ≡ true = search rules in
-    found (is_left c.args.self.now c.args.line c.args.most) c.args.from c.loop-line.cycle
-    (max c.args.from (c.args.bound + 1)) c.loop-line.invariant here
+pub returns-then-taken-capacity-clause-first : goal.returns-then-taken-capacity-clause-first
+returns-then-taken-capacity-clause-first g c =
+    let here : is_left c.args.self.now c.args.line c.args.capacity c.loop-line.cycle ≡ true = search rules in
+    found (is_left c.args.self.now c.args.line c.args.capacity) c.args.from c.loop-line.cycle
+    (max c.args.from (c.args.last_taken + 1)) c.loop-line.invariant here

@@ -6,7 +6,7 @@ use Rattle.tomex_reservations.proofs.Searching.{IsSearching}
 use Rattle.tomex_reservations.proofs.reservation_table.ReservationTable.search.Given as goal
 
 abbrev pub invariant-loop-line : goal.invariant-loop-line
-invariant-loop-line g l = IsSearching (is_left l.self l.line l.most) l.from l.cycle (max l.from (l.bound + 1))
+invariant-loop-line g l = IsSearching (is_left l.self l.line l.capacity) l.from l.cycle (max l.from (l.last_taken + 1))
 
 abbrev pub decreases-loop-line : goal.decreases-loop-line
-decreases-loop-line g l = max l.from (l.bound + 1) - l.cycle
+decreases-loop-line g l = max l.from (l.last_taken + 1) - l.cycle
