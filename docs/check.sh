@@ -12,6 +12,8 @@
 # run too, in the folder examples. What needs a program that isn't installed is skipped, and reported;
 # so are the slow blocks without --slow. The pages in examples are opened in a browser, if there is one.
 #
+# Only what pages show is tried here. The gate compares whole outputs: the golden cases in crates/tomex_cases.
+#
 # TOMEX names the program, a path or a name on PATH, by default crates/tomex/out/tomex, which `rt run`
 # leaves there.
 set -eu
