@@ -9,5 +9,6 @@ unfolding overview
 returns g c =
     on_ok_weaker c.write.result (λ last.
     (c.in_ok-push_str.ensures.bytes ▸ c.in_ok-push_linked_picture.ensures ▸ c.in_ok-push_str-2.ensures.bytes
-    ▸ c.in_ok-push_programs_table.ensures ▸ c.in_ok-push_lists_table.ensures ▸ last_piece last).is)
+    ▸ (rw c.study-study.ensures at c.in_ok-push_programs_table.ensures)
+    ▸ (rw c.study-study.ensures at c.in_ok-push_lists_table.ensures) ▸ last_piece last).is)
     c.write.ensures.bytes

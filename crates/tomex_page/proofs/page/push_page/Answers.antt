@@ -8,6 +8,6 @@ pub returns : goal.returns
 unfolding page_over
 returns g c =
     on_ok_weaker c.push_page_end.result (λ last.
-    ((rw (c.front-front.ensures.value, c.rows.ensures.value) at c.in_ok-push_page_head.ensures)
+    ((rw (c.front.ensures.value, c.rows.ensures.count) at c.in_ok-push_page_head.ensures)
     ▸ c.in_ok-push_overview.ensures ▸ c.in_ok-push_rows.ensures
     ▸ (rw c.page_help.ensures at c.in_ok-push_str.ensures.bytes) ▸ last_piece last).is) c.push_page_end.ensures

@@ -8,4 +8,5 @@ pub returns : goal.returns
 unfolding row_section
 returns g c =
     on_ok_weaker c.push_section_runs.result (λ last.
-    (c.in_ok-push_head.ensures ▸ c.in_ok-push_tables.ensures ▸ last_piece last).is) c.push_section_runs.ensures
+    (c.in_ok-push_head.ensures ▸ c.in_ok-push_tables.ensures ▸ last_piece last).is)
+    (rw c.study.ensures at c.push_section_runs.ensures)

@@ -9,6 +9,6 @@ pub returns : goal.returns
 unfolding section_tables
 returns g c =
     on_ok_weaker c.push_prices_table.result (λ last.
-    (c.in_ok-push_against.ensures ▸ (rw c.prices.ensures.value at c.in_ok-push_parts_table.ensures)
+    (c.in_ok-push_against.ensures ▸ (rw (c.prices.ensures.value, c.study.ensures) at c.in_ok-push_parts_table.ensures)
     ▸ c.in_ok-push_changes_table.ensures ▸ last_piece last).is)
     (rw (sym c.requires.here) at c.push_prices_table.ensures)
