@@ -141,9 +141,10 @@ fn one_list_differs(rt: HostRuntime) -> Result<(), Fail> {
         let study = random.study_on(rt.alloc(), grid(rt.alloc())?)?;
         let surveyed = surveyed(&rt, rt.alloc(), &study, 2)?;
         let plain = by_hand::all_rows(rt.alloc(), &study)?;
-        for row in 0..study.rows().len() {
-            let own = *plain.get(row).ok_or("no such row")?;
-            let text = worth_table(rt.alloc(), rt.alloc(), &surveyed, row)?;
+        assert!(rt; surveyed.rows().len() == study.rows().len());
+        for row in surveyed.rows() {
+            let own = *plain.get(row.row).ok_or("no such row")?;
+            let text = worth_table(rt.alloc(), rt.alloc(), &surveyed, row.row)?;
             let text = String::from_utf8(text)?;
             let is_so = is_table(&study, plain.as_slice(), own, text.as_str())?;
             holds_for(turn, is_so)?;
