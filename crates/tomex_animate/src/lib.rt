@@ -1,5 +1,5 @@
 //! A run cycle by cycle as one HTML page: a view for each cycle, with Tomasulo's tables as they are after it.
-//! Tests: tomex_tests_pages.
+//! Tests: tomex_cases, tomex_tests_commands.
 #![tactic(auto)]
 
 mod animation_error;

@@ -1,5 +1,5 @@
 //! The commands: each command's text, the reports of failures, and a whole run of the program over any files and sinks.
-//! Tests: tomex_tests_commands, tomex_tests_study_commands.
+//! Tests: tomex_cases, tomex_tests_commands.
 #![tactic(auto)]
 
 mod commands;

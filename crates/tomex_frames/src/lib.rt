@@ -1,6 +1,6 @@
 //! The pieces of a view: what happens in a cycle, the instruction status, the reservation stations and the register
 //! status after it, as HTML, each with what has changed.
-//! Tests: tomex_tests_pages.
+//! Tests: tomex_cases.
 #![tactic(auto)]
 
 mod cells;

@@ -1,5 +1,5 @@
 //! The front of a study for people: as a table, and as one picture.
-//! Tests: tomex_tests_surveys, tomex_tests_study_commands.
+//! Tests: tomex_cases, tomex_tests_surveys.
 #![tactic(auto)]
 
 mod plot;

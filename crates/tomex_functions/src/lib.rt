@@ -1,5 +1,5 @@
 //! The functions of a program, as texts show them, and where in them the cycles of a run go.
-//! Tests: tomex_tests_symbols, tomex_tests_commands.
+//! Tests: tomex_cases, tomex_tests_symbols.
 #![tactic(auto)]
 
 mod by_function;

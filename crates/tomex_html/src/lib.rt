@@ -2,7 +2,7 @@
 //! to the next.
 //!
 //! Source: the HTML Living Standard, in its XML syntax.
-//! Tests: tomex_tests_pages.
+//! Tests: tomex_cases, tomex_tests_commands.
 #![tactic(auto)]
 
 mod constants;

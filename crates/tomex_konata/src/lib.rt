@@ -1,5 +1,5 @@
 //! A run's steps as a log of the viewer Konata: the lines of each cycle in which something happens.
-//! Tests: tomex_tests_commands.
+//! Tests: tomex_cases.
 #![tactic(auto)]
 
 mod entries;

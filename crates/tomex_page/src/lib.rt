@@ -2,7 +2,7 @@
 //! the front, with its parts, what one part changed brings, the prices with which it stays, and its runs.
 //!
 //! Source: the HTML Living Standard, in its XML syntax.
-//! Tests: tomex_tests_study_pages.
+//! Tests: tomex_cases, tomex_tests_commands.
 #![tactic(auto)]
 
 mod charts;

@@ -2,7 +2,7 @@
 //! prices with which it stays.
 //!
 //! Source: the HTML Living Standard, in its XML syntax.
-//! Tests: tomex_tests_study_pages.
+//! Tests: tomex_cases.
 #![tactic(auto)]
 
 mod changed;

@@ -1,7 +1,7 @@
 //! Tables of a study's report as a page: the programs and the lists of parts, and the front.
 //!
 //! Source: the HTML Living Standard, in its XML syntax.
-//! Tests: tomex_tests_study_pages.
+//! Tests: tomex_cases.
 #![tactic(auto)]
 
 mod asked;

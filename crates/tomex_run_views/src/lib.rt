@@ -1,6 +1,6 @@
 //! What people look at to understand one run of a program on a machine: which parts hold it back, where in the
 //! program its instructions wait, and what they do cycle by cycle.
-//! Tests: tomex_tests_commands.
+//! Tests: tomex_cases.
 #![tactic(auto)]
 
 mod by_place;

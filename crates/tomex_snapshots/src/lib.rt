@@ -1,6 +1,6 @@
 //! The data of a cycle's view: the steps of a run with their times and waits, what stations and registers show after
 //! the cycle, and what takes the results that are sent in it.
-//! Tests: tomex_tests_pages.
+//! Tests: tomex_cases.
 #![tactic(auto)]
 
 mod entries;

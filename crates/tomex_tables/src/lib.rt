@@ -1,5 +1,5 @@
 //! Tables for people: a line of names, and after it lines of texts, all aligned to the right.
-//! Tests: tomex_tests_surveys, tomex_tests_study_commands.
+//! Tests: tomex_cases, tomex_tests_surveys.
 #![tactic(auto)]
 
 mod column;

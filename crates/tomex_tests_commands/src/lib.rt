@@ -1,34 +1,22 @@
-//! Tests of the program on one program or one run, except its words, files and streams: whole runs over
-//! files in memory.
+//! Tests of the program beside its golden cases: refused memory, workers and progress, outputs that fail on their
+//! way, names with control characters, faults of a line, and the greatest inputs.
 #![tactic(auto)]
 
 #[cfg(test)]
-mod animate;
-#[cfg(test)]
-mod by_function;
-#[cfg(test)]
-mod commands;
-#[cfg(test)]
-mod compiled;
-#[cfg(test)]
-mod elf_images;
-#[cfg(test)]
-mod executables;
-#[cfg(test)]
 mod explain;
 #[cfg(test)]
-mod konata;
+mod explorations;
+#[cfg(test)]
+mod greatest;
 #[cfg(test)]
 mod line_faults;
 #[cfg(test)]
-mod pipeline;
+mod memory_of_runs;
 #[cfg(test)]
-mod refused_memory;
+mod memory_of_studies;
 #[cfg(test)]
-mod stalls;
+mod output;
 #[cfg(test)]
-mod tables;
+mod page;
 #[cfg(test)]
-mod times;
-#[cfg(test)]
-mod wide;
+mod workers;

@@ -12,31 +12,6 @@ pub const PRODUCT_TIMES: &str = "step,pc,instr,issue,addr,start,finish,end,stati
     4,0000000c,ebreak,6,-,6,6,6,-\n\
     total,-,-,-,-,-,-,10,-\n";
 
-/// Its stalls there, by part: the second sum waits two cycles for the first one's station.
-pub const PRODUCT_STALLS: &str = "part,count,peak,stalls\n\
-    alu,1,1,2\nmul,1,1,0\ndiv,1,0,0\nload,1,0,0\nstore,1,0,0\nbru,1,0,0\n\
-    alu_units,1,1,0\nmul_units,1,1,0\ndiv_units,1,0,0\nmem_units,1,0,0\nbru_units,1,0,0\n\
-    buses,1,1,0\nwidth,1,1,3\n\
-    branch,-,-,0\noperand,-,-,1\naddress,-,-,0\nmemory,-,-,0\ndrain,-,-,4\ntotal,-,-,10\n\
-    floor,1,-,8\nfloor,2,-,7\nfloor,3,-,7\nfloor,4,-,7\n";
-
-/// And by address.
-pub const PRODUCT_STALLS_BY_PC: &str =
-    "pc,instr,steps,cycles,branch,width,station,operand,address,memory,unit,bus\n\
-    00000000,\"addi x1,x0,5\",1,1,0,0,0,0,0,0,0,0\n\
-    00000004,\"addi x2,x0,7\",1,3,0,1,2,0,0,0,0,0\n\
-    00000008,\"mul x3,x1,x2\",1,1,0,1,0,1,0,0,0,0\n\
-    0000000c,ebreak,1,1,0,1,0,0,0,0,0,0\n\
-    drain,-,0,4,0,0,0,0,0,0,0,0\n\
-    total,-,4,10,0,3,2,1,0,0,0,0\n";
-
-/// Its tables after the third cycle on the first row.
-pub const PRODUCT_AFTER_3: &str = "cycle 3\n\
-    alu1 addi Vj=00000000 Vk=- Qj=- Qk=- A=-\n\
-    mul0 mul Vj=00000005 Vk=- Qj=- Qk=alu1 A=-\n\
-    x2 Qi=alu1\n\
-    x3 Qi=mul0\n";
-
 /// The loop on two rows, of a fast alu unit and of a slow one that costs more, which is dropped.
 pub const DROPPED: &str = "[[program]]\nname = \"loop\"\nfile = \"loop.bin\"\n\
     [[unit.alu]]\nlatency = 1\nprice = 5\n[[unit.alu]]\nlatency = 10\nprice = 9\n";

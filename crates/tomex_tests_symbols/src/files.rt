@@ -4,39 +4,11 @@ use std::alloc::Global;
 use std::process::Abort;
 use std::test::Fail;
 use tomex_symbols::{Binding, Kind, Symbol, name_of, symbols};
-
-/// An executable of 44 bytes of code, made by another linker: the functions `_start`, `work` and
-/// `last`. Its names begin at 128, its symbols at 148, its five section headers at 212.
-pub const WHOLE: &[u8; 412] = b"\x7f\x45\x4c\x46\x01\x01\x01\x00\x00\x00\x00\x00\x00\x00\x00\x00\
-      \x02\x00\xf3\x00\x01\x00\x00\x00\x00\x10\x00\x00\x34\x00\x00\x00\
-      \xd4\x00\x00\x00\x00\x00\x00\x00\x34\x00\x20\x00\x01\x00\x28\x00\
-      \x05\x00\x00\x00\x01\x00\x00\x00\x54\x00\x00\x00\x00\x10\x00\x00\
-      \x00\x10\x00\x00\x2c\x00\x00\x00\x2c\x00\x00\x00\x05\x00\x00\x00\
-      \x04\x00\x00\x00\x13\x04\x30\x00\xef\x00\xc0\x00\xef\x00\x80\x01\
-      \x73\x00\x10\x00\x13\x05\x35\x00\xb3\x05\xa5\x02\x63\x92\x05\x00\
-      \x67\x80\x00\x00\x13\x04\xf4\xff\xe3\x1e\x04\xfe\x67\x80\x00\x00\
-      \x00\x5f\x73\x74\x61\x72\x74\x00\x77\x6f\x72\x6b\x00\x6c\x61\x73\
-      \x74\x00\x00\x00\x00\x00\x00\x00\x00\x00\x00\x00\x00\x00\x00\x00\
-      \x00\x00\x00\x00\x01\x00\x00\x00\x00\x10\x00\x00\x10\x00\x00\x00\
-      \x12\x00\x01\x00\x08\x00\x00\x00\x10\x10\x00\x00\x10\x00\x00\x00\
-      \x12\x00\x01\x00\x0d\x00\x00\x00\x20\x10\x00\x00\x0c\x00\x00\x00\
-      \x02\x00\x01\x00\x00\x00\x00\x00\x00\x00\x00\x00\x00\x00\x00\x00\
-      \x00\x00\x00\x00\x00\x00\x00\x00\x00\x00\x00\x00\x00\x00\x00\x00\
-      \x00\x00\x00\x00\x00\x00\x00\x00\x00\x00\x00\x00\x01\x00\x00\x00\
-      \x01\x00\x00\x00\x06\x00\x00\x00\x00\x00\x00\x00\x00\x00\x00\x00\
-      \x00\x00\x00\x00\x00\x00\x00\x00\x00\x00\x00\x00\x04\x00\x00\x00\
-      \x00\x00\x00\x00\x02\x00\x00\x00\x01\x00\x00\x00\x03\x00\x00\x00\
-      \x00\x00\x00\x00\x00\x00\x00\x00\x00\x00\x00\x00\x00\x00\x00\x00\
-      \x00\x00\x00\x00\x04\x00\x00\x00\x00\x00\x00\x00\x03\x00\x00\x00\
-      \x03\x00\x00\x00\x00\x00\x00\x00\x00\x00\x00\x00\x80\x00\x00\x00\
-      \x12\x00\x00\x00\x00\x00\x00\x00\x00\x00\x00\x00\x01\x00\x00\x00\
-      \x00\x00\x00\x00\x04\x00\x00\x00\x02\x00\x00\x00\x00\x00\x00\x00\
-      \x00\x00\x00\x00\x94\x00\x00\x00\x40\x00\x00\x00\x03\x00\x00\x00\
-      \x01\x00\x00\x00\x04\x00\x00\x00\x10\x00\x00\x00";
+use tomex_tests_fixtures::programs::CALLS;
 
 /// The number of symbols in the file with these bytes, at their places, changed.
 fn count_of(alloc: Global, changes: &[(usize, u8)]) -> Result<usize, Fail> {
-    let mut bytes = Vec::from_slice(alloc, WHOLE.as_slice())?;
+    let mut bytes = Vec::from_slice(alloc, CALLS.as_slice())?;
     for (place, byte) in changes {
         match bytes.get_mut(*place) {
             Some(old) => *old = *byte,
@@ -72,7 +44,7 @@ fn function(number: u32, address: u32, size: u32, binding: Binding, name: usize)
 
 #[test]
 fn whole_file(rt: HostRuntime) -> Result<(), Fail> {
-    let found = symbols(rt.alloc(), WHOLE.as_slice())?;
+    let found = symbols(rt.alloc(), CALLS.as_slice())?;
     let known = [
         function(1, 0x1000, 16, Binding::Global, 129),
         function(2, 0x1010, 16, Binding::Global, 136),
@@ -84,7 +56,7 @@ fn whole_file(rt: HostRuntime) -> Result<(), Fail> {
 
 #[test]
 fn names(rt: HostRuntime) -> Result<(), Fail> {
-    let bytes = WHOLE.as_slice();
+    let bytes = CALLS.as_slice();
     let start = function(1, 0x1000, 16, Binding::Global, 129);
     assert!(rt; name_of(bytes, &start, 257) == b"_start".as_slice());
     assert!(rt; name_of(bytes, &start, 6) == b"_start".as_slice());
@@ -108,15 +80,15 @@ fn names(rt: HostRuntime) -> Result<(), Fail> {
 
 #[test]
 fn flat_file(rt: HostRuntime) -> Result<(), Fail> {
-    assert!(rt; symbols(rt.alloc(), &WHOLE.as_slice()[84..])?.is_empty());
+    assert!(rt; symbols(rt.alloc(), &CALLS.as_slice()[84..])?.is_empty());
     assert!(rt; symbols(rt.alloc(), &[])?.is_empty());
     Ok(())
 }
 
 #[test]
 fn every_beginning(rt: HostRuntime) -> Result<(), Fail> {
-    for length in 0..WHOLE.len() {
-        assert!(rt; symbols(rt.alloc(), &WHOLE.as_slice()[..length])?.is_empty());
+    for length in 0..CALLS.len() {
+        assert!(rt; symbols(rt.alloc(), &CALLS.as_slice()[..length])?.is_empty());
     }
     Ok(())
 }

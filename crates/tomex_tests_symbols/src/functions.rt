@@ -2,11 +2,11 @@
 
 ghost use Rattle.std.specs.Prelude.{◌≡◌};
 
-use crate::files::WHOLE;
 use std::alloc::{AllocError, Allocator, Global};
 use std::process::Abort;
 use std::test::Fail;
 use tomex_symbols::{functions_at, symbols};
+use tomex_tests_fixtures::programs::CALLS;
 
 /// The numbers of the functions of these addresses in a file, `None` if the addresses don't rise.
 pub fn numbers_at<A: Allocator + Clone>(
@@ -29,7 +29,7 @@ pub fn numbers_at<A: Allocator + Clone>(
 
 /// The file with these bytes, at their places, changed.
 fn changed(alloc: Global, changes: &[(usize, u8)]) -> Result<Vec<u8>, Fail> {
-    let mut bytes = Vec::from_slice(alloc, WHOLE.as_slice())?;
+    let mut bytes = Vec::from_slice(alloc, CALLS.as_slice())?;
     for (place, byte) in changes {
         match bytes.get_mut(*place) {
             Some(old) => *old = *byte,
@@ -46,7 +46,7 @@ const ADDRESSES: [u32; 9] = [
 
 #[test]
 fn sized_functions(rt: HostRuntime) -> Result<(), Fail> {
-    let numbers = numbers_at(rt.alloc(), WHOLE.as_slice(), &ADDRESSES)?;
+    let numbers = numbers_at(rt.alloc(), CALLS.as_slice(), &ADDRESSES)?;
     let known = [
         None,
         Some(1),

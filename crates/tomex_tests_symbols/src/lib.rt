@@ -3,8 +3,6 @@
 #![tactic(auto)]
 
 #[cfg(test)]
-mod by_function;
-#[cfg(test)]
 mod files;
 #[cfg(test)]
 mod functions;

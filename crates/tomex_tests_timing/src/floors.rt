@@ -10,7 +10,7 @@ use tomex_floor::floors;
 use tomex_rvexec::trace;
 use tomex_tests_fixtures::machines::{config_of, one_unit_each};
 use tomex_tests_fixtures::programs::{LOOP_WORDS, PRODUCT_WORDS};
-use tomex_tests_fixtures::{Attempt, Heap, Try, image_of, refusals};
+use tomex_tests_fixtures::{Attempt, Heap, Random, Try, image_of, refusals};
 use tomex_timing::{Needs, Part, Run};
 
 /// A program, loaded at a base into memory of this size.
@@ -121,105 +121,79 @@ fn the_floor_of_no_steps_is_0(rt: HostRuntime) -> Result<(), Fail> {
     Ok(())
 }
 
-/// Pseudorandom numbers, by a linear congruence.
-#[derive(Drop)]
-struct Random {
-    state: u32,
+/// One of the registers x1 to x7.
+fn register(random: &mut Random) -> u32
+    ensures { result < 8 }
+{
+    random.below(7) + 1
 }
 
-impl Random {
-    /// A number below a bound, which isn't 0.
-    fn below(&mut self, bound: u32) -> u32
-        requires { 0 < bound }
-        ensures { result < bound }
-    {
-        self.state = self.state.wrapping_mul(1664525).wrapping_add(1013904223);
-        (self.state >> 8) % bound
+/// An instruction: a sum, a product, a quotient, a load or a store of 16 bytes, or a branch past the next one.
+fn word(random: &mut Random) -> u32 {
+    let rd = register(random) * 0x80;
+    let rs1 = register(random) * 0x8000;
+    let rs2 = register(random) * 0x100000;
+    let place = random.below(16);
+    let loaded = (0x400 + place) * 0x100000;
+    let stored = 0x40000000 + place * 0x80;
+    match random.below(9) {
+        0 => 0x00000013 | rd | place * 0x100000,
+        1 => 0x00000033 | rd | rs1 | rs2,
+        2 => 0x02000033 | rd | rs1 | rs2,
+        3 => 0x02004033 | rd | rs1 | rs2,
+        4 => 0x00002003 | rd | loaded,
+        5 => 0x00000003 | rd | loaded,
+        6 => 0x00002023 | stored | rs2,
+        7 => 0x00000023 | stored | rs2,
+        _ => 0x00001463 | rs1 | rs2,
     }
 }
 
-impl Random {
-    /// One of the registers x1 to x7.
-    fn register(&mut self) -> u32
-        ensures { result < 8 }
-    {
-        self.below(7) + 1
+/// The run of a program of 30 such instructions.
+fn random_run(random: &mut Random, alloc: Global) -> Result<Run, Fail>
+    ensures { IfOk result (λ run. length run ≤ 2000) }
+{
+    let mut words = Vec::new(alloc);
+    for _ in 0..30 {
+        words.push(word(random))?;
     }
+    words.extend_from_slice(&[0x00100073, 0x00100073])?;
+    let image = image_of(alloc, 0, 4096, words.as_slice())?;
+    Ok(Run::new(alloc, trace(alloc, &image, 2000)?)?)
+}
 
-    /// An instruction: a sum, a product, a quotient, a load or a store of 16 bytes, or a branch past the next one.
-    fn word(&mut self) -> u32 {
-        let rd = self.register() * 0x80;
-        let rs1 = self.register() * 0x8000;
-        let rs2 = self.register() * 0x100000;
-        let place = self.below(16);
-        let loaded = (0x400 + place) * 0x100000;
-        let stored = 0x40000000 + place * 0x80;
-        match self.below(9) {
-            0 => 0x00000013 | rd | place * 0x100000,
-            1 => 0x00000033 | rd | rs1 | rs2,
-            2 => 0x02000033 | rd | rs1 | rs2,
-            3 => 0x02004033 | rd | rs1 | rs2,
-            4 => 0x00002003 | rd | loaded,
-            5 => 0x00000003 | rd | loaded,
-            6 => 0x00002023 | stored | rs2,
-            7 => 0x00000023 | stored | rs2,
-            _ => 0x00001463 | rs1 | rs2,
-        }
-    }
+/// A number of parts, or of cycles.
+fn count(random: &mut Random, most: u32) -> u8
+    requires { (0 < most) × (most < 256) }
+{
+    (random.below(most) + 1) as u8
+}
 
-    /// The run of a program of 30 such instructions.
-    fn run(&mut self, alloc: Global) -> Result<Run, Fail>
-        ensures { IfOk result (λ run. length run ≤ 2000) }
-    {
-        let mut words = Vec::new(alloc);
-        for _ in 0..30 {
-            words.push(self.word())?;
-        }
-        words.extend_from_slice(&[0x00100073, 0x00100073])?;
-        let image = image_of(alloc, 0, 4096, words.as_slice())?;
-        Ok(Run::new(alloc, trace(alloc, &image, 2000)?)?)
+/// At most two units of the kind, of a latency of at most 8.
+fn option(random: &mut Random) -> UnitOption {
+    UnitOption {
+        units: count(random, 2),
+        latency: count(random, 8),
+        price: 0,
     }
+}
 
-    /// A number of parts, or of cycles.
-    fn count(&mut self, most: u32) -> u8
-        requires { (0 < most) × (most < 256) }
-    {
-        (self.below(most) + 1) as u8
+/// A configuration of few parts, or of many.
+fn random_config(random: &mut Random, most: u32) -> Result<Config, Fail>
+    requires { (0 < most) × (most < 256) }
+{
+    let mut stations = [1; 6];
+    for pool in 0..6usize {
+        stations[pool] = count(random, most);
     }
-
-    /// At most two units of the kind, of a latency of at most 8.
-    fn option(&mut self) -> UnitOption {
-        UnitOption {
-            units: self.count(2),
-            latency: self.count(8),
-            price: 0,
-        }
+    let mut units = [option(random); 5];
+    for unit in 0..4usize {
+        units[unit] = option(random);
     }
-
-    /// A configuration of few parts, or of many.
-    fn config(&mut self, most: u32) -> Result<Config, Fail>
-        requires { (0 < most) × (most < 256) }
-    {
-        let mut stations = [1; 6];
-        for pool in 0..6usize {
-            stations[pool] = self.count(most);
-        }
-        let branch = UnitOption {
-            units: 1,
-            latency: self.count(8),
-            price: 0,
-        };
-        let units = [
-            self.option(),
-            self.option(),
-            self.option(),
-            self.option(),
-            branch,
-        ];
-        let buses = self.count(4);
-        let width = self.count(4);
-        config_of(stations, units, buses, width)
-    }
+    units[4].units = 1;
+    let buses = count(random, 4);
+    let width = count(random, 4);
+    config_of(stations, units, buses, width)
 }
 
 /// True if no floor is below that of the next width.
@@ -249,8 +223,8 @@ fn bounds(floors: &[u64; 4], width: u8, needs: &Needs) -> bool
 fn are_floors(alloc: Global, random: &mut Random, most: u32) -> Result<bool, Fail>
     requires { (0 < most) × (most < 256) }
 {
-    let run = random.run(alloc)?;
-    let config = random.config(most)?;
+    let run = random_run(random, alloc)?;
+    let config = random_config(random, most)?;
     let needs = run.needs(&alloc, &config)?;
     let floors = floors(alloc, &run, &config)?;
     Ok(do_fall(&floors) && bounds(&floors, config.width(), &needs))
@@ -258,7 +232,7 @@ fn are_floors(alloc: Global, random: &mut Random, most: u32) -> Result<bool, Fai
 
 #[test]
 fn no_random_machine_is_faster(rt: HostRuntime) -> Result<(), Fail> {
-    let mut random = Random { state: 1 };
+    let mut random = Random::new(1);
     for _ in 0..60 {
         assert!(rt; are_floors(rt.alloc(), &mut random, 3)?);
         assert!(rt; are_floors(rt.alloc(), &mut random, 16)?);

@@ -1,7 +1,5 @@
 //! The machine compared with the in-order run and the recurrence, on random programs.
 
-ghost use Rattle.std.specs.Prelude.{◌≤◌};
-
 use super::{cycle_of, end_of, has_ended, holds, image_at_0, machine_of, tables_of, tick};
 use std::alloc::{Allocator, Global};
 use std::test::Fail;
@@ -9,91 +7,61 @@ use tomex_config::Config;
 use tomex_cycle::{Machine, Progress};
 use tomex_image::Image;
 use tomex_rvexec::{End, Operand, run, trace};
+use tomex_tests_fixtures::Random;
 use tomex_tests_fixtures::machines::{config_of, unit};
 use tomex_timing::evaluate::{times, total};
 use tomex_timing::{Busy, Done, Field, Tables, Tag};
 
-/// Marsaglia's xorshift of 32 bits.
-#[derive(Drop)]
-struct Random {
-    state: u32,
+/// A register that holds data.
+fn data(random: &mut Random) -> u32 {
+    10 + random.below(5)
 }
 
-impl Random {
-    fn next(&mut self) -> u32 {
-        self.state ^= self.state << 13;
-        self.state ^= self.state >> 17;
-        self.state ^= self.state << 5;
-        self.state
+/// A random instruction for an address. x6 keeps zero, x8 and x9 keep bases below 512; jumps go
+/// forward by two or three instructions.
+fn instruction(random: &mut Random, address: u32) -> u32 {
+    let sources = data(random) << 15 | data(random) << 20;
+    let dest = random.one_of(&[0, 10, 11, 12, 13, 14]) << 7;
+    let base = random.one_of(&[8, 9]) << 15;
+    let offset = random.below(8);
+    let ahead = 2 + random.below(2);
+    match random.below(12) {
+        // add, xor, sub
+        0 => 0x33 | random.one_of(&[0, 4, 0x40000]) << 12 | sources | dest,
+        // mul, mulh
+        1 | 2 => 0x02000033 | random.below(2) << 12 | sources | dest,
+        // div, remu
+        3 => 0x02000033 | random.one_of(&[4, 7]) << 12 | sources | dest,
+        // addi
+        4 => 0x13 | random.word() & 0xfff00000 | data(random) << 15 | dest,
+        // lb, lh, lw, lbu, lhu
+        5 | 6 => 0x03 | random.one_of(&[0, 1, 2, 4, 5]) << 12 | base | offset << 20 | dest,
+        // sb, sh, sw
+        7 | 8 => 0x23 | random.below(3) << 12 | base | data(random) << 20 | offset << 7,
+        // andi x9,..,127
+        9 => 0x07f07493 | data(random) << 15,
+        // mul x6,..,x0
+        10 => 0x02000333 | data(random) << 15,
+        _ => match random.below(3) {
+            // jal
+            0 => 0x6f | (2 * ahead) << 21 | dest,
+            // jalr through x6
+            1 => 0x00030067 | address.wrapping_add(4 * ahead) << 20 | dest,
+            // beq, bne, blt, bge, bltu, bgeu
+            _ => 0x63 | random.one_of(&[0, 1, 4, 5, 6, 7]) << 12 | sources | (2 * ahead) << 8,
+        },
     }
+}
 
-    /// A number below `count`, or 0.
-    fn below(&mut self, count: u32) -> u32
-        ensures { result ≤ count }
-    {
-        if count == 0 { 0 } else { self.next() % count }
+/// A program of 36 instructions, all of which lead to its end.
+fn program(random: &mut Random) -> [u32; 40] {
+    let mut words = [0x00100073; 40];
+    // addi x8,x0,256
+    words[0] = 0x10000413;
+    for k in 1..36 {
+        words[k] = instruction(random, 4 * k as u32);
     }
-
-    /// A register that holds data.
-    fn data(&mut self) -> u32 {
-        10 + self.below(5)
-    }
-
-    /// One of the values of a list.
-    fn one_of(&mut self, values: &[u32]) -> u32 {
-        let turn = self.next() as usize;
-        if values.is_empty() {
-            return 0;
-        }
-        values[turn % values.len()]
-    }
-
-    /// A random instruction for an address. x6 keeps zero, x8 and x9 keep bases below 512; jumps go
-    /// forward by two or three instructions.
-    fn instruction(&mut self, address: u32) -> u32 {
-        let sources = self.data() << 15 | self.data() << 20;
-        let dest = self.one_of(&[0, 10, 11, 12, 13, 14]) << 7;
-        let base = self.one_of(&[8, 9]) << 15;
-        let offset = self.below(8);
-        let ahead = 2 + self.below(2);
-        match self.below(12) {
-            // add, xor, sub
-            0 => 0x33 | self.one_of(&[0, 4, 0x40000]) << 12 | sources | dest,
-            // mul, mulh
-            1 | 2 => 0x02000033 | self.below(2) << 12 | sources | dest,
-            // div, remu
-            3 => 0x02000033 | self.one_of(&[4, 7]) << 12 | sources | dest,
-            // addi
-            4 => 0x13 | self.next() & 0xfff00000 | self.data() << 15 | dest,
-            // lb, lh, lw, lbu, lhu
-            5 | 6 => 0x03 | self.one_of(&[0, 1, 2, 4, 5]) << 12 | base | offset << 20 | dest,
-            // sb, sh, sw
-            7 | 8 => 0x23 | self.below(3) << 12 | base | self.data() << 20 | offset << 7,
-            // andi x9,..,127
-            9 => 0x07f07493 | self.data() << 15,
-            // mul x6,..,x0
-            10 => 0x02000333 | self.data() << 15,
-            _ => match self.below(3) {
-                // jal
-                0 => 0x6f | (2 * ahead) << 21 | dest,
-                // jalr through x6
-                1 => 0x00030067 | address.wrapping_add(4 * ahead) << 20 | dest,
-                // beq, bne, blt, bge, bltu, bgeu
-                _ => 0x63 | self.one_of(&[0, 1, 4, 5, 6, 7]) << 12 | sources | (2 * ahead) << 8,
-            },
-        }
-    }
-
-    /// A program of 36 instructions, all of which lead to its end.
-    fn program(&mut self) -> [u32; 40] {
-        let mut words = [0x00100073; 40];
-        // addi x8,x0,256
-        words[0] = 0x10000413;
-        for k in 1..36 {
-            words[k] = self.instruction(4 * k as u32);
-        }
-        words
-    }
+    words
 }
 
 /// The station of a step.
@@ -333,9 +301,9 @@ fn compare_rows(
 
 #[test]
 fn random_programs_agree(rt: HostRuntime) -> Result<(), Fail> {
-    let mut random = Random { state: 2463534242 };
+    let mut random = Random::new(1);
     for _ in 0..12 {
-        let words = random.program();
+        let words = program(&mut random);
         compare_rows(&rt, words.as_slice(), ROWS.as_slice(), &mut random)?;
     }
     Ok(())
@@ -377,7 +345,7 @@ fn compare_changed(
 /// Four instructions that may issue in one cycle, with another one in place of each in turn.
 #[test]
 fn each_slot_of_a_wide_cycle(rt: HostRuntime) -> Result<(), Fail> {
-    let mut random = Random { state: 88172645 };
+    let mut random = Random::new(2);
     for slot in 0..4 {
         // jalr x5 to the next instruction
         let jalr = 0x000002e7 | (4 * slot as u32 + 4) << 20;

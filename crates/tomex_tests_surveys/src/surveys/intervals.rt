@@ -1,13 +1,14 @@
 //! A row of the front stays on it at exactly the prices of its interval: other prices are tried,
 //! and all rows' costs and dominations computed by hand.
 
-use super::random::Random;
+use super::random::{price, random_study};
 use super::{by_hand, holds_for, surveyed};
 use std::alloc::Global;
 use std::test::Fail;
 use tomex_pareto::FrontRow;
 use tomex_prices::{Price, PriceRange, interval_of, prices, rows_with};
 use tomex_study::{Study, Surveyed};
+use tomex_tests_fixtures::Random;
 
 /// Values of a price to try: the ends of an interval and the values next to them, the least and the
 /// greatest, the stated one, and some at random.
@@ -23,9 +24,9 @@ fn values(range: PriceRange, stated: u64, random: &mut Random) -> [u64; 12] {
         0,
         1_000_000,
         stated,
-        random.price(),
-        random.price(),
-        random.price(),
+        price(random),
+        price(random),
+        price(random),
     ]
 }
 
@@ -106,7 +107,7 @@ fn all_are_exact(
 fn intervals_hold_exactly(rt: HostRuntime) -> Result<(), Fail> {
     let mut random = Random::new(1181783497);
     for turn in 0..6u32 {
-        let study = random.study(rt.alloc())?;
+        let study = random_study(&mut random, rt.alloc())?;
         let surveyed = surveyed(&rt, rt.alloc(), &study, 2)?;
         let is_so = all_are_exact(rt.alloc(), &surveyed, &mut random)?;
         holds_for(turn, is_so)?;

@@ -1,7 +1,7 @@
 //! All prices may be wrong by a row's printed percentage, and not by one percent more: each rival
 //! is tried at the prices that are worst against it.
 
-use super::random::Random;
+use super::random::random_study;
 use super::{by_hand, holds_for, surveyed};
 use std::alloc::Global;
 use std::test::Fail;
@@ -10,6 +10,7 @@ use tomex_pareto::FrontRow;
 use tomex_prices::{Price, percent, prices};
 use tomex_rvdec::{PoolId, UnitId};
 use tomex_study::{Study, Surveyed};
+use tomex_tests_fixtures::Random;
 
 /// The costs of a row and a rival if each price is multiplied by `up` if the row pays it more
 /// often, else by `down`.
@@ -139,7 +140,7 @@ fn are_greatest(alloc: Global, surveyed: &Surveyed<'_>) -> Result<bool, Fail> {
 fn all_prices_may_be_that_wrong(rt: HostRuntime) -> Result<(), Fail> {
     let mut random = Random::new(362436069);
     for turn in 0..10u32 {
-        let study = random.study(rt.alloc())?;
+        let study = random_study(&mut random, rt.alloc())?;
         let surveyed = surveyed(&rt, rt.alloc(), &study, 2)?;
         let is_so = are_greatest(rt.alloc(), &surveyed)?;
         holds_for(turn, is_so)?;

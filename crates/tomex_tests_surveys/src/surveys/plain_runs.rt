@@ -1,12 +1,13 @@
 //! A survey's totals, rows and front are those of plain runs of each program on each row.
 
-use super::random::Random;
+use super::random::random_study;
 use super::{by_hand, holds_for, surveyed};
 use std::alloc::{AllocError, Global};
 use std::test::Fail;
 use std::thread::Threads;
 use tomex_pareto::FrontRow;
 use tomex_study::{Study, Surveyed};
+use tomex_tests_fixtures::Random;
 
 /// The results of plain runs of a study's programs.
 #[derive(Drop)]
@@ -67,7 +68,7 @@ fn finds_these<R: Threads + Sync>(
 fn totals_are_those_of_plain_runs(rt: HostRuntime) -> Result<(), Fail> {
     let mut random = Random::new(2463534242);
     for turn in 0..10u32 {
-        let study = random.study(rt.alloc())?;
+        let study = random_study(&mut random, rt.alloc())?;
         let plain = PlainRuns::of(rt.alloc(), &study)?;
         for workers in [1, 3, 32] {
             let is_so = finds_these(&rt, rt.alloc(), &study, &plain, workers)?;

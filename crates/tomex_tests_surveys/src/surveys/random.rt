@@ -5,6 +5,7 @@ use std::alloc::Global;
 use std::test::Fail;
 use tomex_config::{Config, Prices, UnitOption};
 use tomex_study::{Program, Study};
+use tomex_tests_fixtures::Random;
 
 /// `addi x1,x0,24; mul x2,x1,x1; addi x1,x1,-1; bne x1,x0,-8; ebreak`
 const PRODUCTS: [u32; 5] = [0x01800093, 0x02108133, 0xfff08093, 0xfe009ce3, 0x00100073];
@@ -28,154 +29,118 @@ const OPTIONS: [(u8, u8, u32); 8] = [
     (1, 6, 0),
 ];
 
-/// Marsaglia's xorshift of 32 bits.
-#[derive(Drop)]
-pub(super) struct Random {
-    state: u32,
+/// A number from 0 to 1,000,000, mostly a low one.
+pub(super) fn price(random: &mut Random) -> u64 {
+    let bound = if random.below(4) == 0 { 1_000_001 } else { 40 };
+    u64::from(random.below(bound))
 }
 
-impl Random {
-    pub(super) fn new(seed: u32) -> Random {
-        Random { state: seed }
+/// Units, as many as the list says.
+fn option(random: &mut Random) -> UnitOption {
+    let (units, latency, price) = OPTIONS[random.below(8) as usize];
+    UnitOption {
+        units,
+        latency,
+        price,
     }
+}
 
-    fn next(&mut self) -> u32 {
-        self.state ^= self.state << 13;
-        self.state ^= self.state >> 17;
-        self.state ^= self.state << 5;
-        self.state / 8
+/// One unit for branches.
+fn branches(random: &mut Random) -> UnitOption {
+    UnitOption {
+        units: 1,
+        latency: random.below(2) as u8 + 1,
+        price: random.below(3),
     }
+}
 
-    /// A number from 0 to 1,000,000, mostly a low one.
-    pub(super) fn price(&mut self) -> u64 {
-        if self.next() % 4 == 0 {
-            u64::from(self.next() % 1_000_001)
-        } else {
-            u64::from(self.next() % 40)
-        }
+/// A configuration, with few stations and buses and a small width.
+fn config(random: &mut Random) -> Result<Config, Fail> {
+    let mut stations = [1u8; 6];
+    for pool in 0..6usize {
+        stations[pool] = random.few();
     }
+    let mut units = [branches(random); 5];
+    for unit in 0..4usize {
+        units[unit] = option(random);
+    }
+    Ok(Config::new(stations, units, random.few(), random.few()).ok_or("no configuration")?)
+}
 
-    /// A number from 0 to this one.
-    pub(super) fn to(&mut self, greatest: u64) -> u64 {
-        u64::from(self.next()) % greatest.saturating_add(1).max(1)
+/// 40 rows, some of which may be equal.
+fn rows(random: &mut Random, alloc: Global) -> Result<Vec<Config>, Fail> {
+    let mut rows = Vec::new(alloc);
+    for _ in 0..36u32 {
+        rows.push(config(random)?)?;
     }
+    for row in 0..4usize {
+        let again = *rows.get(row).ok_or("no such row")?;
+        rows.push(again)?;
+    }
+    Ok(rows)
+}
 
-    /// A number from 1 to 4, mostly a low one.
-    fn few(&mut self) -> u8 {
-        let turn = self.next();
-        if turn % 3 == 0 {
-            (turn / 3 % 4) as u8 + 1
-        } else {
-            (turn / 3 % 2) as u8 + 1
-        }
+/// Prices of the stations, of a bus and of the width: small ones, so that some are 0 and costs are often equal.
+fn prices(random: &mut Random) -> Prices {
+    let mut stations = [0; 6];
+    for pool in 0..6usize {
+        stations[pool] = random.below(5);
     }
+    Prices::new(stations, random.below(9), random.below(9))
+}
 
-    fn option(&mut self) -> UnitOption {
-        let (units, latency, price) = OPTIONS[(self.next() % 8) as usize];
-        UnitOption {
-            units,
-            latency,
-            price,
-        }
-    }
+/// The number of a register from x1 to x7.
+fn register(random: &mut Random) -> u32 {
+    random.below(7) + 1
+}
 
-    /// One unit for branches.
-    fn branches(&mut self) -> UnitOption {
-        UnitOption {
-            units: 1,
-            latency: (self.next() % 2) as u8 + 1,
-            price: self.next() % 3,
-        }
+/// A sum, a product, a quotient, or an access to one of four words from 1,024 on.
+fn instruction(random: &mut Random) -> u32 {
+    let (a, b, c) = (register(random), register(random), register(random));
+    let three = a << 7 | b << 15 | c << 20;
+    let place = random.below(4);
+    match random.below(6) {
+        0 | 1 => 0x0000_0033 | three,
+        2 => 0x0200_0033 | three,
+        3 => 0x0200_4033 | three,
+        4 => 0x4000_2003 | place << 22 | a << 7,
+        _ => 0x4000_2023 | place << 9 | a << 20,
     }
+}
 
-    /// A configuration, with few stations and buses and a small width.
-    fn config(&mut self) -> Result<Config, Fail> {
-        let mut stations = [1u8; 6];
-        for pool in 0..6usize {
-            stations[pool] = self.few();
-        }
-        let mut units = [self.branches(); 5];
-        for unit in 0..4usize {
-            units[unit] = self.option();
-        }
-        Ok(Config::new(stations, units, self.few(), self.few()).ok_or("no configuration")?)
+/// 40 instructions without a branch.
+fn straight(random: &mut Random, alloc: Global) -> Result<Vec<u32>, Fail> {
+    let mut words = Vec::new(alloc);
+    for _ in 0..40u32 {
+        words.push(instruction(random))?;
     }
+    words.push(EBREAK)?;
+    Ok(words)
+}
 
-    /// 40 rows, some of which may be equal.
-    fn rows(&mut self, alloc: Global) -> Result<Vec<Config>, Fail> {
-        let mut rows = Vec::new(alloc);
-        for _ in 0..36u32 {
-            rows.push(self.config()?)?;
-        }
-        for row in 0..4usize {
-            let again = *rows.get(row).ok_or("no such row")?;
-            rows.push(again)?;
-        }
-        Ok(rows)
-    }
+/// A loop of products, a loop of accesses, and instructions without a branch.
+fn programs(random: &mut Random, alloc: Global) -> Result<Vec<Program>, Fail> {
+    let weights = [u32::from(random.few()), u32::from(random.few())];
+    let straight = straight(random, alloc)?;
+    let mut programs = Vec::new(alloc);
+    programs.push(program_of(alloc, "products", PRODUCTS.as_slice(), weights[0])?)?;
+    programs.push(program_of(alloc, "accesses", ACCESSES.as_slice(), 1)?)?;
+    programs.push(program_of(alloc, "straight", straight.as_slice(), weights[1])?)?;
+    Ok(programs)
+}
 
-    /// Prices of the stations, of a bus and of the width: small ones, so that some are 0 and costs are often equal.
-    fn prices(&mut self) -> Prices {
-        let stations = [
-            self.next() % 5,
-            self.next() % 5,
-            self.next() % 5,
-            self.next() % 5,
-            self.next() % 5,
-            self.next() % 5,
-        ];
-        Prices::new(stations, self.next() % 9, self.next() % 9)
-    }
+/// The study of three programs on these rows.
+pub(super) fn random_study_on(
+    random: &mut Random,
+    alloc: Global,
+    rows: Vec<Config>,
+) -> Result<Study, Fail> {
+    let programs = programs(random, alloc)?;
+    study_on(alloc, programs, rows, prices(random))
+}
 
-    /// The number of a register from x1 to x7.
-    fn register(&mut self) -> u32 {
-        self.next() % 7 + 1
-    }
-
-    /// A sum, a product, a quotient, or an access to one of four words from 1,024 on.
-    fn instruction(&mut self) -> u32 {
-        let (a, b, c) = (self.register(), self.register(), self.register());
-        let three = a << 7 | b << 15 | c << 20;
-        let place = self.next() % 4;
-        match self.next() % 6 {
-            0 | 1 => 0x0000_0033 | three,
-            2 => 0x0200_0033 | three,
-            3 => 0x0200_4033 | three,
-            4 => 0x4000_2003 | place << 22 | a << 7,
-            _ => 0x4000_2023 | place << 9 | a << 20,
-        }
-    }
-
-    /// 40 instructions without a branch.
-    fn straight(&mut self, alloc: Global) -> Result<Vec<u32>, Fail> {
-        let mut words = Vec::new(alloc);
-        for _ in 0..40u32 {
-            words.push(self.instruction())?;
-        }
-        words.push(EBREAK)?;
-        Ok(words)
-    }
-
-    /// A loop of products, a loop of accesses, and instructions without a branch.
-    fn programs(&mut self, alloc: Global) -> Result<Vec<Program>, Fail> {
-        let weights = [u32::from(self.few()), u32::from(self.few())];
-        let straight = self.straight(alloc)?;
-        let mut programs = Vec::new(alloc);
-        programs.push(program_of(alloc, "products", PRODUCTS.as_slice(), weights[0])?)?;
-        programs.push(program_of(alloc, "accesses", ACCESSES.as_slice(), 1)?)?;
-        programs.push(program_of(alloc, "straight", straight.as_slice(), weights[1])?)?;
-        Ok(programs)
-    }
-
-    /// The study of three programs on these rows.
-    pub(super) fn study_on(&mut self, alloc: Global, rows: Vec<Config>) -> Result<Study, Fail> {
-        let programs = self.programs(alloc)?;
-        study_on(alloc, programs, rows, self.prices())
-    }
-
-    /// The study of three programs on 40 rows.
-    pub(super) fn study(&mut self, alloc: Global) -> Result<Study, Fail> {
-        let rows = self.rows(alloc)?;
-        self.study_on(alloc, rows)
-    }
+/// The study of three programs on 40 rows.
+pub(super) fn random_study(random: &mut Random, alloc: Global) -> Result<Study, Fail> {
+    let rows = rows(random, alloc)?;
+    random_study_on(random, alloc, rows)
 }

@@ -2,7 +2,7 @@
 //! stays on the front if the shares add up to no more than the whole, and may leave it if they add
 //! up to more.
 
-use super::random::Random;
+use super::random::random_study;
 use super::{by_hand, holds_for, surveyed};
 use std::alloc::Global;
 use std::test::Fail;
@@ -11,6 +11,7 @@ use tomex_pareto::FrontRow;
 use tomex_prices::{Price, PriceRange, interval_of, prices, rows_with};
 use tomex_rvdec::{PoolId, UnitId};
 use tomex_study::{Study, Surveyed};
+use tomex_tests_fixtures::Random;
 
 /// A price, and its value after a move.
 type Moved = (Price, u64);
@@ -108,7 +109,10 @@ fn move_of(
         let share = random.to(left.min(100));
         left = left.saturating_sub(share);
         let stated = price.amount(&study.prices());
-        moved.push((*price, moved_by(stated, *range, random.to(1) == 0, share)))?;
+        moved.push((
+            *price,
+            moved_by(stated, *range, random.below(2) == 0, share),
+        ))?;
     }
     Ok(moved)
 }
@@ -168,7 +172,7 @@ fn shares_of_the_ways_add_up(rt: HostRuntime) -> Result<(), Fail> {
     let mut random = Random::new(521288629);
     let mut beyond = 0u64;
     for turn in 0..6u32 {
-        let study = random.study(rt.alloc())?;
+        let study = random_study(&mut random, rt.alloc())?;
         let surveyed = surveyed(&rt, rt.alloc(), &study, 2)?;
         let [within, more] = all_leaves(rt.alloc(), &surveyed, &mut random)?;
         holds_for(turn, within == 0)?;

@@ -1,7 +1,7 @@
 //! The table of a machine of a full grid: a line for each row that differs from it in one list, and
 //! the lines are true.
 
-use super::random::Random;
+use super::random::random_study_on;
 use super::{by_hand, holds_for, surveyed};
 use std::alloc::Global;
 use std::test::Fail;
@@ -9,6 +9,7 @@ use tomex_config::Config;
 use tomex_pareto::FrontRow;
 use tomex_rvdec::{PoolId, UnitId};
 use tomex_study::Study;
+use tomex_tests_fixtures::Random;
 use tomex_tests_fixtures::machines::{PLAIN, config_of, priced};
 use tomex_worth::worth_table;
 
@@ -138,7 +139,7 @@ fn is_table(study: &Study, plain: &[FrontRow], own: FrontRow, text: &str) -> Res
 fn one_list_differs(rt: HostRuntime) -> Result<(), Fail> {
     let mut random = Random::new(521288629);
     for turn in 0..6u32 {
-        let study = random.study_on(rt.alloc(), grid(rt.alloc())?)?;
+        let study = random_study_on(&mut random, rt.alloc(), grid(rt.alloc())?)?;
         let surveyed = surveyed(&rt, rt.alloc(), &study, 2)?;
         let plain = by_hand::all_rows(rt.alloc(), &study)?;
         assert!(rt; surveyed.rows().len() == study.rows().len());

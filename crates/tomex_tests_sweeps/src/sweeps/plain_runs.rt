@@ -1,6 +1,6 @@
 //! Marks and fronts of random studies, compared with those of plain runs of each row.
 
-use super::random::Random;
+use super::random::random_study;
 use super::{gives_front, gives_marks};
 use std::alloc::Global;
 use std::sync::Wait;
@@ -130,11 +130,11 @@ fn is_marked_so<R: AllocGlobal + Threads + Wait + Sync>(
 /// studies would take more than a minute before anything is proved.
 fn marks_are_those_of_plain_runs<R: AllocGlobal + Threads + Wait + Sync>(
     rt: &R,
-    seed: u32,
+    seed: u64,
 ) -> Result<(), Fail> {
-    let mut random = Random { state: seed };
+    let mut random = Random::new(seed);
     for turn in 0..10u32 {
-        let study = random.study(rt.alloc())?;
+        let study = random_study(&mut random, rt.alloc())?;
         holds_for(turn, is_marked_so(rt, &study)?)?;
     }
     Ok(())
@@ -257,11 +257,11 @@ fn is_front_of_all<R: AllocGlobal + Threads + Wait + Sync>(
 /// on.
 fn fronts_are_those_of_all_rows<R: AllocGlobal + Threads + Wait + Sync>(
     rt: &R,
-    seed: u32,
+    seed: u64,
 ) -> Result<(), Fail> {
-    let mut random = Random { state: seed };
+    let mut random = Random::new(seed);
     for turn in 0..5u32 {
-        let study = random.study(rt.alloc())?;
+        let study = random_study(&mut random, rt.alloc())?;
         holds_for(turn, is_front_of_all(rt, &study)?)?;
     }
     Ok(())

@@ -5,6 +5,7 @@ use std::alloc::Global;
 use std::test::Fail;
 use tomex_config::{Config, UnitOption};
 use tomex_sweep::{Program, Study};
+use tomex_tests_fixtures::Random;
 use tomex_tests_fixtures::machines::{PLAIN, config_of};
 
 /// `addi x1,x0,400; mul x2,x1,x1; addi x1,x1,-1; bne x1,x0,-8; ebreak`
@@ -15,82 +16,36 @@ const ACCESSES: [u32; 6] = [
     0x12c00193, 0x01802083, 0x00302c23, 0xfff18193, 0xfe019ae3, 0x00100073,
 ];
 
-/// Marsaglia's xorshift of 32 bits.
-#[derive(Drop)]
-pub struct Random {
-    pub state: u32,
+/// An option, at a price that few others have.
+fn option(random: &mut Random) -> UnitOption {
+    UnitOption {
+        units: random.few(),
+        latency: random.few(),
+        price: random.below(3),
+    }
 }
 
-impl Random {
-    fn next(&mut self) -> u32 {
-        self.state ^= self.state << 13;
-        self.state ^= self.state >> 17;
-        self.state ^= self.state << 5;
-        self.state
+/// A configuration, with few stations and buses and a small width, and plain units for branches.
+fn config(random: &mut Random) -> Result<Config, Fail> {
+    let mut stations = [1; 6];
+    for pool in 0..6usize {
+        stations[pool] = random.few();
     }
+    let mut units = [PLAIN; 5];
+    for unit in 0..4usize {
+        units[unit] = option(random);
+    }
+    config_of(stations, units, random.few(), random.few())
+}
 
-    /// A number from 1 to 4, mostly a low one.
-    fn few(&mut self) -> u8 {
-        let turn = self.next() / 8;
-        if turn % 3 == 0 {
-            (turn / 3 % 4) as u8 + 1
-        } else {
-            (turn / 3 % 2) as u8 + 1
-        }
+/// The study of two programs on 40 rows.
+pub fn random_study(random: &mut Random, alloc: Global) -> Result<Study, Fail> {
+    let mut rows = Vec::new(alloc);
+    for _ in 0..40u32 {
+        rows.push(config(random)?)?;
     }
-
-    /// An option, at a price that few others have.
-    fn option(&mut self) -> UnitOption {
-        UnitOption {
-            units: self.few(),
-            latency: self.few(),
-            price: self.next() / 8 % 3,
-        }
-    }
-
-    fn stations(&mut self) -> [u8; 6] {
-        [
-            self.few(),
-            self.few(),
-            self.few(),
-            self.few(),
-            self.few(),
-            self.few(),
-        ]
-    }
-
-    /// The units of each kind; those of branches are plain.
-    fn units(&mut self) -> [UnitOption; 5] {
-        [
-            self.option(),
-            self.option(),
-            self.option(),
-            self.option(),
-            PLAIN,
-        ]
-    }
-
-    /// A configuration of these parts, with few buses and a small width.
-    fn config(&mut self) -> Result<Config, Fail> {
-        let stations = self.stations();
-        let units = self.units();
-        config_of(stations, units, self.few(), self.few())
-    }
-
-    fn rows(&mut self, alloc: Global, count: u32) -> Result<Vec<Config>, Fail> {
-        let mut rows = Vec::new(alloc);
-        for _ in 0..count {
-            rows.push(self.config()?)?;
-        }
-        Ok(rows)
-    }
-
-    /// The study of two programs on 40 rows.
-    pub fn study(&mut self, alloc: Global) -> Result<Study, Fail> {
-        let rows = self.rows(alloc, 40)?;
-        let programs = programs_of(alloc, u32::from(self.few()))?;
-        study_on(alloc, programs, rows)
-    }
+    let programs = programs_of(alloc, u32::from(random.few()))?;
+    study_on(alloc, programs, rows)
 }
 
 /// The loop of products, of this weight, and the loop of accesses.

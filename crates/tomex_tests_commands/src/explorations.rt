@@ -1,0 +1,121 @@
+//! Runs of the commands on a study that can be seen from outside: how far they are, and outputs that fail on
+//! their way.
+use std::process::Abort;
+use std::sync::Wait;
+use std::sync::atomic::{AtomicU64, Ordering};
+use std::test::Fail;
+use std::thread::Threads;
+use tomex_streams::{Meter, WriteFault, write_all_of};
+use tomex_tests_fixtures::front_report_of;
+use tomex_tests_fixtures::in_memory::Narrow;
+use tomex_tests_fixtures::programs::{LOOP, PRODUCT};
+use tomex_tests_fixtures::studies::{DROPPED, DROPPED_REPORT};
+use tomex_tests_whole_runs::{asks_within, outcome_of, words_of};
+
+/// Two rows, of two alu stations and of one.
+pub const PRICED: &str = "[[program]]\nname = \"mul\"\nfile = \"mul.bin\"\n[prices]\nalu = 10\n\
+    [axes]\nalu = [2, 1]\n[[unit.mul]]\nlatency = 3\n";
+
+const PRICED_REPORT: &str = front_report_of!(
+    "1,10,10,1,1,1,1,1,1,1,1,1,3,1,1,1,1,1,1,1,mul,4,10,ebreak,x1=00000005 x2=00000007 x3=00000023,-\n\
+     0,20,8,2,1,1,1,1,1,1,1,1,3,1,1,1,1,1,1,1,mul,4,8,ebreak,x1=00000005 x2=00000007 x3=00000023,-\n"
+);
+
+/// The lines that run all rows and that explore them.
+static LINES: [&str; 2] = ["tomex all study", "tomex explore study"];
+
+/// Keeps what it showed last, and how often it was cleared.
+#[derive(Drop)]
+struct LastTold {
+    done: AtomicU64,
+    of: AtomicU64,
+    clears: AtomicU64,
+}
+
+impl Meter for LastTold {
+    fn show(&self, done: u64, of: u64) {
+        self.done.store(done, Ordering::SeqCst);
+        self.of.store(of, Ordering::SeqCst);
+    }
+
+    fn clear(&self) {
+        self.clears.fetch_add(1, Ordering::SeqCst);
+    }
+}
+
+impl LastTold {
+    /// True if it showed last that one of two rows is finished, and was cleared once.
+    fn is_over(&self) -> bool {
+        self.done.load(Ordering::SeqCst) == 1
+            && self.of.load(Ordering::SeqCst) == 2
+            && self.clears.load(Ordering::SeqCst) == 1
+    }
+}
+
+/// True if a line prints the report of the study of two rows, with a meter that ends like this.
+fn is_said<R: AllocGlobal + Threads + Wait + Sync>(rt: &R, line: &str) -> Result<bool, Fail> {
+    let files = [
+        ("study", PRICED.as_bytes()),
+        ("mul.bin", PRODUCT.as_slice()),
+    ];
+    let meter = LastTold {
+        done: AtomicU64::new(9),
+        of: AtomicU64::new(9),
+        clears: AtomicU64::new(0),
+    };
+    let words = words_of(rt.alloc(), line)?;
+    let outcome = outcome_of(rt, rt.alloc(), &files, words.as_slice(), &meter, 10_000)?;
+    let is_whole = outcome.out.as_slice() == PRICED_REPORT.as_bytes();
+    Ok(outcome.status == 0 && is_whole && meter.is_over())
+}
+
+#[test]
+fn a_meter_hears_how_far_it_is(rt: HostRuntime) -> Result<(), Fail> {
+    for line in &LINES {
+        assert!(rt; is_said(&rt, line)?);
+    }
+    Ok(())
+}
+
+/// True if writing the report to a narrow sink has this result, and the sink took as many bytes.
+fn takes(mut sink: Narrow, wanted: Result<(), WriteFault>) -> bool {
+    let report = DROPPED_REPORT.as_bytes();
+    let count = match wanted {
+        Ok(()) => report.len(),
+        Err(fault) => fault.written.min(report.len()),
+    };
+    write_all_of(&mut sink, report) == wanted && sink.bytes.as_slice() == &report[..count]
+}
+
+#[test]
+fn writers_that_fail_on_their_way(rt: HostRuntime) -> Result<(), Fail> {
+    let length = DROPPED_REPORT.len();
+    for room in 0..length {
+        let sink = Narrow::new(rt.alloc(), room, 1000);
+        assert!(rt; takes(sink, Err(WriteFault { written: room })));
+    }
+    assert!(rt; takes(Narrow::new(rt.alloc(), length, 1), Ok(())));
+    let mut silent = Narrow::new(rt.alloc(), 0, 1);
+    silent.is_silent = true;
+    assert!(rt; takes(silent, Err(WriteFault { written: 0 })));
+    Ok(())
+}
+
+/// Fails unless each line prints as much of the report as an output takes.
+fn are_cut<R: AllocGlobal + Threads + Wait + Sync>(rt: &R, room: usize) -> Result<(), Fail> {
+    let (taken, _) = DROPPED_REPORT.split_at(room);
+    let files = [("loop.bin", LOOP.as_slice())];
+    for line in &LINES {
+        let cut = (3, taken, "tomex: cannot write\n");
+        asks_within(rt, Some(DROPPED), &files, line, room, cut)?;
+    }
+    Ok(())
+}
+
+#[test]
+fn a_report_is_cut_short(rt: HostRuntime) -> Result<(), Fail> {
+    for room in [0, 1, 100, DROPPED_REPORT.len() - 1] {
+        are_cut(&rt, room)?;
+    }
+    Ok(())
+}

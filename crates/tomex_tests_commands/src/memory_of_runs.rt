@@ -1,0 +1,82 @@
+//! The text of a run, and whole runs on one program, that run out of memory. The command line takes
+//! other memory.
+
+use std::alloc::AllocError;
+use std::test::Fail;
+use tomex_command::{RunRefusal, run_text};
+use tomex_image::Window;
+use tomex_tests_fixtures::programs::{CALLS, ELF, PRODUCT};
+use tomex_tests_fixtures::studies::PRODUCT_STUDY;
+use tomex_tests_fixtures::{Attempt, Heap, Try, refusals};
+use tomex_tests_whole_runs::each_is_granted;
+
+/// Makes the text of the run.
+struct Text;
+
+impl Attempt for Text {
+    fn attempt(&self, heap: Heap) -> Result<Try, AllocError> {
+        let Some(window) = Window::new(65536, 4096) else {
+            return Ok(Try::Wrong);
+        };
+        match run_text(heap, ELF.as_slice(), window, 4) {
+            Ok(text) if text.ends_with(b"ebreak at 0001000c after 4\n".as_slice()) => Ok(
+                Try::Answered,
+            ),
+            Err(RunRefusal::Memory) => Ok(Try::Refused),
+            _ => Ok(Try::Wrong),
+        }
+    }
+}
+
+#[test]
+fn of_the_text_of_a_run(rt: HostRuntime) -> Result<(), Fail> {
+    // A text grows several times; the library decides how often.
+    assert!(rt; refusals(rt.alloc(), &Text)? > Some(2));
+    Ok(())
+}
+
+/// A study of a program with symbols.
+const CALLS_STUDY: &str = "[[program]]\nname = \"p\"\nfile = \"calls.elf\"\n";
+
+/// Lines on one program, and the least number of blocks that they need.
+static ON_ONE_PROGRAM: [(&str, u64); 9] = [
+    // The file's bytes, the window's, those that the run changes, and the text.
+    ("tomex run image --base 65536", 4),
+    // The study's bytes and its file's, names, the program, rows, costs, steps, times and the text.
+    ("tomex times study 1 mul", 11),
+    // All of that except the times.
+    ("tomex stalls study 1 mul", 10),
+    // All of that, with the waits and the places.
+    ("tomex stalls study 1 mul --by-pc", 12),
+    // All of that except the waits and places; the times, the width of the numbers, and each
+    // number.
+    ("tomex pipeline study 1 mul", 12),
+    // The same, with the steps of the log and their events, but no width of numbers.
+    ("tomex pipeline study 0 mul --konata", 13),
+    // All of that except steps and times; the machine's memory and the text.
+    ("tomex tables study 0 mul 3", 11),
+    // As by place, with the symbols, the functions of the steps, the calls and the rows.
+    ("tomex stalls calls 0 p --by-function", 15),
+    // The same without calls and rows.
+    ("tomex stalls calls 0 p --by-pc --by-function", 14),
+];
+
+#[test]
+fn of_one_program(rt: HostRuntime) -> Result<(), Fail> {
+    let files = [
+        ("image", ELF.as_slice()),
+        ("study", PRODUCT_STUDY.as_bytes()),
+        ("mul.bin", PRODUCT.as_slice()),
+        ("calls", CALLS_STUDY.as_bytes()),
+        ("calls.elf", CALLS.as_slice()),
+    ];
+    each_is_granted(&rt, files.as_slice(), ON_ONE_PROGRAM.as_slice())
+}
+
+/// A text grows several times.
+static EXPLANATIONS: [(&str, u64); 2] = [("tomex explain image: overlap", 1), ("tomex explain", 1)];
+
+#[test]
+fn of_explanations(rt: HostRuntime) -> Result<(), Fail> {
+    each_is_granted(&rt, [].as_slice(), EXPLANATIONS.as_slice())
+}

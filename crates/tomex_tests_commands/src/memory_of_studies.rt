@@ -1,0 +1,81 @@
+//! Whole runs on a study that run out of memory. The command line takes other memory.
+
+use std::alloc::AllocError;
+use std::sync::Wait;
+use std::test::Fail;
+use std::thread::Threads;
+use tomex_tests_fixtures::programs::{LOOP, PRODUCT};
+use tomex_tests_fixtures::studies::{DROPPED, DROPPED_REPORT};
+use tomex_tests_whole_runs::{each_is_granted, granted, words_of};
+
+/// Lines on a whole study, and the least number of blocks that they need.
+static OF_DROPPED: [(&str, u64); 5] = [
+    // The study's bytes and its file's, names, the program, rows, costs and the text; marks, machines, the
+    // front and its ends.
+    ("tomex all study", 16),
+    ("tomex explore study", 14),
+    ("tomex explore study --workers 2", 14),
+    // All of that, with columns of numbers and their names in place of the records.
+    ("tomex front study", 14),
+    // The front is enough.
+    ("tomex plot study", 14),
+];
+
+#[test]
+fn of_a_study(rt: HostRuntime) -> Result<(), Fail> {
+    let files = [("study", DROPPED.as_bytes()), ("loop.bin", LOOP.as_slice())];
+    each_is_granted(&rt, files.as_slice(), OF_DROPPED.as_slice())
+}
+
+/// Twelve machines: one to four alu stations, a fast and a slow multiplier, one or two buses.
+const TWELVE: &str =
+    "[[program]]\nname = \"mul\"\nfile = \"mul.bin\"\n[prices]\nalu = 10\nbus = 25\n\
+    [axes]\nalu = [1, 2, 4]\nbuses = [1, 2]\n\
+    [[unit.mul]]\nlatency = 3\nprice = 40\n[[unit.mul]]\nlatency = 6\nprice = 15\n";
+
+/// Lines on all rows of a study, or on pages, and the least number of blocks that they need.
+static OF_TWELVE: [(&str, u64); 7] = [
+    // The study's bytes and its file's, names, the program, rows, costs and the text; stretches, totals, the plateaus,
+    // all rows, marks and the front.
+    ("tomex rows study", 14),
+    ("tomex rows study --workers 3", 14),
+    // Small values aren't allocated in this memory.
+    ("tomex worth study 4", 14),
+    ("tomex prices study", 14),
+    ("tomex plot study --rows", 14),
+    ("tomex page study", 14),
+    ("tomex animate study 4 mul --cycles 2", 14),
+];
+
+#[test]
+fn of_all_rows_of_a_study(rt: HostRuntime) -> Result<(), Fail> {
+    let files = [
+        ("study", TWELVE.as_bytes()),
+        ("mul.bin", PRODUCT.as_slice()),
+    ];
+    each_is_granted(&rt, files.as_slice(), OF_TWELVE.as_slice())
+}
+
+/// The number of blocks that a line needs to make the report of the study.
+fn granted_to<R: AllocGlobal + Threads + Wait + Sync>(
+    rt: &R,
+    line: &str,
+) -> Result<Option<u64>, AllocError> {
+    let files = [("study", DROPPED.as_bytes()), ("loop.bin", LOOP.as_slice())];
+    let words = words_of(rt.alloc(), line)?;
+    granted(
+        rt,
+        words.as_slice(),
+        files.as_slice(),
+        DROPPED_REPORT.as_bytes(),
+    )
+}
+
+#[test]
+fn each_worker_takes_memory(rt: HostRuntime) -> Result<(), Fail> {
+    // A lane for each worker.
+    let one = granted_to(&rt, "tomex explore study")?;
+    let eight = granted_to(&rt, "tomex explore study --workers 8")?;
+    assert!(rt; one < eight, "{one:?} {eight:?}");
+    Ok(())
+}

@@ -1,5 +1,0 @@
-//! Tests of HTML pages.
-#![tactic(auto)]
-
-#[cfg(test)]
-mod pages;

@@ -1,6 +1,0 @@
--- The allocator frees what its inner one does.
-use Rattle.std.proofs.Crossing.{frees}
-use Rattle.tomex_tests_study_pages.proofs.pages.refused_memory.each_refusal_is_reported.Goals as goal
-
-pub surveyed-requires-frees-A-Allocator : goal.surveyed-requires-frees-A-Allocator
-surveyed-requires-frees-A-Allocator g c κs = record { frees = λ a τ p. frees.frees a.inner τ p }

@@ -1,5 +1,0 @@
-//! Tests of the page of a study.
-#![tactic(auto)]
-
-#[cfg(test)]
-mod pages;
