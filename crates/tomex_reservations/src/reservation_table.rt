@@ -235,6 +235,7 @@ impl<A: Allocator> ReservationTable<A> {
     pub fn pass(&mut self, cycle: u64)
         requires later { self.old.base ≤ cycle }
         ensures base { self.new.base ≤ cycle }
+        ensures near { cycle < self.new.base + 1024 }
         ensures same { (l t : ℕ) → cycle ≤ t → taken_at self.new l t ≡ taken_at self.old l t }
     {
         if cycle - self.base >= PAST {

@@ -79,9 +79,11 @@ ends_after f at ends = ends_with f.pool at.station at.end ends
 abbrev pub one : Bool → ℕ
 one b = if b then 1 else 0
 
--- the table after one more step, from the cycle of its issue on: it takes a unit as it starts, and a bus as it ends
+-- the table after one more step, from the cycle of its issue on: it takes a unit as it starts, and a bus as it ends;
+-- of the cycles before the issue fewer than 1,024 are kept, however long the run
 pub record IsTableAfter (f : Facts) (at : Times) (before after : Reserved) : Type 0 where
   pub base : after.base ≤ at.issue
+  pub near : at.issue < after.base + 1024
   pub starts : (unit : UnitId) (t : ℕ) → at.issue ≤ t
       → taken_at after (place_of_unit unit) t
       ≡ taken_at before (place_of_unit unit) t + one (is_of unit f.unit && at.start == t)
