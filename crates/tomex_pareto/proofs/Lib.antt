@@ -1,4 +1,13 @@
 -- Lemmas of this crate.
+pub mod Best
+pub mod Chosen
+pub mod Ends
+pub mod Mixes
+pub mod OnHull
 pub mod Pareto
 pub mod Passes
+pub mod Rates
 pub mod Rows
+pub mod Sums
+mod Worked
+pub mod Worths

@@ -96,7 +96,7 @@ dominates_so a b w = grind (arith, nat_tests)
 abbrev pub IsFree : List FrontRow → FrontRow → Type 0
 IsFree rows r = (q : FrontRow) → Has rows q → Dominates q r → ⊥
 
-filter_has : (p : FrontRow → Bool) (xs : List FrontRow) (r : FrontRow) → Has xs r → p r ≡ true → Has (filter p xs) r
+pub filter_has : (p : FrontRow → Bool) (xs : List FrontRow) (r : FrontRow) → Has xs r → p r ≡ true → Has (filter p xs) r
 filter_has p [] r h t = h
 filter_has p (x ∷ xs) r (inl i) t = rw (ap p i ∙ t) (inl i)
 filter_has p (x ∷ xs) r (inr h) t = let k = filter_has p xs r h t in

@@ -1,12 +1,17 @@
 //! The Pareto front of configurations by cost and cycles: those that no other configuration dominates. It is found
-//! from their costs and cycles, without their programs.
+//! from their costs and cycles, without their programs. And its lower convex hull: those that no mix of two beats.
 //! Tests: tomex_tests_sweeps, tomex_tests_surveys.
 #![tactic(auto)]
 
 mod front_row;
 mod fronts;
+mod hulls;
 mod laws;
 
 pub use front_row::FrontRow;
 pub use fronts::front;
-pub use laws::front_is_the_undominated_rows;
+pub use hulls::hull;
+pub use laws::{
+    ends_of_the_front_are_on_the_hull, equal_rows_stay_together, front_is_the_undominated_rows,
+    hull_is_the_best_for_some_worth, rates_never_rise,
+};
