@@ -14,3 +14,4 @@ pub mod StallsLines
 pub mod TablesLines
 pub mod Reporting
 pub mod TimesLines
+pub mod Words

@@ -1,19 +1,22 @@
 //! The program as a process: the system's command line, files and streams, and the exit code.
-ghost use Rattle.std.specs.Prelude.{◌≡◌, ◌≤◌, map, string_bytes, IfOk, IfErr};
+ghost use Rattle.std.specs.Prelude.{◌≡◌, ◌≤◌, map, string_bytes, IfOk, IfErr, IsErrAnd, IsOkUnless};
 ghost use Rattle.std.specs.Process.{exit_status};
+ghost use Rattle.std.specs.Vec.Iter.{into_iter_items};
+ghost use Rattle.tomex_arguments.specs.declared.fault.LineFault.TheVariants.{Memory};
 ghost use Rattle.tomex_command.specs.Commands.{IsEnd};
 ghost use Rattle.tomex_command.specs.Reporting.{IsSaid, IsFaultReported};
+ghost use Rattle.tomex_command.specs.Words.{IsReadingFault};
 
 use crate::commands::command;
 use crate::heaps::Heaps;
 use crate::reporting::report_line_fault;
-use std::alloc::Allocator;
-use std::env;
+use std::alloc::{Allocator, Global};
 use std::io::{ErrorKind, Stderr, Stdout};
 use std::process::ExitCode;
 use std::sync::Wait;
 use std::thread::Threads;
 use std::time::Clock;
+use std::{env, io};
 use tomex_arguments::{LineFault, not_text, reading_fault};
 use tomex_streams::{Files, HostFiles, Meter, Sink, Stream, TerminalMeter};
 
@@ -54,13 +57,21 @@ pub fn run_words<
     exit_of(status)
 }
 
-/// The words of the command line.
-fn words_of(rt: &(impl env::Env + AllocGlobal)) -> Result<Vec<String>, LineFault> {
-    let alloc = rt.alloc();
-    match env::args(rt) {
+/// All words that the system gives, or why it gives none.
+fn words_in(found: io::Result<env::Args>, alloc: Global) -> Result<Vec<String>, LineFault>
+    ensures words { IfOk found (λ words. IfOk result (λ read. read.items ≡ into_iter_items words)) }
+    ensures memory { IfOk found (λ words. IsOkUnless result Memory) }
+    ensures fault { IfErr found (λ error. IsErrAnd result (IsReadingFault error)) }
+{
+    match found {
         Ok(words) => Ok(words.collect(alloc)?),
         Err(error) => Err(reading_fault(error.kind() == ErrorKind::OutOfMemory, not_text(alloc))),
     }
+}
+
+/// The words of the command line.
+fn words_of(rt: &(impl env::Env + AllocGlobal)) -> Result<Vec<String>, LineFault> {
+    words_in(env::args(rt), rt.alloc())
 }
 
 /// Runs the program on the system's command line, files and streams, and returns its exit code: what `main` does.

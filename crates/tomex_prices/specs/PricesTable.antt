@@ -9,16 +9,15 @@ use Rattle.tomex_tables.specs.Table.{TableColumn, table_of}
 use Rattle.tomex_prices.specs.declared.price.Price.{Price}
 use Rattle.tomex_prices.specs.declared.table.Heading.{Heading}
 use Rattle.tomex_prices.specs.declared.table.Heading.TheVariants.{Row, Cost, Cycles}
-use Rattle.tomex_prices.specs.declared.table.TheConstants.{MOST_INTERVALS}
 use Rattle.tomex_prices.specs.Interval.{range_text}
 use Rattle.tomex_prices.specs.Percent.{percent_of, percent_text}
 use Rattle.tomex_prices.specs.Price.{name_of_price, amount}
 use Rattle.tomex_prices.specs.Prices.{relevant_prices_of}
 use Rattle.tomex_prices.specs.Studies.{interval_of}
 
--- there are more intervals, one for each relevant price of each row of the front, than a table may have
+-- there are more than 262,144 intervals, one for each relevant price of each row of the front
 unfoldable pub is_too_large : DesignSpace → Bool
-is_too_large s = nat_lt MOST_INTERVALS (length (front_of_study s) * length (relevant_prices_of s))
+is_too_large s = nat_lt 262144 (length (front_of_study s) * length (relevant_prices_of s))
 
 -- a column: its name, its text in the line `now`, and its text for each row of the front
 abbrev pub column_of : List ℕ → List ℕ → (FrontRow → List ℕ) → List FrontRow → TableColumn

@@ -1,6 +1,7 @@
 //! From the bytes of a study to what is printed of all its rows.
 
-ghost use Rattle.std.specs.Prelude.{◌≡◌, ◌≤◌, false, map, IfErr, IfOk};
+ghost use Rattle.std.specs.Prelude.{◌≡◌, ◌≤◌, false, true, map, IfErr, IfOk, IsErrOf};
+ghost use Rattle.tomex_prices.specs.PricesTable.{is_too_large};
 ghost use Rattle.tomex_report.specs.Surveyed.{IsSurveyRefusal, IsSurveyed, IsTextOf, IsWithoutText};
 ghost use Rattle.tomex_report.specs.Surveyed.{lacks_row};
 
@@ -42,6 +43,8 @@ fn text_of<A: Allocator + Clone>(
     requires { lacks_row view surveyed.now ≡ false }
     ensures text { IfOk result (λ text. IsTextOf view.entry surveyed.now text.items) }
     ensures refused { IfErr result (IsWithoutText view.entry surveyed.now) }
+    ensures large { view.entry ≡ SurveyView.Prices → is_too_large surveyed.now ≡ true
+        → IsErrOf result SurveyError.TooLarge }
 {
     match view {
         SurveyView::Rows => Ok(rows_report(alloc, heap, surveyed)?),

@@ -65,3 +65,10 @@ IsLearntAt config place known old new =
 pub record AreLearnt (config : Configuration) (known : List (Option ℕ)) (old new : List Kept) : Type 0 where
   pub count : length new ≡ length old
   pub each : (place : ℕ) → IsLearntAt config place (slice_index_or known place None) old new
+
+-- the lists after a row's totals were asked for: what was known on its configuration was looked up, and only the
+-- totals of the other programs were learnt
+abbrev pub AreLearntOn : DesignSpace → ℕ → List Kept → List Kept → Type 0
+AreLearntOn s row old new = (config : Configuration) → slice_get s.rows row ≡ Some config
+    → (known : List (Option ℕ)) × (take (length s.programs) known ≡ known_totals_on old config)
+    × AreLearnt config known old new

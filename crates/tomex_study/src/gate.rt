@@ -9,8 +9,8 @@ pub trait Gate {
     /// Called by a worker that has taken a row, before it runs it.
     fn before(&self, worker: usize, row: usize);
 
-    /// Called after `before` by a worker of an exploration, with the number of programs that it
-    /// still has to evaluate on the row. It knows the cycles of the others from other rows.
+    /// Called after `before` by a worker of an exploration or a survey, with the number of programs
+    /// that it still has to evaluate on the row. It knows the cycles of the others from other rows.
     fn runs(&self, _worker: usize, _row: usize, _programs: usize) {}
 }
 

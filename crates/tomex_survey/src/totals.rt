@@ -1,8 +1,8 @@
 //! The totals of a study's programs on its rows.
 
-ghost use Rattle.std.specs.Prelude.{◌≡◌, ◌<◌, ◌≤◌, count_by, flat_map, is_some, length, not, take, All, IfOk};
+ghost use Rattle.std.specs.Prelude.{◌≡◌, ◌<◌, ◌≤◌, count_by, flat_map, is_some, length, not, take, All, IfOk, OnOk};
 ghost use Rattle.std.specs.List.{AllZip};
-ghost use Rattle.tomex_row_runs.specs.Knowledge.{AreTotalsOn};
+ghost use Rattle.tomex_row_runs.specs.Knowledge.{AreLearntOn, AreTotalsOn};
 ghost use Rattle.tomex_survey.specs.Stretches.{AreTotalsIn, IsWithin};
 ghost use Rattle.tomex_study.specs.Surveyed.{AreTotalsOf};
 
@@ -36,6 +36,7 @@ fn totals_on_row<'s, A: Allocator + Clone, G: Gate>(
     requires row { row < length study.now.rows }
     ensures programs { knowledge.new.programs ≡ knowledge.old.programs }
     ensures totals { IfOk result (λ t. AreTotalsOn study.now row t) }
+    ensures learnt { OnOk result (AreLearntOn study.now row knowledge.old.lists knowledge.new.lists) }
 {
     gate.before(worker, row);
     let config = &study.rows()[row];

@@ -53,3 +53,17 @@ fn a_full_output_cuts_it(rt: HostRuntime) -> Result<(), Fail> {
         cut,
     )
 }
+
+/// A word of 64 bytes.
+const WORD: &str = "a_word_of_sixty_four_bytes_that_comes_before_the_refusal_itself_";
+
+/// 64 such words come before the refusal.
+#[test]
+fn long_texts_are_explained(rt: HostRuntime) -> Result<(), Fail> {
+    let mut words = vec![in rt.alloc(); "tomex", "explain"]?;
+    for _ in 0..64 {
+        words.push(WORD)?;
+    }
+    words.push("image: overlap")?;
+    comes_to(&rt, [].as_slice(), words.as_slice(), (0, OVERLAP, ""))
+}

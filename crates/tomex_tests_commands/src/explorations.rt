@@ -52,8 +52,12 @@ impl LastTold {
     }
 }
 
-/// True if a line prints the report of the study of two rows, with a meter that ends like this.
-fn is_said<R: AllocGlobal + Threads + Wait + Sync>(rt: &R, line: &str) -> Result<bool, Fail> {
+/// True if a line on the study of two rows prints this report, with a meter that ends like this.
+fn is_said<R: AllocGlobal + Threads + Wait + Sync>(
+    rt: &R,
+    line: &str,
+    report: &str,
+) -> Result<bool, Fail> {
     let files = [
         ("study", PRICED.as_bytes()),
         ("mul.bin", PRODUCT.as_slice()),
@@ -65,15 +69,23 @@ fn is_said<R: AllocGlobal + Threads + Wait + Sync>(rt: &R, line: &str) -> Result
     };
     let words = words_of(rt.alloc(), line)?;
     let outcome = outcome_of(rt, rt.alloc(), &files, words.as_slice(), &meter, 10_000)?;
-    let is_whole = outcome.out.as_slice() == PRICED_REPORT.as_bytes();
+    let is_whole = outcome.out.as_slice() == report.as_bytes();
     Ok(outcome.status == 0 && is_whole && meter.is_over())
 }
+
+/// All rows of that study.
+const PRICED_ROWS: &str =
+    "row,cost,cycles,alu,mul,div,load,store,bru,alu_units,alu_latency,mul_units,mul_latency,\
+     div_units,div_latency,mem_units,mem_latency,bru_units,bru_latency,buses,mul_cycles,front\n\
+     0,20,8,2,1,1,1,1,1,1,1,1,3,1,1,1,1,1,1,1,8,1\n\
+     1,10,10,1,1,1,1,1,1,1,1,1,3,1,1,1,1,1,1,1,10,1\n";
 
 #[test]
 fn a_meter_hears_how_far_it_is(rt: HostRuntime) -> Result<(), Fail> {
     for line in &LINES {
-        assert!(rt; is_said(&rt, line)?);
+        assert!(rt; is_said(&rt, line, PRICED_REPORT)?);
     }
+    assert!(rt; is_said(&rt, "tomex rows study", PRICED_ROWS)?);
     Ok(())
 }
 

@@ -1,5 +1,5 @@
 //! Each command once, on input that is long or large but quickly done: eight programs that watch
-//! eight ranges each, runs of 262,144 steps, and a front of more than 64 configurations. Nothing is
+//! eight ranges each, runs of 262,144 steps, and a front of 1,024 configurations. Nothing is
 //! refused.
 
 use std::alloc::{AllocError, Global};
@@ -32,9 +32,10 @@ fn eight_programs(alloc: Global) -> Result<String, AllocError> {
     Ok(study)
 }
 
-/// 80 configurations that cost nothing and differ in stations that the program doesn't use: all are on the front.
+/// 1,024 configurations that cost nothing and differ in stations that the program doesn't use: all are on the front.
 const ALIKE: &str = "[[program]]\nname = \"loop\"\nfile = \"loop.bin\"\n[axes]\n\
-    div = [1, 2, 3, 4, 5, 6, 7, 8, 9, 10, 11, 12, 13, 14, 15, 16]\nstore = [1, 2, 3, 4, 5]\n";
+    div = [1, 2, 3, 4, 5, 6, 7, 8, 9, 10, 11, 12, 13, 14, 15, 16]\nload = [1, 2, 3, 4]\n\
+    store = [1, 2, 3, 4, 5, 6, 7, 8, 9, 10, 11, 12, 13, 14, 15, 16]\n";
 
 /// The outcome of a line over these studies and programs.
 fn outcome_on<R: AllocGlobal + Threads + Wait + Sync>(
@@ -107,7 +108,7 @@ static PICTURES: [Done; 3] = [
         "\n",
     ),
     (
-        "tomex animate one 0 long --from 262144 --cycles 1",
+        "tomex animate one 0 long --from 262144 --cycles 256",
         "<!DOCTYPE html>\n",
         "</html>\n",
     ),
@@ -116,6 +117,17 @@ static PICTURES: [Done; 3] = [
 static RUN_BY_CYCLES: [Done; 2] = [
     ("tomex tables one 0 long 262144", "cycle 262144\n", "\n"),
     ("tomex all one", "row,cost,", ",ebreak,x2=00010000,-\n"),
+];
+
+static EXPLORED: [Done; 4] = [
+    (
+        "tomex explore one --workers 2",
+        "row,cost,",
+        ",ebreak,x2=00010000,-\n",
+    ),
+    ("tomex front one", "row  cost  ", "\n"),
+    ("tomex plot one", "<svg ", "</svg>\n"),
+    ("tomex rows one", "row,cost,", ",1\n"),
 ];
 
 /// Fails unless each of these lines succeeds.
@@ -149,23 +161,58 @@ fn long_runs_are_made_cycle_by_cycle(rt: HostRuntime) -> Result<(), Fail> {
     are_done(&rt, &RUN_BY_CYCLES)
 }
 
-/// Lines that print the front of eight programs, or of 80 configurations, and the number of lines
+#[test]
+fn long_runs_are_explored(rt: HostRuntime) -> Result<(), Fail> {
+    are_done(&rt, &EXPLORED)
+}
+
+/// Lines that print the front of eight programs, or of 1,024 configurations, and the number of lines
 /// in their output.
 static ON_A_LONG_FRONT: [(&str, usize); 5] = [
     ("tomex all eight", 9),
     ("tomex explore eight --workers 2", 9),
-    ("tomex all alike", 81),
-    ("tomex explore alike --workers 2", 81),
-    ("tomex front alike", 81),
+    ("tomex all alike", 1025),
+    ("tomex explore alike --workers 2", 1025),
+    ("tomex front alike", 1025),
 ];
 
-#[test]
-fn long_fronts_are_not_refused(rt: HostRuntime) -> Result<(), Fail> {
-    for (line, count) in &ON_A_LONG_FRONT {
-        let outcome = outcome_on(&rt, line)?;
+/// The same of all rows: the names; with `worth` the machine, and 15, 3 and 15 changes; with `prices` the stated ones.
+static ROWS_OF_A_LONG_FRONT: [(&str, usize); 3] = [
+    ("tomex rows alike", 1025),
+    ("tomex worth alike 0 --workers 2", 35),
+    ("tomex prices alike", 1026),
+];
+
+/// Fails unless each of these lines succeeds, with this number of lines in its output.
+fn are_counted<R: Abort + AllocGlobal + Threads + Wait + Sync>(
+    rt: &R,
+    lines: &[(&str, usize)],
+) -> Result<(), Fail> {
+    for (line, count) in lines {
+        let outcome = outcome_on(rt, line)?;
         assert!(rt; outcome.status == 0 && outcome.err.is_empty(), "{line}");
         assert_eq!(rt; lines_of(outcome.out.as_slice()), *count, "{line}");
     }
-    assert!(rt; is_done(&rt, "tomex plot alike", "<svg ", "</svg>\n")?);
     Ok(())
+}
+
+#[test]
+fn long_fronts_are_not_refused(rt: HostRuntime) -> Result<(), Fail> {
+    are_counted(&rt, &ON_A_LONG_FRONT)
+}
+
+#[test]
+fn all_rows_of_long_fronts_are_not_refused(rt: HostRuntime) -> Result<(), Fail> {
+    are_counted(&rt, &ROWS_OF_A_LONG_FRONT)
+}
+
+static DRAWN: [Done; 3] = [
+    ("tomex plot alike", "<svg ", "</svg>\n"),
+    ("tomex plot alike --rows", "<svg ", "</svg>\n"),
+    ("tomex page alike", "<!DOCTYPE html>\n", "</html>\n"),
+];
+
+#[test]
+fn long_fronts_are_drawn(rt: HostRuntime) -> Result<(), Fail> {
+    are_done(&rt, &DRAWN)
 }

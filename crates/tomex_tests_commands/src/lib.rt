@@ -15,6 +15,10 @@ mod memory_of_runs;
 #[cfg(test)]
 mod memory_of_studies;
 #[cfg(test)]
+mod missing_row;
+#[cfg(test)]
+mod most_rows;
+#[cfg(test)]
 mod output;
 #[cfg(test)]
 mod page;

@@ -1,4 +1,4 @@
-//! The commands that explore a study share its configurations among threads.
+//! The commands on a whole study share its configurations among threads.
 
 use crate::explorations::PRICED;
 use std::sync::Wait;
@@ -56,15 +56,20 @@ fn is_shared<R: AllocGlobal + Threads + Wait + Sync>(rt: &R, line: &str) -> Resu
         met: AtomicU64::new(0),
     };
     let words = words_of(rt.alloc(), line)?;
-    let outcome = outcome_of(rt, rt.alloc(), &files, words.as_slice(), &meter, 10_000)?;
+    let outcome = outcome_of(rt, rt.alloc(), &files, words.as_slice(), &meter, 100_000)?;
     Ok(outcome.status == 0 && meter.met.load(Ordering::SeqCst) == 1)
 }
 
-/// The commands that explore a study, by two workers.
-static LINES: [&str; 3] = [
+/// The commands that explore a study, or find the cycles of all its rows, by two workers.
+static LINES: [&str; 8] = [
     "tomex explore study --workers 2",
     "tomex front study --workers 2",
     "tomex plot study --workers 2",
+    "tomex rows study --workers 2",
+    "tomex worth study 0 --workers 2",
+    "tomex prices study --workers 2",
+    "tomex plot study --rows --workers 2",
+    "tomex page study --workers 2",
 ];
 
 #[test]

@@ -125,7 +125,7 @@ fn text_of(alloc: Global, line: &str) -> Result<String, AllocError> {
 }
 
 /// Lines, and the beginnings of their results.
-static READ: [(&str, &str); 66] = [
+static READ: [(&str, &str); 72] = [
     ("run mul.bin", "run mul.bin 0 65536 262144"),
     (
         "run a --base 4294967292 --size 4 --limit 1",
@@ -147,6 +147,7 @@ static READ: [(&str, &str); 66] = [
         "stalls --by-function study --by-pc 16383 -- -a",
         "stalls study 16383 -a true true",
     ),
+    ("times --help", "help Prints, for each instruction"),
     ("stalls --help", "help Prints, for each part"),
     ("stalls -h", "help Prints which parts"),
     ("pipeline study 0 a", "pipeline study 0 a 1 32 false"),
@@ -192,14 +193,24 @@ static READ: [(&str, &str); 66] = [
     ),
     ("run --size 4 -- -x", "run -x 0 4 262144"),
     ("all study.toml", "all study.toml"),
+    ("all --help", "help Runs every program"),
     ("explore study.toml", "explore study.toml 1"),
     ("explore --workers 32 a", "explore a 32"),
+    ("explore --help", "help Runs the programs"),
     ("front a", "front a 1"),
     ("front a --workers 2", "front a 2"),
+    (
+        "front --help",
+        "help Explores a study as `explore` does, and prints the front as a table",
+    ),
     ("plot a", "plot a 1 false"),
     ("plot --workers=32 a", "plot a 32 false"),
     ("plot --rows a", "plot a 1 true"),
     ("plot a --workers 3 --rows", "plot a 3 true"),
+    (
+        "plot --help",
+        "help Explores a study as `explore` does, and prints the front as a picture",
+    ),
     ("rows a", "rows a 1"),
     ("rows a --workers 32", "rows a 32"),
     ("rows --help", "help Prints the cost and the exact cycles"),
@@ -225,6 +236,10 @@ static READ: [(&str, &str); 66] = [
         "explain [tomex: fault: illegal at 00000098]",
     ),
     ("explain a -- --b", "explain [a --b]"),
+    (
+        "explain a b c d e f g h i j k l",
+        "explain [a b c d e f g h i j k l]",
+    ),
     ("explain --help", "help Prints what a refusal means"),
     ("explain -h", "help Explains a refusal"),
     ("--help", "help Runs RV32IM programs"),
@@ -236,37 +251,50 @@ static READ: [(&str, &str); 66] = [
     ("walk", "usage error: unrecognized subcommand 'walk'"),
 ];
 
-/// Stops if the result of a line doesn't begin with `start`.
-fn begins(rt: &impl Abort, alloc: Global, line: &str, start: &str) -> Result<(), Fail> {
+/// Stops if the result of a line doesn't begin and end with these.
+fn is_within(
+    rt: &impl Abort,
+    alloc: Global,
+    line: &str,
+    start: &str,
+    end: &str,
+) -> Result<(), Fail> {
     let text = text_of(alloc, line)?;
-    assert!(rt; text.starts_with(start), "{line}: {text}");
+    assert!(rt;
+        text.starts_with(start) && text.ends_with(end),
+        "{line}: {text}"
+    );
     Ok(())
 }
 
 #[test]
 fn lines_are_read(rt: HostRuntime) -> Result<(), Fail> {
     for (line, start) in &READ {
-        begins(&rt, rt.alloc(), line, start)?;
+        is_within(&rt, rt.alloc(), line, start, "")?;
     }
     Ok(())
 }
 
 /// Lines that ask for help, and the end of its text.
-static HELP_ENDS: [(&str, &str); 4] = [
+static HELP_ENDS: [(&str, &str); 9] = [
     ("--help", "hexadecimal too, as in 0x10000.\n"),
     ("run --help", "\n  ebreak at 0000000c after 4\n"),
     ("tables --help", "\n  x3 Qi=mul0\n"),
     ("run -h", "Print help (see more with '--help')\n"),
+    ("times --help", "\n  total,-,-,-,-,-,-,8,-\n"),
+    ("all --help", ",matrix,6625,22408,ebreak,..\n"),
+    ("explore --help", ",matrix,6625,22408,ebreak,..\n"),
+    (
+        "front --help",
+        "\n    4    85       8  0.20    2            3      1\n",
+    ),
+    ("plot --help", " width=\"720\" height=\"440\" ..\n"),
 ];
 
 #[test]
 fn help_is_whole(rt: HostRuntime) -> Result<(), Fail> {
     for (line, end) in &HELP_ENDS {
-        let text = text_of(rt.alloc(), line)?;
-        assert!(rt;
-            text.starts_with("help ") && text.ends_with(end),
-            "{line}: {text}"
-        );
+        is_within(&rt, rt.alloc(), line, "help ", end)?;
     }
     Ok(())
 }
@@ -313,6 +341,9 @@ static REFUSED: [&str; 39] = [
     "explain --b",
 ];
 
+/// The end of the text of a mistake.
+const SEE_HELP: &str = "\n\nFor more information, try '--help'.\n";
+
 /// True if a line of only the program's name is refused.
 fn is_mistaken(alloc: Global) -> Result<bool, AllocError> {
     let name = words(alloc, "tomex")?;
@@ -322,7 +353,7 @@ fn is_mistaken(alloc: Global) -> Result<bool, AllocError> {
 #[test]
 fn lines_are_refused(rt: HostRuntime) -> Result<(), Fail> {
     for line in &REFUSED {
-        begins(&rt, rt.alloc(), line, "usage error: ")?;
+        is_within(&rt, rt.alloc(), line, "usage error: ", SEE_HELP)?;
     }
     assert!(rt; is_mistaken(rt.alloc())?);
     Ok(())

@@ -13,6 +13,7 @@ use tomex_tests_fixtures::machines::{PLAIN, config_of, priced};
 use tomex_tests_fixtures::programs::PRODUCT_WORDS;
 
 mod by_hand;
+mod evaluated;
 mod hulls;
 mod intervals;
 mod percents;

@@ -5,7 +5,7 @@ ghost use Rattle.std.specs.Prelude.{slice_get, slice_index, Some};
 ghost use Rattle.tomex_board.specs.Views.{KnowsNotOpen};
 ghost use Rattle.tomex_config.specs.Configuration.{Configuration};
 ghost use Rattle.tomex_study.specs.Cycles.{cycles_of};
-ghost use Rattle.tomex_row_runs.specs.Knowledge.{AreTotalsOn};
+ghost use Rattle.tomex_row_runs.specs.Knowledge.{AreLearntOn, AreTotalsOn};
 ghost use Rattle.tomex_row_runs.specs.Looks.{IsKnownRow};
 ghost use Rattle.tomex_workers.specs.Plans.{IsPlanOf};
 ghost use Rattle.tomex_workers.specs.Seats.{Continues};
@@ -95,6 +95,8 @@ impl<'s, J: Plan, A: Allocator + Clone, G: Gate> Desk<'s, J, A, G> {
         ensures programs { knowledge.new.programs ≡ knowledge.old.programs }
         ensures seat { Continues seat.old seat.new }
         ensures hand { OnOk result (seat.new.view.hand ≡ []) }
+        ensures learnt { OnOk result
+            (AreLearntOn self.now.study.now row knowledge.old.lists knowledge.new.lists) }
     {
         self.study.keeps_limits();
         let config = &self.study.rows()[row];

@@ -1,0 +1,51 @@
+//! A row that a study doesn't have is found before any row is evaluated.
+
+use crate::explorations::PRICED;
+use std::sync::Wait;
+use std::sync::atomic::{AtomicU64, Ordering};
+use std::test::Fail;
+use std::thread::Threads;
+use tomex_streams::Meter;
+use tomex_tests_fixtures::programs::PRODUCT;
+use tomex_tests_whole_runs::{Outcome, outcome_of, words_of};
+
+/// Counts the rows that are begun.
+#[derive(Drop)]
+struct Counting {
+    begun: AtomicU64,
+}
+
+impl Meter for Counting {
+    fn show(&self, _done: u64, _of: u64) {
+        self.begun.fetch_add(1, Ordering::SeqCst);
+    }
+
+    fn clear(&self) {}
+}
+
+/// The outcome of a line over the study of two rows, and the number of rows that it begins.
+fn begun<R: AllocGlobal + Threads + Wait + Sync>(
+    rt: &R,
+    line: &str,
+) -> Result<(Outcome, u64), Fail> {
+    let files = [
+        ("study", PRICED.as_bytes()),
+        ("mul.bin", PRODUCT.as_slice()),
+    ];
+    let meter = Counting {
+        begun: AtomicU64::new(0),
+    };
+    let words = words_of(rt.alloc(), line)?;
+    let outcome = outcome_of(rt, rt.alloc(), &files, words.as_slice(), &meter, 10_000)?;
+    Ok((outcome, meter.begun.load(Ordering::SeqCst)))
+}
+
+#[test]
+fn a_missing_row_is_found_first(rt: HostRuntime) -> Result<(), Fail> {
+    let (outcome, rows) = begun(&rt, "tomex worth study 1")?;
+    assert!(rt; outcome.status == 0 && rows == 2);
+    let (outcome, rows) = begun(&rt, "tomex worth study 2")?;
+    assert!(rt; outcome.status == 1 && rows == 0);
+    assert!(rt; outcome.err.as_slice() == b"tomex: no such row\n".as_slice());
+    Ok(())
+}
