@@ -98,7 +98,7 @@ fn text_of<
             let view = SurveyView::Page(line.study);
             text_of_survey(rt, alloc, heap, line, files, meter, view)
         }
-        Line::Explain(line) => text_of_explain(alloc, &line),
+        Line::Explain(line) => text_of_explain(alloc, heap, &line),
     }
 }
 
