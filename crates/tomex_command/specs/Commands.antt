@@ -8,12 +8,12 @@ use Rattle.tomex_command_line.specs.declared.line.Line.TheVariants.{All, Explore
 use Rattle.tomex_command_line.specs.declared.line.Line.TheVariants.{Prices, Page, Explain}
 use Rattle.tomex_arguments.specs.declared.fault.LineFault.{LineFault}
 use Rattle.tomex_command_line.specs.Asked.{IsAsked, IsNoCommand}
-use Rattle.tomex_report.specs.declared.front_view.FrontView.TheVariants.{Report, Table}
+use Rattle.tomex_report.specs.declared.front_view.FrontView.TheVariants.{Report}
 use Rattle.tomex_report.specs.declared.surveying.SurveyView.TheVariants as views
 use Rattle.tomex_streams.specs.Files.{Known}
 use Rattle.tomex_command.specs.AnimateLines.{IsAnimateOf, IsAnimateFailure}
 use Rattle.tomex_command.specs.ExplainLines.{IsExplanation, IsExplainFailure}
-use Rattle.tomex_command.specs.FrontLines.{IsFrontOf, IsAllFailure, IsExploreFailure}
+use Rattle.tomex_command.specs.FrontLines.{IsFrontOf, IsAllFailure, IsExploreFailure, table_view}
 use Rattle.tomex_streams.specs.Sinks.{Seen, IsWhole, IsCut}
 use Rattle.tomex_command.specs.PipelineLines.{IsPipelineOf, IsPipelineFailure}
 use Rattle.tomex_command.specs.RunLines.{IsRunOf, IsRunFailure}
@@ -33,7 +33,7 @@ IsDone file (Tables line) text = IsTablesOf file line text
 IsDone file (Animate line) text = IsAnimateOf file line text
 IsDone file (All line) text = IsFrontOf Report file line.study.now text
 IsDone file (Explore line) text = IsFrontOf Report file line.study.now text
-IsDone file (Front line) text = IsFrontOf Table file line.study.now text
+IsDone file (Front line) text = IsFrontOf (table_view line.hull) file line.explore.study.now text
 IsDone file (Plot line) text = IsPlotOf line.all file line.explore.study.now text
 IsDone file (Rows line) text = IsSurveyOf views.Rows file line.study.now text
 IsDone file (Worth line) text = IsSurveyOf (views.Worth line.config) file line.explore.study.now text
@@ -51,7 +51,7 @@ IsFailure file (Tables line) failure = IsTablesFailure file line failure
 IsFailure file (Animate line) failure = IsAnimateFailure file line failure
 IsFailure file (All line) failure = IsAllFailure file line.study.now failure
 IsFailure file (Explore line) failure = IsExploreFailure file line.study.now failure
-IsFailure file (Front line) failure = IsExploreFailure file line.study.now failure
+IsFailure file (Front line) failure = IsExploreFailure file line.explore.study.now failure
 IsFailure file (Plot line) failure = IsPlotFailure line.all file line.explore.study.now failure
 IsFailure file (Rows line) failure = IsSurveyFailure views.Rows file line.study.now failure
 IsFailure file (Worth line) failure = IsSurveyFailure (views.Worth line.config) file line.explore.study.now failure

@@ -26,7 +26,7 @@ use crate::reporting::{report_failure, report_line_fault};
 use all::text_of_all;
 use animate::text_of_animate;
 use explain::text_of_explain;
-use explore::text_of_front;
+use explore::{table_view, text_of_front};
 use pipeline::text_of_pipeline;
 use plot::text_of_plot;
 use run::text_of_run;
@@ -75,7 +75,10 @@ fn text_of<
             meter,
             FrontView::Report,
         ),
-        Line::Front(line) => text_of_front(rt, alloc, heap, line, files, meter, FrontView::Table),
+        Line::Front(line) => {
+            let view = table_view(line.hull);
+            text_of_front(rt, alloc, heap, line.explore, files, meter, view)
+        }
         Line::Plot(line) => text_of_plot(rt, alloc, heap, line, files, meter),
         Line::Rows(line) => text_of_survey(rt, alloc, heap, line, files, meter, SurveyView::Rows),
         Line::Worth(line) => {
@@ -95,7 +98,7 @@ fn text_of<
             let view = SurveyView::Page(line.study);
             text_of_survey(rt, alloc, heap, line, files, meter, view)
         }
-        Line::Explain(line) => text_of_explain(alloc, &line),
+        Line::Explain(line) => text_of_explain(alloc, heap, &line),
     }
 }
 

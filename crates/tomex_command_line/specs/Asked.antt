@@ -12,10 +12,10 @@ use Rattle.tomex_arguments.specs.declared.fault.LineFault.{LineFault}
 use Rattle.tomex_arguments.specs.declared.fault.LineFault.TheVariants.{Help, Usage, Memory}
 use Rattle.tomex_command_line.specs.Grammar.{tomex_app}
 use Rattle.tomex_command_line.specs.Values.{IsRunAsked, IsOneRunAsked, IsStallsAsked, IsPipelineAsked, IsTablesAsked}
-use Rattle.tomex_command_line.specs.Values.{IsAnimateAsked, IsAllAsked, IsExploreAsked, IsPlotAsked, IsWorthAsked}
-use Rattle.tomex_command_line.specs.Values.{IsExplainAsked}
+use Rattle.tomex_command_line.specs.Values.{IsAnimateAsked, IsAllAsked, IsExploreAsked, IsFrontAsked, IsPlotAsked}
+use Rattle.tomex_command_line.specs.Values.{IsWorthAsked, IsExplainAsked}
 use Rattle.tomex_command_line.specs.Values.{IsNoRun, IsNoOneRun, IsNoStalls, IsNoPipeline, IsNoTables, IsNoAll}
-use Rattle.tomex_command_line.specs.Values.{IsNoAnimate, IsNoExplore, IsNoPlot, IsNoWorth}
+use Rattle.tomex_command_line.specs.Values.{IsNoAnimate, IsNoExplore, IsNoFront, IsNoPlot, IsNoWorth}
 
 -- the command of that name with these values
 abbrev pub IsCommand : Option (Text × List Row) → Line → Type 0
@@ -41,7 +41,8 @@ IsCommand found (All line) = (rows : List Row) × (found ≡ Some (codes "all", 
 IsCommand found (Explore line) =
     (rows : List Row) × (found ≡ Some (codes "explore", rows)) × IsExploreAsked rows line.study.now line.workers
 IsCommand found (Front line) =
-    (rows : List Row) × (found ≡ Some (codes "front", rows)) × IsExploreAsked rows line.study.now line.workers
+    (rows : List Row) × (found ≡ Some (codes "front", rows))
+    × IsFrontAsked rows line.explore.study.now line.explore.workers line.hull
 IsCommand found (Plot line) =
     (rows : List Row) × (found ≡ Some (codes "plot", rows))
     × IsPlotAsked rows line.explore.study.now line.explore.workers line.all
@@ -81,7 +82,7 @@ pub data IsNoLineAsked (found : Option (Text × List Row)) : Type 0 where
   no_animate : (rows : List Row) → found ≡ Some (codes "animate", rows) → IsNoAnimate rows → IsNoLineAsked found
   no_all : (rows : List Row) → found ≡ Some (codes "all", rows) → IsNoAll rows → IsNoLineAsked found
   no_explore : (rows : List Row) → found ≡ Some (codes "explore", rows) → IsNoExplore rows → IsNoLineAsked found
-  no_front : (rows : List Row) → found ≡ Some (codes "front", rows) → IsNoExplore rows → IsNoLineAsked found
+  no_front : (rows : List Row) → found ≡ Some (codes "front", rows) → IsNoFront rows → IsNoLineAsked found
   no_plot : (rows : List Row) → found ≡ Some (codes "plot", rows) → IsNoPlot rows → IsNoLineAsked found
   no_rows : (rows : List Row) → found ≡ Some (codes "rows", rows) → IsNoExplore rows → IsNoLineAsked found
   no_worth : (rows : List Row) → found ≡ Some (codes "worth", rows) → IsNoWorth rows → IsNoLineAsked found

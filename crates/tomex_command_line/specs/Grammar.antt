@@ -104,8 +104,11 @@ exploring_shape name = record (new_shape name) {
 abbrev pub explore_shape : Shape
 explore_shape = exploring_shape (codes "explore")
 
+-- `front STUDY [--workers N] [--hull]`
 abbrev pub front_shape : Shape
-front_shape = exploring_shape (codes "front")
+front_shape = record (new_shape (codes "front")) {
+  rules = word_rule (codes "STUDY") ∷ option_rule (codes "workers") 1 32 (codes "1") ∷ flag_rule (codes "hull") ∷ [];
+}
 
 -- `plot STUDY [--workers N] [--rows]`
 abbrev pub plot_shape : Shape

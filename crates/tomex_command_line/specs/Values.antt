@@ -82,6 +82,14 @@ pub record IsExploreAsked (rows : List Row) (study : List ℕ) (workers : ℕ) :
 abbrev pub IsNoExplore : List Row → Type 0
 IsNoExplore rows = (study : List ℕ) (workers : ℕ) → IsExploreAsked rows study workers → ⊥
 
+-- the values of `front`
+pub record IsFrontAsked (rows : List Row) (study : List ℕ) (workers : ℕ) (hull : Bool) : Type 0 where
+  pub of_study : IsExploreAsked rows study workers
+  pub is_hull : IsFlag rows (codes "hull") hull
+
+abbrev pub IsNoFront : List Row → Type 0
+IsNoFront rows = (study : List ℕ) (workers : ℕ) (hull : Bool) → IsFrontAsked rows study workers hull → ⊥
+
 -- the values of `plot`
 pub record IsPlotAsked (rows : List Row) (study : List ℕ) (workers : ℕ) (all : Bool) : Type 0 where
   pub of_study : IsExploreAsked rows study workers

@@ -9,6 +9,7 @@ pub use line::all::AllLine;
 pub use line::animate::AnimateLine;
 pub use line::explain::ExplainLine;
 pub use line::explore::ExploreLine;
+pub use line::front::FrontLine;
 pub use line::one_run::OneRun;
 pub use line::pipeline::PipelineLine;
 pub use line::plot::PlotLine;

@@ -16,7 +16,7 @@ pub mod animate;
 mod command_name;
 pub mod explain;
 pub mod explore;
-mod front;
+pub mod front;
 pub mod one_run;
 mod page;
 pub mod pipeline;
@@ -37,6 +37,7 @@ use clap::{ArgMatches, Command};
 use command_name::{CommandName, command_named};
 use explain::ExplainLine;
 use explore::ExploreLine;
+use front::FrontLine;
 use one_run::{OneRun, one_run_of};
 use pipeline::PipelineLine;
 use plot::PlotLine;
@@ -59,7 +60,7 @@ pub enum Line<'a> {
     Animate(AnimateLine<'a>),
     All(AllLine<'a>),
     Explore(ExploreLine<'a>),
-    Front(ExploreLine<'a>),
+    Front(FrontLine<'a>),
     Plot(PlotLine<'a>),
     Rows(ExploreLine<'a>),
     Worth(WorthLine<'a>),
@@ -153,7 +154,7 @@ fn line_with<'a>(
         CommandName::Animate => Ok(Line::Animate(animate::line_of(alloc, args)?)),
         CommandName::All => Ok(Line::All(all::line_of(alloc, args)?)),
         CommandName::Explore => Ok(Line::Explore(explore::line_of(alloc, args)?)),
-        CommandName::Front => Ok(Line::Front(explore::line_of(alloc, args)?)),
+        CommandName::Front => Ok(Line::Front(front::line_of(alloc, args)?)),
         CommandName::Plot => Ok(Line::Plot(plot::line_of(alloc, args)?)),
         CommandName::Rows => Ok(Line::Rows(explore::line_of(alloc, args)?)),
         CommandName::Worth => Ok(Line::Worth(worth::line_of(alloc, args)?)),

@@ -11,6 +11,7 @@ use Rattle.tomex_timing.specs.Run.{total}
 use Rattle.tomex_study.specs.StudyFront.{front_of_study}
 use Rattle.tomex_study.specs.Program.{Workload}
 use Rattle.tomex_study.specs.Study.{DesignSpace}
+use Rattle.tomex_pareto.specs.Hull.{hull_of}
 use Rattle.tomex_pareto.specs.declared.front_row.FrontRow.{FrontRow}
 use Rattle.tomex_timing.specs.Needs.{count_of}
 use Rattle.tomex_timing.specs.declared.part.Part.TheVariants.{Stations, Units, Buses, Width}
@@ -104,8 +105,14 @@ program_column s front p = record { name = p.name; entries = map decimal (cycles
 abbrev pub program_columns : DesignSpace → List FrontRow → List TableColumn
 program_columns s front = if nat_lt 1 (length s.programs) then map (program_column s front) s.programs else []
 
+-- the table of some rows of a study
+unfoldable pub rows_table_of : DesignSpace → List FrontRow → List ℕ
+rows_table_of s rows = table_of (length rows) (own_columns s rows ++ program_columns s rows)
+
 -- the table of a study's front
-unfoldable pub front_table_of : DesignSpace → List ℕ
-front_table_of s =
-    let front = front_of_study s in
-    table_of (length front) (own_columns s front ++ program_columns s front)
+abbrev pub front_table_of : DesignSpace → List ℕ
+front_table_of s = rows_table_of s (front_of_study s)
+
+-- the table of those rows of the front that are on its hull
+abbrev pub hull_table_of : DesignSpace → List ℕ
+hull_table_of s = rows_table_of s (hull_of (front_of_study s))

@@ -8,5 +8,5 @@ mod table;
 pub use plot::front_picture;
 pub use plot::linked::{is_shown, push_link_start, push_linked_picture};
 pub use plot::over_rows::rows_picture;
-pub use table::front::front_table;
+pub use table::front::rows_table;
 pub use table::heading::Setting;

@@ -1,9 +1,10 @@
 -- The first refusal that is in a text, and the lines of all, one turn later.
-use Rattle.std.proofs.Common.{◌≡◌, ◌∙◌, ap, add-one, append_assoc, arith, refl, sym, ℕ, zero, suc, ◌+◌, ◌<◌, ◌≤◌}
+use Rattle.std.proofs.Common.{◌≡◌, ◌≢◌, ◌∙◌, ap, add-one, append_assoc, arith, refl, subst, sym, ℕ, zero, suc}
+use Rattle.std.proofs.Common.{◌+◌, ◌<◌, ◌≤◌}
 use Rattle.std.proofs.Common.{List, [], ◌∷◌, ◌++◌, drop, get_or, length, Option, Some, None, inl, inr}
-use Rattle.std.specs.List.{flat_map}
+use Rattle.std.specs.List.{Contains, flat_map}
 use Rattle.std.proofs.lemmas.List.{append-nil, drop_all}
-use Rattle.tomex_refusals.specs.Refusals.{IsFirstIn, IsIn}
+use Rattle.tomex_refusals.specs.Refusals.{AreWith, HasPart, HasText, IsFirstIn, IsIn, all_refusals}
 use Rattle.tomex_refusals.specs.declared.refusal.Refusal.{Refusal}
 
 -- the item at a place, and those after it
@@ -52,3 +53,67 @@ pub all_lines : {X : Type 0} (f : X → List ℕ) (xs : List X) (i : ℕ) (text 
     → text ++ flat_map f (drop i xs) ≡ whole → text ≡ whole
 all_lines f xs i text whole past so_far =
     sym (append-nil text) ∙ (ap (λ ys. text ++ flat_map f ys) (sym (drop_all i xs past)) ∙ so_far)
+
+-- which refusals have a part: those so far, and those of the rest
+
+-- those so far with those of the rest are those of all
+abbrev pub AreSoFar : List ℕ → List Refusal → ℕ → List Refusal → Type 0
+AreSoFar words refusals i before =
+    (rest : List Refusal) → AreWith words (drop i refusals) rest → AreWith words refusals (before ++ rest)
+
+pub none_so_far : (words : List ℕ) (refusals : List Refusal) → AreSoFar words refusals 0 []
+none_so_far words refusals rest are = are
+
+pub one_with : (words : List ℕ) (refusals : List Refusal) (i : ℕ) (r d : Refusal) (before : List Refusal)
+    → i < length refusals → r ≡ get_or refusals i d → HasPart words r → AreSoFar words refusals i before
+    → AreSoFar words refusals (i + 1) (before ++ r ∷ [])
+unfolding AreWith
+one_with words refusals i r d before within is has so_far rest are =
+    let rest_are = rw add-one at are in
+    rw (append_assoc before (r ∷ []) rest) (so_far (r ∷ rest)
+    (rw (next_item refusals i r d within is) (inl (has, (rest, rest_are, refl)))))
+
+pub one_without : (words : List ℕ) (refusals : List Refusal) (i : ℕ) (r d : Refusal) (before : List Refusal)
+    → i < length refusals → r ≡ get_or refusals i d → (HasPart words r → ⊥) → AreSoFar words refusals i before
+    → AreSoFar words refusals (i + 1) before
+unfolding AreWith
+one_without words refusals i r d before within is has_not so_far rest are =
+    let rest_are = rw add-one at are in
+    so_far rest (rw (next_item refusals i r d within is) (inr (has_not, rest_are)))
+
+pub all_with : (words : List ℕ) (refusals : List Refusal) (i : ℕ) (before : List Refusal) → length refusals ≤ i
+    → AreSoFar words refusals i before → AreWith words refusals before
+unfolding AreWith
+all_with words refusals i before past so_far =
+    subst (AreWith words refusals) (append-nil before) (so_far [] (rw (drop_all i refusals past) refl))
+
+-- the item at a place is one of all
+pub contains_at : (refusals : List Refusal) (i : ℕ) (r d : Refusal) → i < length refusals → r ≡ get_or refusals i d
+    → Contains refusals r
+contains_at [] i r d within is = absurd (omega (arith, within))
+contains_at (q ∷ refusals) zero r d within is = (0, omega arith, sym is)
+contains_at (q ∷ refusals) (suc i) r d within is =
+    let w = contains_at refusals i r d (omega (arith, within)) is in
+    let l : w.0 < length refusals = w.1 in
+    (suc w.0, omega arith, w.2)
+
+-- the first of those that were found is one of all
+found_is_one : (words : List ℕ) (refusals found : List Refusal) (r : Refusal) → AreWith words refusals (r ∷ found)
+    → Contains refusals r × HasPart words r
+unfolding AreWith
+found_is_one words [] found r are = absurd (let bad : r ∷ found ≡ [] = are in cc)
+found_is_one words (q ∷ refusals) found r (inl are) =
+    let e : r ∷ found ≡ q ∷ are.1.0 = are.1.2 in
+    let same : q ≡ r = cc in
+    ((0, omega arith, same), subst (HasPart words) same are.0)
+found_is_one words (q ∷ refusals) found r (inr are) =
+    let w = found_is_one words refusals found r are.1 in
+    let l : w.0.0 < length refusals = w.0.1 in
+    ((suc w.0.0, omega arith, w.0.2), w.1)
+
+-- if there are some, there is a text
+pub has_text : (words : List ℕ) (found : List Refusal) → IsFirstIn words all_refusals None
+    → AreWith words all_refusals found → found ≢ [] → HasText words
+has_text words [] none are some = absurd (some refl)
+has_text words (r ∷ found) none are some =
+    let w = found_is_one words all_refusals found r are in inr (none, (r, w.0, w.1))

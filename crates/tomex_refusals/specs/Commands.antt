@@ -81,8 +81,8 @@ table_too_large =
 
 abbrev pub cycle_past_end : List ℕ
 cycle_past_end =
-    codes "CYCLE is greater than the run's total, which is in the last line of `tomex times\n"
-    ++ codes "STUDY CONFIG PROGRAM`.\n"
+    codes "CYCLE, of `tomex tables` or of `tomex animate --from`, is greater than the run's\n"
+    ++ codes "total, which is in the last line of `tomex times STUDY CONFIG PROGRAM`.\n"
 
 abbrev pub cannot_write : List ℕ
 cannot_write =

@@ -29,7 +29,10 @@ illegal =
     ++ (codes "than that, as compressed code, floating point or CSRs (compile with\n"
     ++ (codes "`-march=rv32im -mabi=ilp32`; `llvm-objdump -d FILE` shows what is at PC), or\n"
     ++ (codes "data that is run. At the first address it is mostly a file that is no program:\n"
-    ++ codes "a text, a C source or a study is taken as a flat image.\n")))
+    ++ (codes "a text, a C source or a study is taken as a flat image.\n"
+    ++ (codes "Of an ELF file it is mostly one without `_start`: the linker warned of it, and\n"
+    ++ (codes "the file has no entry, or a wrong one. Link examples/start.s. `readelf -h FILE`\n"
+    ++ codes "says the entry, `readelf -s FILE` where `_start` is.\n"))))))
 
 abbrev pub misaligned_target : List ℕ
 misaligned_target =

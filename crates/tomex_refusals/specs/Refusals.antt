@@ -1,6 +1,6 @@
 -- All refusals of the program, and how to find a text's.
-use Rattle.std.specs.Prelude.{◌≡◌, ◌⊎◌, ℕ, List, [], ◌∷◌, ◌++◌, codes, Option, Some, None}
-use Rattle.std.specs.List.{flat_map}
+use Rattle.std.specs.Prelude.{◌≡◌, ◌≢◌, ◌⊎◌, ℕ, List, [], ◌∷◌, ◌++◌, codes, Option, Some, None}
+use Rattle.std.specs.List.{Contains, flat_map}
 use Rattle.std.specs.Str.Iter.{HasSubslice}
 use Rattle.tomex_refusals.specs.declared.commands.CommandRefusal.TheVariants as commands
 use Rattle.tomex_refusals.specs.declared.explaining.ExplainError.{ExplainError}
@@ -65,19 +65,44 @@ IsFirstIn text (refusal ∷ refusals) found =
 abbrev pub explanation_of : Refusal → List ℕ
 explanation_of refusal = form_of refusal ++ (codes "\n" ++ advice_of refusal)
 
--- a text explains the refusal in the words
-abbrev pub IsExplained : List ℕ → List ℕ → Type 0
-IsExplained words text =
-    (refusal : Refusal) × IsFirstIn words all_refusals (Some refusal) × (text ≡ explanation_of refusal)
-
--- why there is no explanation; out of memory only for the text of a refusal that is in the words
-abbrev pub IsUnexplained : List ℕ → ExplainError → Type 0
-IsUnexplained words NoSuchRefusal = IsFirstIn words all_refusals None
-IsUnexplained words Memory = (refusal : Refusal) × IsFirstIn words all_refusals (Some refusal)
-
 -- a line of the list
 abbrev pub line_of : Refusal → List ℕ
 line_of refusal = form_of refusal ++ codes "\n"
+
+-- the words are a part of its line
+abbrev pub HasPart : List ℕ → Refusal → Type 0
+HasPart words refusal = HasSubslice (form_of refusal) words
+
+-- those of some refusals that have the part, in their order
+unfoldable pub AreWith : List ℕ → List Refusal → List Refusal → Type 0
+AreWith words [] found = found ≡ []
+AreWith words (refusal ∷ refusals) found =
+    (HasPart words refusal × ((rest : List Refusal) × AreWith words refusals rest × (found ≡ refusal ∷ rest)))
+    ⊎ ((HasPart words refusal → ⊥) × AreWith words refusals found)
+
+-- a single one is explained, several are listed
+abbrev pub text_of_found : List Refusal → List ℕ
+text_of_found (refusal ∷ []) = explanation_of refusal
+text_of_found refusals = flat_map line_of refusals
+
+-- a text explains the refusal in the words, if there is one; else it is of those that have the words as a part
+abbrev pub IsExplained : List ℕ → List ℕ → Type 0
+IsExplained words text =
+    ((refusal : Refusal) × IsFirstIn words all_refusals (Some refusal) × (text ≡ explanation_of refusal))
+    ⊎ (IsFirstIn words all_refusals None
+    × ((found : List Refusal) × AreWith words all_refusals found × (found ≢ []) × (text ≡ text_of_found found)))
+
+-- there is a text for the words
+abbrev pub HasText : List ℕ → Type 0
+HasText words =
+    ((refusal : Refusal) × IsFirstIn words all_refusals (Some refusal))
+    ⊎ (IsFirstIn words all_refusals None
+    × ((refusal : Refusal) × Contains all_refusals refusal × HasPart words refusal))
+
+-- why there is no explanation; out of memory only if there is a text
+abbrev pub IsUnexplained : List ℕ → ExplainError → Type 0
+IsUnexplained words NoSuchRefusal = IsFirstIn words all_refusals None × AreWith words all_refusals []
+IsUnexplained words Memory = HasText words
 
 -- all refusals, each on a line
 unfoldable pub refusal_lines : List ℕ

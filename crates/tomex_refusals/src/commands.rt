@@ -90,8 +90,8 @@ of a kind of unit.
 ";
 
 const CYCLE_PAST_END: &str =
-    "CYCLE is greater than the run's total, which is in the last line of `tomex times
-STUDY CONFIG PROGRAM`.
+    "CYCLE, of `tomex tables` or of `tomex animate --from`, is greater than the run's
+total, which is in the last line of `tomex times STUDY CONFIG PROGRAM`.
 ";
 
 const CANNOT_WRITE: &str =

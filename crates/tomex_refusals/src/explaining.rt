@@ -1,10 +1,11 @@
 //! Explanations of refusals.
 
-ghost use Rattle.std.specs.Prelude.{◌≡◌, ◌++◌, IfErr, IfOk, OnOk, string_bytes};
-ghost use Rattle.tomex_refusals.specs.Refusals.{IsExplained, IsUnexplained, explanation_of, line_of};
-ghost use Rattle.tomex_refusals.specs.Refusals.{refusal_lines};
+ghost use Rattle.std.specs.Prelude.{◌≡◌, ◌++◌, None, IfErr, IfOk, OnOk, string_bytes};
+ghost use Rattle.std.specs.List.{flat_map};
+ghost use Rattle.tomex_refusals.specs.Refusals.{IsExplained, IsFirstIn, IsUnexplained, all_refusals, explanation_of};
+ghost use Rattle.tomex_refusals.specs.Refusals.{line_of, refusal_lines, text_of_found};
 
-use crate::refusal::{Refusal, refusal_in};
+use crate::refusal::{Refusal, refusal_in, refusals_with};
 use std::alloc::{AllocError, Allocator};
 
 /// Why there is no explanation.
@@ -38,16 +39,50 @@ fn explanation_of<A: Allocator>(alloc: A, refusal: Refusal) -> Result<Vec<u8, A>
     Ok(text.into_bytes())
 }
 
+/// The text of refusals that were found by a part of their lines: a single one is explained, several are listed.
+fn text_of_found<A: Allocator>(alloc: A, found: &[Refusal]) -> Result<Vec<u8, A>, AllocError>
+    ensures { IfOk result (λ text. text.items ≡ text_of_found found.now) }
+{
+    match found {
+        [refusal] => explanation_of(alloc, *refusal),
+        refusals => lines_of(alloc, refusals),
+    }
+}
+
+/// The explanation of the refusal whose line has these words in it, or the list of those that have.
+fn explain_part<A: Allocator, B: Allocator>(
+    alloc: A,
+    heap: B,
+    words: &str,
+) -> Result<Vec<u8, A>, ExplainError>
+    requires { IsFirstIn words.now all_refusals None }
+    ensures text { IfOk result (λ text. IsExplained words.now text.items) }
+    ensures refused { IfErr result (λ error. IsUnexplained words.now error) }
+{
+    let found = refusals_with(heap, words)?;
+    if found.is_empty() {
+        return Err(ExplainError::NoSuchRefusal);
+    }
+    Ok(text_of_found(alloc, found.as_slice())?)
+}
+
 /// The explanation of the refusal in these words: how it looks, and then at most eleven lines on
 /// what it means, its usual causes, and what to do. Text before and after its own words doesn't
 /// matter.
-pub fn explain<A: Allocator>(alloc: A, words: &str) -> Result<Vec<u8, A>, ExplainError>
+///
+/// If the words are no refusal's, they are looked for in the lines of the list: of several that have them these lines
+/// are the text, a single one is explained. They are gathered in `heap`.
+pub fn explain<A: Allocator, B: Allocator>(
+    alloc: A,
+    heap: B,
+    words: &str,
+) -> Result<Vec<u8, A>, ExplainError>
     ensures text { IfOk result (λ text. IsExplained words.now text.items) }
     ensures refused { IfErr result (λ error. IsUnexplained words.now error) }
 {
     match refusal_in(words) {
         Some(refusal) => Ok(explanation_of(alloc, refusal)?),
-        None => Err(ExplainError::NoSuchRefusal),
+        None => explain_part(alloc, heap, words),
     }
 }
 
@@ -58,13 +93,21 @@ fn push_line<A: Allocator>(text: &mut String<A>, refusal: Refusal) -> Result<(),
     text.push_str("\n")
 }
 
+/// Refusals, each on a line.
+fn lines_of<A: Allocator>(alloc: A, refusals: &[Refusal]) -> Result<Vec<u8, A>, AllocError>
+    ensures { IfOk result (λ text. text.items ≡ flat_map line_of refusals.now) }
+{
+    let mut text = String::new(alloc);
+    for refusal in refusals {
+        push_line(&mut text, *refusal)?;
+    }
+    Ok(text.into_bytes())
+}
+
 /// All refusals, each on a line.
+#[tactic(auto, unfolding(crate::specs::Refusals::refusal_lines))]
 pub fn list_refusals<A: Allocator>(alloc: A) -> Result<Vec<u8, A>, AllocError>
     ensures { IfOk result (λ text. text.items ≡ refusal_lines) }
 {
-    let mut text = String::new(alloc);
-    for refusal in Refusal::ALL {
-        push_line(&mut text, refusal)?;
-    }
-    Ok(text.into_bytes())
+    lines_of(alloc, Refusal::ALL.as_slice())
 }

@@ -26,6 +26,9 @@ than that, as compressed code, floating point or CSRs (compile with
 `-march=rv32im -mabi=ilp32`; `llvm-objdump -d FILE` shows what is at PC), or
 data that is run. At the first address it is mostly a file that is no program:
 a text, a C source or a study is taken as a flat image.
+Of an ELF file it is mostly one without `_start`: the linker warned of it, and
+the file has no entry, or a wrong one. Link examples/start.s. `readelf -h FILE`
+says the entry, `readelf -s FILE` where `_start` is.
 ";
 
 const MISALIGNED_TARGET: &str =

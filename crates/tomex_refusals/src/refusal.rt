@@ -1,12 +1,16 @@
 //! All refusals, and how to find a text's.
 
-ghost use Rattle.std.specs.Prelude.{◌≡◌};
-ghost use Rattle.tomex_refusals.specs.Refusals.{IsFirstIn, advice_of, all_refusals, form_of, words_of};
+ghost use Rattle.std.specs.Prelude.{◌≡◌, IfErr, IfOk};
+ghost use Rattle.std.specs.List.{Contains};
+ghost use Rattle.tomex_refusals.specs.declared.refusal.Refusal.{Refusal};
+ghost use Rattle.tomex_refusals.specs.Refusals.{AreWith, HasPart, IsFirstIn, advice_of, all_refusals};
+ghost use Rattle.tomex_refusals.specs.Refusals.{form_of, words_of};
 
 use crate::commands::CommandRefusal;
 use crate::faults::FaultRefusal;
 use crate::images::ImageRefusal;
 use crate::studies::StudyRefusal;
+use std::alloc::{AllocError, Allocator};
 
 /// A refusal that some command can report.
 #[derive(Clone, Copy)]
@@ -105,4 +109,20 @@ pub fn refusal_in(text: &str) -> Option<Refusal>
         }
     }
     None
+}
+
+/// Those of all refusals whose line in the list has these words in it, in the list's order. Out of memory only if there
+/// is one.
+pub fn refusals_with<A: Allocator>(alloc: A, words: &str) -> Result<Vec<Refusal, A>, AllocError>
+    ensures found { IfOk result (λ found. AreWith words.now all_refusals found.items) }
+    ensures refused { IfErr result
+        (λ _. (refusal : Refusal) × Contains all_refusals refusal × HasPart words.now refusal) }
+{
+    let mut found = Vec::new(alloc);
+    for refusal in Refusal::ALL {
+        if refusal.form().contains(words) {
+            found.push(refusal)?;
+        }
+    }
+    Ok(found)
 }

@@ -1,6 +1,7 @@
 //! From the bytes of a study to its report.
 
-ghost use Rattle.std.specs.Prelude.{◌≡◌, ◌≢◌, ◌≤◌, map, IfOk, IfErr};
+ghost use Rattle.std.specs.Prelude.{◌≡◌, ◌≢◌, ◌<◌, ◌≤◌, length, map, All, IfOk, IfErr};
+ghost use Rattle.tomex_front_views.specs.FrontTable.{front_table_of, hull_table_of, rows_table_of};
 ghost use Rattle.tomex_study.specs.StudyFront.{front_of_study};
 ghost use Rattle.tomex_sweep.specs.declared.outcome.SweepError.TheVariants.{Memory, Worker};
 ghost use Rattle.tomex_report.specs.declared.answer_error.AnswerError.TheVariants.{Sweep};
@@ -16,9 +17,73 @@ use crate::study::study_in;
 use std::alloc::{AllocError, Allocator, Global};
 use std::sync::Wait;
 use std::thread::Threads;
-use tomex_front_views::{front_picture, front_table};
+use tomex_front_views::{front_picture, rows_table};
+use tomex_pareto::hull;
 use tomex_study::Study;
 use tomex_sweep::{FrontRow, Gate, OpenGate, explore, run_all_under};
+
+/// Rows of a study as a table, with what their programs take when they are run again.
+fn table_of_rows<R: Threads + Sync, A: Allocator + Clone + Send + Sync + Drop>(
+    rt: &R,
+    alloc: A,
+    heap: Global,
+    study: &Study<A>,
+    rows: &[FrontRow],
+) -> Result<Vec<u8, A>, AllocError>
+    requires rows { All (λ r. r.row < length study.now.rows) rows.now }
+    ensures { IfOk result (λ text. text.items ≡ rows_table_of study.now rows.now) }
+{
+    let ends = replay(rt, alloc.clone()?, study, rows)?;
+    let cycles = cycles_by_program(alloc.clone()?, study, rows, ends.as_slice())?;
+    rows_table(alloc, heap, study, rows, cycles.as_slice())
+}
+
+/// The front of a study as a table.
+fn front_table<R: Threads + Sync, A: Allocator + Clone + Send + Sync + Drop>(
+    rt: &R,
+    alloc: A,
+    heap: Global,
+    study: &Study<A>,
+    front: &[FrontRow],
+) -> Result<Vec<u8, A>, AllocError>
+    requires { front.now ≡ front_of_study study.now }
+    ensures { IfOk result (λ text. text.items ≡ front_table_of study.now) }
+{
+    study.keeps_limits();
+    table_of_rows(rt, alloc, heap, study, front)
+}
+
+/// The rows of a study's front that are on its hull, as a table.
+fn hull_table<R: Threads + Sync, A: Allocator + Clone + Send + Sync + Drop>(
+    rt: &R,
+    alloc: A,
+    heap: Global,
+    study: &Study<A>,
+    front: &[FrontRow],
+) -> Result<Vec<u8, A>, AllocError>
+    requires { front.now ≡ front_of_study study.now }
+    ensures { IfOk result (λ text. text.items ≡ hull_table_of study.now) }
+{
+    study.keeps_limits();
+    let rows = hull(alloc.clone()?, front)?;
+    table_of_rows(rt, alloc, heap, study, rows.as_slice())
+}
+
+/// The report of a study's front, whose rows are run again.
+fn report_of_front<R: Threads + Sync, A: Allocator + Clone + Send + Sync + Drop>(
+    rt: &R,
+    alloc: A,
+    heap: Global,
+    study: &Study<A>,
+    front: &[FrontRow],
+) -> Result<Vec<u8, A>, AllocError>
+    requires { front.now ≡ front_of_study study.now }
+    ensures { IfOk result (λ text. text.items ≡ report_of study.now) }
+{
+    study.keeps_limits();
+    let ends = replay(rt, alloc.clone()?, study, front)?;
+    front_report(alloc, heap, study, front, ends.as_slice())
+}
 
 /// The front of a study in a view.
 fn front_in_view<R: Threads + Sync, A: Allocator + Clone + Send + Sync + Drop>(
@@ -32,16 +97,12 @@ fn front_in_view<R: Threads + Sync, A: Allocator + Clone + Send + Sync + Drop>(
     requires { front.now ≡ front_of_study study.now }
     ensures { IfOk result (λ text. text.items ≡ view_text view study.now) }
 {
-    if let FrontView::Picture = view {
-        return front_picture(alloc, heap, study, front);
+    match view {
+        FrontView::Report => report_of_front(rt, alloc, heap, study, front),
+        FrontView::Table => front_table(rt, alloc, heap, study, front),
+        FrontView::Hull => hull_table(rt, alloc, heap, study, front),
+        FrontView::Picture => front_picture(alloc, heap, study, front),
     }
-    study.keeps_limits();
-    let ends = replay(rt, alloc.clone()?, study, front)?;
-    if let FrontView::Report = view {
-        return front_report(alloc, heap, study, front, ends.as_slice());
-    }
-    let cycles = cycles_by_program(alloc.clone()?, study, front, ends.as_slice())?;
-    front_table(alloc, heap, study, front, cycles.as_slice())
 }
 
 /// Explores a study with workers and renders its front in a view.

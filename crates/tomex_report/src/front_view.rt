@@ -17,6 +17,8 @@ pub enum FrontView {
     Report,
     /// A table for people.
     Table,
+    /// A table of its lower convex hull.
+    Hull,
     /// A picture in SVG.
     Picture,
 }

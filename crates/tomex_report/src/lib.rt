@@ -24,7 +24,7 @@ pub use replaying::replay;
 pub use survey_error::SurveyError;
 pub use surveying::{SurveyView, answer_survey};
 pub use tomex_document::documents_have_a_grid;
-pub use tomex_front_views::{front_picture, front_table};
+pub use tomex_front_views::{front_picture, rows_table};
 pub use tomex_konata::konata_text;
 pub use tomex_run_views::{ExcerptError, PictureError, pipeline_text, stalls_by_pc, stalls_report};
 pub use tomex_study_reader::{StudyError, file_names, read_study};

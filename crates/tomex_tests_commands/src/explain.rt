@@ -20,22 +20,25 @@ fn a_refusal_is_explained(rt: HostRuntime) -> Result<(), Fail> {
     ];
     comes_to(&rt, [].as_slice(), reported.as_slice(), done)?;
     let one_word = ["tomex", "explain", "tomex: program a: image: overlap"];
-    comes_to(&rt, [].as_slice(), one_word.as_slice(), done)
+    comes_to(&rt, [].as_slice(), one_word.as_slice(), done)?;
+    let part = ["tomex", "explain", "overlap"];
+    comes_to(&rt, [].as_slice(), part.as_slice(), done)
 }
 
 #[test]
 fn all_refusals_are_listed(rt: HostRuntime) -> Result<(), Fail> {
-    comes_to(
-        &rt,
-        [].as_slice(),
+    for words in [
         ["tomex", "explain"].as_slice(),
-        (0, ALL_REFUSALS, ""),
-    )
+        ["tomex", "explain", ""].as_slice(),
+    ] {
+        comes_to(&rt, [].as_slice(), words, (0, ALL_REFUSALS, ""))?;
+    }
+    Ok(())
 }
 
 #[test]
 fn what_is_no_refusal_is_refused(rt: HostRuntime) -> Result<(), Fail> {
-    for line in ["tomex explain overlap", "tomex explain "] {
+    for line in ["tomex explain overlaps", "tomex explain Image: overlap"] {
         let words = words_of(rt.alloc(), line)?;
         comes_to(&rt, [].as_slice(), words.as_slice(), (1, "", NONE))?;
     }

@@ -10,7 +10,7 @@ use tomex_tests_fixtures::studies::{DROPPED, DROPPED_REPORT};
 use tomex_tests_whole_runs::{each_is_granted, granted, words_of};
 
 /// Lines on a whole study, and the least number of blocks that they need.
-static OF_DROPPED: [(&str, u64); 5] = [
+static OF_DROPPED: [(&str, u64); 6] = [
     // The study's bytes and its file's, names, the program, rows, costs and the text; marks, machines, the
     // front and its ends.
     ("tomex all study", 16),
@@ -18,6 +18,7 @@ static OF_DROPPED: [(&str, u64); 5] = [
     ("tomex explore study --workers 2", 14),
     // All of that, with columns of numbers and their names in place of the records.
     ("tomex front study", 14),
+    ("tomex front study --hull", 14),
     // The front is enough.
     ("tomex plot study", 14),
 ];

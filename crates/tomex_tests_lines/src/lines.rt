@@ -29,7 +29,6 @@ fn line_text(alloc: Global, line: &Line) -> Result<String, AllocError> {
         Line::Explore(explore) => {
             format!(in alloc; "explore {} {}", explore.study, explore.workers)
         }
-        Line::Front(front) => format!(in alloc; "front {} {}", front.study, front.workers),
         other => line_on_all_rows(alloc, other),
     }
 }
@@ -37,6 +36,10 @@ fn line_text(alloc: Global, line: &Line) -> Result<String, AllocError> {
 /// The same for a line on all rows of a study.
 fn line_on_all_rows(alloc: Global, line: &Line) -> Result<String, AllocError> {
     match line {
+        Line::Front(front) => {
+            let (study, workers) = (front.explore.study, front.explore.workers);
+            format!(in alloc; "front {study} {workers} {}", front.hull)
+        }
         Line::Plot(plot) => {
             let (study, workers) = (plot.explore.study, plot.explore.workers);
             format!(in alloc; "plot {study} {workers} {}", plot.all)
@@ -125,7 +128,7 @@ fn text_of(alloc: Global, line: &str) -> Result<String, AllocError> {
 }
 
 /// Lines, and the beginnings of their results.
-static READ: [(&str, &str); 72] = [
+static READ: [(&str, &str); 73] = [
     ("run mul.bin", "run mul.bin 0 65536 262144"),
     (
         "run a --base 4294967292 --size 4 --limit 1",
@@ -197,8 +200,9 @@ static READ: [(&str, &str); 72] = [
     ("explore study.toml", "explore study.toml 1"),
     ("explore --workers 32 a", "explore a 32"),
     ("explore --help", "help Runs the programs"),
-    ("front a", "front a 1"),
-    ("front a --workers 2", "front a 2"),
+    ("front a", "front a 1 false"),
+    ("front a --workers 2", "front a 2 false"),
+    ("front --hull a --workers 2", "front a 2 true"),
     (
         "front --help",
         "help Explores a study as `explore` does, and prints the front as a table",

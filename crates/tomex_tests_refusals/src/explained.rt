@@ -14,7 +14,7 @@ use tomex_values::{Key, Place};
 /// twelve lines.
 fn is_explained<R: Abort + AllocGlobal>(rt: &R, text: &str, form: &str) -> Result<(), Fail> {
     let wanted = format!(in rt.alloc(); "{form}\n")?;
-    match explain(rt.alloc(), text) {
+    match explain(rt.alloc(), rt.alloc(), text) {
         Ok(explained) => {
             let lines = explained.iter().filter(|byte| **byte == b'\n').count();
             assert!(rt; explained.starts_with(wanted.as_bytes()), "{text}");
@@ -52,7 +52,7 @@ fn images(rt: HostRuntime) -> Result<(), Fail> {
 
 /// What is said of an image's refusal after the first line.
 fn words_after(alloc: Global, form: &str) -> Result<String, Fail> {
-    let Ok(explained) = explain(alloc, form) else {
+    let Ok(explained) = explain(alloc, alloc, form) else {
         return Err("not explained".into());
     };
     let text = String::from_utf8(explained)?;
@@ -156,12 +156,51 @@ fn commands(rt: HostRuntime) -> Result<(), Fail> {
     Ok(())
 }
 
-static NONE: [&str; 5] = ["", "tomex", "image", "Image: Segment", "image:segment"];
+/// Parts of lines of the list, and what is printed of the first lines that have them, and how many lines there are.
+static PARTS: [(&str, &str, usize); 8] = [
+    ("", "cannot read NAME\nbad window\n", 36),
+    ("segment", "image: too many segments\nimage: segment\n", 2),
+    ("fault", "fault: fetch at PC\nfault: illegal at PC\n", 4),
+    (" at PC", "fault: fetch at PC\nfault: illegal at PC\n", 4),
+    ("image", "image: empty\nimage: too large\n", 11),
+    (
+        "KEY",
+        "study: PLACE: KEY missing\nstudy: PLACE: KEY of wrong kind\n",
+        3,
+    ),
+    // A single one is explained.
+    (
+        "not TOML",
+        "study: not TOML\nThe file can't be read as TOML",
+        7,
+    ),
+    ("mbol", "no symbols\n`--by-function` takes", 5),
+];
+
+#[test]
+fn parts_of_lines(rt: HostRuntime) -> Result<(), Fail> {
+    for (part, begins, lines) in &PARTS {
+        let Ok(text) = explain(rt.alloc(), rt.alloc(), *part) else {
+            return Err("no text".into());
+        };
+        assert!(rt; text.starts_with(begins.as_bytes()), "{part}");
+        let count = text.iter().filter(|byte| **byte == b'\n').count();
+        assert!(rt; count == *lines, "{part}: {count}");
+    }
+    Ok(())
+}
+
+static NONE: [&str; 4] = [
+    "tomex",
+    "Image: Segment",
+    "image:segment",
+    "image:  segment",
+];
 
 #[test]
 fn what_is_no_refusal(rt: HostRuntime) -> Result<(), Fail> {
     for text in &NONE {
-        let refused = explain(rt.alloc(), *text);
+        let refused = explain(rt.alloc(), rt.alloc(), *text);
         assert!(rt;
             matches!(&refused, Err(ExplainError::NoSuchRefusal)),
             "{text}"

@@ -5,16 +5,45 @@ use std::test::Fail;
 use tomex_refusals::{ExplainError, explain, list_refusals};
 use tomex_tests_fixtures::{ALL_REFUSALS, Attempt, Heap, OVERLAP, Try, refusals};
 
+/// The outcome of a try whose text must be this one.
+fn tried(explained: Result<Vec<u8, Heap>, ExplainError>, wanted: &str) -> Result<Try, AllocError> {
+    match explained {
+        Ok(text) => Ok(Try::right_if(text.as_slice() == wanted.as_bytes())),
+        Err(ExplainError::Memory) => Ok(Try::Refused),
+        Err(ExplainError::NoSuchRefusal) => Ok(Try::Wrong),
+    }
+}
+
 #[derive(Drop)]
 struct Explaining;
 
 impl Attempt for Explaining {
     fn attempt(&self, heap: Heap) -> Result<Try, AllocError> {
-        match explain(heap, "tomex: image: overlap") {
-            Ok(text) => Ok(Try::right_if(text.as_slice() == OVERLAP.as_bytes())),
-            Err(ExplainError::Memory) => Ok(Try::Refused),
-            Err(ExplainError::NoSuchRefusal) => Ok(Try::Wrong),
-        }
+        tried(
+            explain(heap.clone()?, heap, "tomex: image: overlap"),
+            OVERLAP,
+        )
+    }
+}
+
+/// Explains the refusal whose line has a word.
+#[derive(Drop)]
+struct ExplainingPart;
+
+impl Attempt for ExplainingPart {
+    fn attempt(&self, heap: Heap) -> Result<Try, AllocError> {
+        tried(explain(heap.clone()?, heap, "overlap"), OVERLAP)
+    }
+}
+
+/// Lists the refusals whose lines have a word.
+#[derive(Drop)]
+struct ListingPart;
+
+impl Attempt for ListingPart {
+    fn attempt(&self, heap: Heap) -> Result<Try, AllocError> {
+        let lines = "image: too many segments\nimage: segment\n";
+        tried(explain(heap.clone()?, heap, "segment"), lines)
     }
 }
 
@@ -33,6 +62,8 @@ impl Attempt for Listing {
 #[test]
 fn each_growth_refused(rt: HostRuntime) -> Result<(), Fail> {
     assert!(rt; refusals(rt.alloc(), &Explaining)? > Some(0));
+    assert!(rt; refusals(rt.alloc(), &ExplainingPart)? > Some(1));
+    assert!(rt; refusals(rt.alloc(), &ListingPart)? > Some(1));
     assert!(rt; refusals(rt.alloc(), &Listing)? > Some(0));
     Ok(())
 }

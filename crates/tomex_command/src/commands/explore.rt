@@ -1,7 +1,7 @@
 //! The commands that explore a study: its front, as a report, as a table or as a picture.
-ghost use Rattle.std.specs.Prelude.{◌≤◌, map, IfOk, IfErr};
+ghost use Rattle.std.specs.Prelude.{◌≡◌, ◌≤◌, map, IfOk, IfErr};
 ghost use Rattle.tomex_report.specs.Answer.{IsAnswerRefusal, IsAnswerIn};
-ghost use Rattle.tomex_command.specs.FrontLines.{IsFrontOf, IsExploreFailure};
+ghost use Rattle.tomex_command.specs.FrontLines.{IsFrontOf, IsExploreFailure, table_view};
 
 use super::study::{Sources, sources_in};
 use crate::failure::Failure;
@@ -40,6 +40,17 @@ fn answer_in_view<
         // The call that carries the claim, word for word, on its contract.
         FrontView::Report => answer(rt, alloc, heap, study, files, workers, gate),
         view => answer_shown(rt, alloc, heap, study, files, Crew { workers, gate }, view),
+    }
+}
+
+/// The view that `front` prints: of the whole front, or of its hull.
+pub fn table_view(hull: bool) -> FrontView
+    ensures { result ≡ table_view hull }
+{
+    if hull {
+        FrontView::Hull
+    } else {
+        FrontView::Table
     }
 }
 

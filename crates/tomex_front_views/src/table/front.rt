@@ -1,10 +1,9 @@
-//! The front of a study as a table.
+//! Rows of a study as a table.
 
 ghost use Rattle.std.specs.Prelude.{◌≡◌, ◌<◌, ◌++◌, length, map, All, IfOk, OnOk};
 ghost use Rattle.std.specs.Fmt.{decimal};
 ghost use Rattle.std.specs.List.{AllZip, flat_map};
-ghost use Rattle.tomex_study.specs.StudyFront.{front_of_study};
-ghost use Rattle.tomex_front_views.specs.FrontTable.{all_settings, cycles_on, front_table_of, heading_column};
+ghost use Rattle.tomex_front_views.specs.FrontTable.{all_settings, cycles_on, heading_column, rows_table_of};
 ghost use Rattle.tomex_front_views.specs.FrontTable.{number_under, own_columns, program_column, program_columns};
 ghost use Rattle.tomex_front_views.specs.FrontTable.{setting_columns};
 
@@ -151,28 +150,26 @@ fn push_each_program<A: Allocator>(
     Ok(())
 }
 
-/// The front of a study as a table: a line of names, and then a line for each row of the front,
+/// Rows of a study as a table, such as its front: a line of names, and then a line for each row,
 /// with its number, cost and cycles, the cycles that it saves over the row before for 1 of cost,
 /// the settings in which rows of the study differ, and, if there are several programs, the cycles
 /// of each.
 ///
-/// `cycles` are those of each program on each row of the front. Small values are allocated in
-/// `heap`.
-pub fn front_table<A: Allocator>(
+/// `cycles` are those of each program on each of the rows. Small values are allocated in `heap`.
+pub fn rows_table<A: Allocator>(
     alloc: A,
     heap: Global,
     study: &Study<A>,
-    front: &[FrontRow],
+    rows: &[FrontRow],
     cycles: &[Vec<u64, A>],
 ) -> Result<Vec<u8, A>, AllocError>
-    requires front { front.now ≡ front_of_study study.now }
+    requires rows { All (λ r. r.row < length study.now.rows) rows.now }
     requires cycles { AllZip
-        (λ p c. c.items ≡ cycles_on study.now front.now p) study.now.programs cycles.now }
-    ensures { IfOk result (λ text. text.items ≡ front_table_of study.now) }
+        (λ p c. c.items ≡ cycles_on study.now rows.now p) study.now.programs cycles.now }
+    ensures { IfOk result (λ text. text.items ≡ rows_table_of study.now rows.now) }
 {
-    study.keeps_limits();
     let mut columns = Vec::new(heap);
-    push_own(&mut columns, heap, study, front)?;
-    push_programs(&mut columns, heap, study, front, cycles)?;
-    table_of(alloc, front.len(), columns.as_slice())
+    push_own(&mut columns, heap, study, rows)?;
+    push_programs(&mut columns, heap, study, rows, cycles)?;
+    table_of(alloc, rows.len(), columns.as_slice())
 }
