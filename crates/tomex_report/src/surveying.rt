@@ -1,7 +1,7 @@
 //! From the bytes of a study to what is printed of all its rows.
 
 ghost use Rattle.std.specs.Prelude.{◌≡◌, ◌≤◌, false, map, IfErr, IfOk};
-ghost use Rattle.tomex_report.specs.Surveyed.{IsSurveyRefusal, IsSurveyed, IsTextOf, IsWithoutText};
+ghost use Rattle.tomex_report.specs.Surveyed.{IsSurveyRefusal, IsTextFrom, IsTextOf, IsWithoutText};
 ghost use Rattle.tomex_report.specs.Surveyed.{lacks_row};
 
 use crate::crew::Crew;
@@ -78,7 +78,7 @@ pub fn answer_survey<R: Threads + Sync, A: Allocator + Clone + Send + Sync + Dro
     requires some_workers { 1 ≤ crew.workers }
     requires few_workers { crew.workers ≤ 32 }
     ensures text { IfOk result
-        (λ text. IsSurveyed view.entry study.now (map (λ f. f.items) files.now) text.items) }
+        (λ text. IsTextFrom view.entry study.now (map (λ f. f.items) files.now) text.items) }
     ensures refused { IfErr result
         (λ e. IsSurveyRefusal view.entry study.now (map (λ f. f.items) files.now) e) }
 {
