@@ -17,7 +17,7 @@ use Rattle.tomex_command.specs.FrontLines.{IsFrontOf, IsAllFailure, IsExploreFai
 use Rattle.tomex_streams.specs.Sinks.{Seen, IsWhole, IsCut}
 use Rattle.tomex_command.specs.PipelineLines.{IsPipelineOf, IsPipelineFailure}
 use Rattle.tomex_command.specs.RunLines.{IsRunOf, IsRunFailure}
-use Rattle.tomex_command.specs.SurveyLines.{IsPlotFailure, IsPlotOf, IsSurveyFailure, IsSurveyOf}
+use Rattle.tomex_command.specs.SurveyLines.{IsPlotFailure, IsPlotOf, IsSurveyFailure, IsSurveyTextOf}
 use Rattle.tomex_command.specs.StallsLines.{IsStallsOf, IsStallsFailure}
 use Rattle.tomex_command.specs.TablesLines.{IsTablesOf, IsTablesFailure}
 use Rattle.tomex_command.specs.Reporting.{IsFailureReported, IsSaid, IsFaultReported}
@@ -35,10 +35,10 @@ IsDone file (All line) text = IsFrontOf Report file line.study.now text
 IsDone file (Explore line) text = IsFrontOf Report file line.study.now text
 IsDone file (Front line) text = IsFrontOf (table_view line.hull) file line.explore.study.now text
 IsDone file (Plot line) text = IsPlotOf line.all file line.explore.study.now text
-IsDone file (Rows line) text = IsSurveyOf views.Rows file line.study.now text
-IsDone file (Worth line) text = IsSurveyOf (views.Worth line.config) file line.explore.study.now text
-IsDone file (Prices line) text = IsSurveyOf views.Prices file line.study.now text
-IsDone file (Page line) text = IsSurveyOf (views.Page line.study) file line.study.now text
+IsDone file (Rows line) text = IsSurveyTextOf views.Rows file line.study.now text
+IsDone file (Worth line) text = IsSurveyTextOf (views.Worth line.config) file line.explore.study.now text
+IsDone file (Prices line) text = IsSurveyTextOf views.Prices file line.study.now text
+IsDone file (Page line) text = IsSurveyTextOf (views.Page line.study) file line.study.now text
 IsDone file (Explain line) text = IsExplanation (option_map string_bytes line.refusal) text
 
 -- the line has no text, for this reason

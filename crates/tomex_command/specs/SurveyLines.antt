@@ -1,7 +1,7 @@
 -- The result of a line that asks for all rows of a study: by `rows`, `worth`, `prices`, `page`, and `plot` with all
 -- rows.
 use Rattle.std.specs.Prelude.{ℕ, Bool, true, false, List}
-use Rattle.tomex_report.specs.Surveyed.{IsSurveyed, IsUnsurveyed}
+use Rattle.tomex_report.specs.Surveyed.{IsTextFrom, IsWithoutTextFrom}
 use Rattle.tomex_report.specs.declared.front_view.FrontView.TheVariants as fronts
 use Rattle.tomex_report.specs.declared.survey_error.SurveyError.{SurveyError}
 use Rattle.tomex_report.specs.declared.survey_error.SurveyError.TheVariants as errors
@@ -14,11 +14,11 @@ use Rattle.tomex_streams.specs.Files.{Known}
 use Rattle.tomex_command.specs.StudyFiles.{AreSources, IsStudyFailure}
 
 -- the text is what is printed of all rows of the study with this name
-pub record IsSurveyOf (view : SurveyView) (file : List ℕ → Known) (name : List ℕ) (text : List ℕ) : Type 0 where
+pub record IsSurveyTextOf (view : SurveyView) (file : List ℕ → Known) (name : List ℕ) (text : List ℕ) : Type 0 where
   pub bytes : List ℕ
   pub contents : List (List ℕ)
   pub sources : AreSources file name bytes contents
-  pub surveyed : IsSurveyed view bytes contents text
+  pub surveyed : IsTextFrom view bytes contents text
 
 -- the study with this name has no such text for this reason
 pub record IsWithoutSurvey (view : SurveyView) (file : List ℕ → Known) (name : List ℕ)
@@ -26,7 +26,7 @@ pub record IsWithoutSurvey (view : SurveyView) (file : List ℕ → Known) (name
   pub bytes : List ℕ
   pub contents : List (List ℕ)
   pub sources : AreSources file name bytes contents
-  pub unsurveyed : IsUnsurveyed view bytes contents error
+  pub unsurveyed : IsWithoutTextFrom view bytes contents error
 
 -- when each failure comes: those of the study, then that it has no such row, then that its table is too large
 abbrev pub IsSurveyFailure : SurveyView → (List ℕ → Known) → List ℕ → Failure → Type 0
@@ -36,7 +36,7 @@ IsSurveyFailure view file name failure = IsStudyFailure file name failure
 
 -- the text of `plot`, with or without all rows
 abbrev pub IsPlotOf : Bool → (List ℕ → Known) → List ℕ → List ℕ → Type 0
-IsPlotOf true file name text = IsSurveyOf views.Picture file name text
+IsPlotOf true file name text = IsSurveyTextOf views.Picture file name text
 IsPlotOf false file name text = IsFrontOf fronts.Picture file name text
 
 abbrev pub IsPlotFailure : Bool → (List ℕ → Known) → List ℕ → Failure → Type 0

@@ -1,7 +1,8 @@
 //! The front as one picture in SVG.
 
-ghost use Rattle.std.specs.Prelude.{◌≡◌, ◌++◌, length, OnOk, IfOk, string_bytes};
+ghost use Rattle.std.specs.Prelude.{◌≡◌, length, OnOk, IfOk, string_bytes};
 ghost use Rattle.tomex_study.specs.StudyFront.{front_of_study};
+ghost use Rattle.tomex_csv_text.specs.Growth.{Appends};
 ghost use Rattle.tomex_front_views.specs.Plot.{front_picture_of, lines_text, picture_of_rows, rows_text};
 ghost use Rattle.tomex_front_views.specs.Plot.{scales_text, shade, sheet, size_text, title_of};
 
@@ -24,14 +25,14 @@ use tomex_pareto::FrontRow;
 use tomex_study::Study;
 
 fn push<A: Allocator>(text: &mut String<A>, piece: &str) -> Result<(), AllocError>
-    ensures { OnOk result (string_bytes text.new ≡ string_bytes text.old ++ piece.now) }
+    ensures { OnOk result (Appends piece.now text.old text.new) }
 {
     text.push_str(piece)
 }
 
 /// Adds the picture's size, and the style of its texts.
 fn push_size<A: Allocator>(text: &mut String<A>) -> Result<(), AllocError>
-    ensures { OnOk result (string_bytes text.new ≡ string_bytes text.old ++ size_text) }
+    ensures { OnOk result (Appends size_text text.old text.new) }
 {
     push(
         text,
@@ -47,7 +48,7 @@ fn push_size<A: Allocator>(text: &mut String<A>) -> Result<(), AllocError>
 
 /// Adds a white sheet with a title.
 fn push_sheet<A: Allocator>(text: &mut String<A>, title: &str) -> Result<(), AllocError>
-    ensures { OnOk result (string_bytes text.new ≡ string_bytes text.old ++ sheet title.now) }
+    ensures { OnOk result (Appends (sheet title.now) text.old text.new) }
 {
     push(text, "<title>")?;
     push(text, title)?;
@@ -65,14 +66,14 @@ fn push_sheet<A: Allocator>(text: &mut String<A>, title: &str) -> Result<(), All
 /// Adds the shaded area in which rows are dominated.
 #[tactic(auto, unfolding(crate::specs::Plot::shade))]
 fn push_shade<A: Allocator>(text: &mut String<A>, stairs: &str) -> Result<(), AllocError>
-    ensures { OnOk result (string_bytes text.new ≡ string_bytes text.old ++ shade stairs.now) }
+    ensures { OnOk result (Appends (shade stairs.now) text.old text.new) }
 {
     write!(text, "<path d=\"{stairs}V56Z\" fill=\"#edf3fa\"/>\n")
 }
 
 /// Adds light lines at the ticks, and a frame.
 fn push_lines<A: Allocator>(text: &mut String<A>, axes: &Axes) -> Result<(), AllocError>
-    ensures { OnOk result (string_bytes text.new ≡ string_bytes text.old ++ lines_text axes.now) }
+    ensures { OnOk result (Appends (lines_text axes.now) text.old text.new) }
 {
     push(text, "<g stroke=\"#dddddd\">\n")?;
     push_marks(text, axes, Mark::CostLine)?;
@@ -87,7 +88,7 @@ fn push_lines<A: Allocator>(text: &mut String<A>, axes: &Axes) -> Result<(), All
 
 /// Adds the numbers at the ticks, and the names of the axes.
 fn push_scales<A: Allocator>(text: &mut String<A>, axes: &Axes) -> Result<(), AllocError>
-    ensures { OnOk result (string_bytes text.new ≡ string_bytes text.old ++ scales_text axes.now) }
+    ensures { OnOk result (Appends (scales_text axes.now) text.old text.new) }
 {
     push(text, "<g text-anchor=\"middle\">\n")?;
     push_marks(text, axes, Mark::CostNumber)?;
@@ -113,8 +114,7 @@ fn push_rows<A: Allocator>(
     stairs: &str,
     rows: &[FrontRow],
 ) -> Result<(), AllocError>
-    ensures { OnOk result (string_bytes text.new
-        ≡ string_bytes text.old ++ rows_text axes.now stairs.now rows.now) }
+    ensures { OnOk result (Appends (rows_text axes.now stairs.now rows.now) text.old text.new) }
 {
     write!(
         text,

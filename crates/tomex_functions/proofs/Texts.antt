@@ -1,8 +1,8 @@
 -- The texts of what was counted are the reports.
-use Rattle.std.proofs.Common.{◌≡◌, ◌∙◌, arith, ap, ap₂, refl, subst, ℕ, suc, true, false, List, [], ◌∷◌}
+use Rattle.std.proofs.Common.{◌≡◌, ◌∙◌, arith, ap, ap₂, refl, subst, ℕ, suc, false, List, [], ◌∷◌}
 use Rattle.std.proofs.Common.{◌++◌, codes, length}
-use Rattle.std.specs.Prelude.{◌≢◌, nat_lt}
-use Rattle.std.proofs.lemmas.Bool.{ltb-false, ltb-true}
+use Rattle.std.specs.Prelude.{nat_lt}
+use Rattle.std.proofs.lemmas.Bool.{ltb-false}
 use Rattle.std.specs.BTreeMap.{IsOrdered}
 use Rattle.std.specs.Fmt.{decimal}
 use Rattle.std.specs.List.{flat_map}
@@ -60,13 +60,7 @@ report_by_place file symbols config made steps counted text are same is ordered 
     (subst (λ (ss : List Symbol). text ≡ report_of_counted function_columns (function_fields file ss) counted) are
     written))
 
--- a file with symbols, and one without
-pub some_symbols : (file : List ℕ) → has_symbols file ≡ true → symbols_of file ≢ []
-some_symbols file has none =
-    let some = ltb-true 0 (length (symbols_of file)) has in
-    let zero : length (symbols_of file) ≡ 0 = ap (λ (ss : List Symbol). length ss) none in
-    absurd (omega (arith, some, zero))
-
+-- a file without symbols
 pub no_symbols : (file : List ℕ) → has_symbols file ≡ false → symbols_of file ≡ []
 no_symbols file has = empty (symbols_of file) has
   where

@@ -4,5 +4,6 @@ pub mod Functions
 pub mod Calls
 pub mod ByFunction
 pub mod ByPlace
+pub mod WithFunctions
 pub mod Kept
 pub mod Laws

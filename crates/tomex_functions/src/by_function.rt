@@ -1,6 +1,6 @@
 //! The stalls report by function.
 
-ghost use Rattle.std.specs.Prelude.{◌≡◌, ◌≢◌, ◌++◌, ◌∷◌, [], IfErr, IfOk, IsErrOf, OnOk, codes};
+ghost use Rattle.std.specs.Prelude.{◌≡◌, ◌++◌, ◌∷◌, [], IfOk, OnOk, codes};
 ghost use Rattle.std.specs.List.{flat_map};
 ghost use Rattle.csv.specs.Records.{fields_of, partial_of};
 ghost use Rattle.tomex_rvexec.specs.Run.{start_of};
@@ -8,10 +8,9 @@ ghost use Rattle.tomex_rvexec.specs.Trace.{steps_from};
 ghost use Rattle.tomex_csv_text.specs.Csv.{IsReady, record_text};
 ghost use Rattle.tomex_csv_text.specs.Growth.{Writes};
 ghost use Rattle.tomex_run_views.specs.Tally.{fields_of_sum};
-ghost use Rattle.tomex_symbols.specs.Symbols.{symbols_of};
 ghost use Rattle.tomex_functions.specs.ByFunction.{IsReportByFunction, address_field, row_fields};
 ghost use Rattle.tomex_functions.specs.Kept.{report_of_listing, total_fields};
-ghost use Rattle.tomex_functions.specs.declared.functions_error.FunctionsError.TheVariants.{NoSymbols};
+ghost use Rattle.tomex_functions.specs.WithFunctions.{IsWithFunctions};
 
 use crate::functions_error::FunctionsError;
 use crate::rows::{Listing, Row, listing_of};
@@ -162,11 +161,9 @@ pub fn stalls_by_function<A: Allocator + Clone>(
     config: &Config,
     file: &[u8],
 ) -> Result<Vec<u8, A>, FunctionsError>
-    ensures text { IfOk result (λ text. IsReportByFunction file.now config.now
-        (steps_from program.now.limit (start_of program.now.image)) text.items) }
-    ensures some { OnOk result (symbols_of file.now ≢ []) }
-    ensures refused { IfErr result (λ error. error ≡ NoSymbols → symbols_of file.now ≡ []) }
-    ensures none { symbols_of file.now ≡ [] → IsErrOf result NoSymbols }
+    ensures { IsWithFunctions
+        (IsReportByFunction file.now config.now (steps_from program.now.limit (start_of program.now.image)))
+        file.now result }
 {
     if !has_symbols(file) {
         return Err(FunctionsError::NoSymbols);

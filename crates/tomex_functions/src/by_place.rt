@@ -1,12 +1,10 @@
 //! The stalls report by place in the program, with functions.
 
-ghost use Rattle.std.specs.Prelude.{◌≡◌, ◌≢◌, [], IfErr, IfOk, IsErrOf, OnOk};
 ghost use Rattle.tomex_rvexec.specs.Run.{start_of};
 ghost use Rattle.tomex_rvexec.specs.Trace.{steps_from};
-ghost use Rattle.tomex_symbols.specs.Symbols.{symbols_of};
 ghost use Rattle.tomex_functions.specs.ByPlace.{IsReportByPlace};
 ghost use Rattle.tomex_functions.specs.Kept.{IsFunctionField};
-ghost use Rattle.tomex_functions.specs.declared.functions_error.FunctionsError.TheVariants.{NoSymbols};
+ghost use Rattle.tomex_functions.specs.WithFunctions.{IsWithFunctions};
 
 use crate::functions_error::FunctionsError;
 use crate::index::Index;
@@ -50,11 +48,9 @@ pub fn stalls_by_pc_and_function<A: Allocator + Clone>(
     config: &Config,
     file: &[u8],
 ) -> Result<Vec<u8, A>, FunctionsError>
-    ensures text { IfOk result (λ text. IsReportByPlace file.now config.now
-        (steps_from program.now.limit (start_of program.now.image)) text.items) }
-    ensures some { OnOk result (symbols_of file.now ≢ []) }
-    ensures refused { IfErr result (λ error. error ≡ NoSymbols → symbols_of file.now ≡ []) }
-    ensures none { symbols_of file.now ≡ [] → IsErrOf result NoSymbols }
+    ensures { IsWithFunctions
+        (IsReportByPlace file.now config.now (steps_from program.now.limit (start_of program.now.image)))
+        file.now result }
 {
     if !has_symbols(file) {
         return Err(FunctionsError::NoSymbols);

@@ -1,6 +1,7 @@
 //! The chart of a run's first instructions.
 
-ghost use Rattle.std.specs.Prelude.{◌≡◌, ◌++◌, OnOk, string_bytes};
+ghost use Rattle.std.specs.Prelude.{OnOk};
+ghost use Rattle.tomex_csv_text.specs.Growth.{Appends};
 ghost use Rattle.tomex_page.specs.Charts.{chart_of, chart_start, first_steps, picture_text, chart_block, too_wide};
 ghost use Rattle.tomex_page_tables.specs.Asked.{steps_of};
 
@@ -23,8 +24,7 @@ fn push_preformatted<A: Allocator, B: Allocator>(
     heap: Global,
     excerpt: &Excerpt<B>,
 ) -> Result<(), AllocError>
-    ensures { OnOk result (string_bytes text.new
-        ≡ string_bytes text.old ++ chart_block excerpt.now) }
+    ensures { OnOk result (Appends (chart_block excerpt.now) text.old text.new) }
 {
     text.push_str("<pre>")?;
     push_picture(text, heap, excerpt)?;
@@ -34,7 +34,7 @@ fn push_preformatted<A: Allocator, B: Allocator>(
 /// Adds that the picture is too wide.
 #[tactic(auto, unfolding(crate::specs::Charts::too_wide))]
 fn push_too_wide<A: Allocator>(text: &mut String<A>) -> Result<(), AllocError>
-    ensures { OnOk result (string_bytes text.new ≡ string_bytes text.old ++ too_wide) }
+    ensures { OnOk result (Appends too_wide text.old text.new) }
 {
     text.push_str("<p>Too wide: <code>tomex pipeline</code> draws it.</p>\n")
 }
@@ -46,8 +46,7 @@ fn push_picture_text<A: Allocator, B: Allocator>(
     heap: Global,
     excerpt: &Excerpt<B>,
 ) -> Result<(), AllocError>
-    ensures { OnOk result (string_bytes text.new
-        ≡ string_bytes text.old ++ picture_text excerpt.now) }
+    ensures { OnOk result (Appends (picture_text excerpt.now) text.old text.new) }
 {
     if signs_of(excerpt) <= CHART_SIGNS {
         push_preformatted(text, heap, excerpt)
@@ -59,7 +58,7 @@ fn push_picture_text<A: Allocator, B: Allocator>(
 /// Adds the start of a chart.
 #[tactic(auto, unfolding(crate::specs::Charts::chart_start))]
 fn push_chart_start<A: Allocator>(text: &mut String<A>, name: &str) -> Result<(), AllocError>
-    ensures { OnOk result (string_bytes text.new ≡ string_bytes text.old ++ chart_start name.now) }
+    ensures { OnOk result (Appends (chart_start name.now) text.old text.new) }
 {
     write!(
         text,
@@ -75,8 +74,7 @@ fn push_chart_of<A: Allocator, B: Allocator>(
     name: &str,
     excerpt: &Excerpt<B>,
 ) -> Result<(), AllocError>
-    ensures { OnOk result (string_bytes text.new
-        ≡ string_bytes text.old ++ chart_of name.now excerpt.now) }
+    ensures { OnOk result (Appends (chart_of name.now excerpt.now) text.old text.new) }
 {
     push_chart_start(text, name)?;
     push_picture_text(text, heap, excerpt)?;
@@ -91,8 +89,8 @@ pub fn push_chart<A: Allocator, B: Allocator + Clone>(
     program: &Program<B>,
     config: &Config,
 ) -> Result<(), AllocError>
-    ensures { OnOk result (string_bytes text.new ≡ string_bytes text.old
-        ++ chart_of program.now.name (first_steps config.now (steps_of program.now))) }
+    ensures { OnOk result (
+        Appends (chart_of program.now.name (first_steps config.now (steps_of program.now))) text.old text.new) }
 {
     let excerpt = Excerpt::of_first(alloc, program, config, CHART_STEPS)?;
     push_chart_of(text, heap, program.name(), &excerpt)

@@ -1,6 +1,7 @@
 //! The part above the rows' views: the name, the picture next to what was asked, and the front.
 
-ghost use Rattle.std.specs.Prelude.{◌≡◌, ◌++◌, IfOk, OnOk, string_bytes};
+ghost use Rattle.std.specs.Prelude.{◌≡◌, IfOk, OnOk, string_bytes};
+ghost use Rattle.tomex_csv_text.specs.Growth.{Appends};
 ghost use Rattle.tomex_page.specs.Page.{all_in_picture, counts_text, left_out, overview, page_head, title_of};
 
 use crate::constants::page_css;
@@ -19,8 +20,7 @@ fn push_counts<A: Allocator>(
     front: usize,
     rows: usize,
 ) -> Result<(), AllocError>
-    ensures { OnOk result (string_bytes text.new
-        ≡ string_bytes text.old ++ counts_text front rows) }
+    ensures { OnOk result (Appends (counts_text front rows) text.old text.new) }
 {
     write!(text, ": {front} of {rows} rows are on the front")
 }
@@ -45,8 +45,7 @@ pub fn push_page_head<A: Allocator>(
     front: usize,
     rows: usize,
 ) -> Result<(), AllocError>
-    ensures { OnOk result (string_bytes text.new
-        ≡ string_bytes text.old ++ page_head name.now front rows) }
+    ensures { OnOk result (Appends (page_head name.now front rows) text.old text.new) }
 {
     let title = title_of(heap, name, front, rows)?;
     push_page_start(text, title.as_str(), page_css())?;
@@ -68,8 +67,7 @@ pub fn push_overview<A: Allocator + Clone>(
     surveyed: &Surveyed<'_, A>,
     shown: &[FrontRow],
 ) -> Result<(), AllocError>
-    ensures { OnOk result (string_bytes text.new
-        ≡ string_bytes text.old ++ overview surveyed.now shown.now) }
+    ensures { OnOk result (Appends (overview surveyed.now shown.now) text.old text.new) }
 {
     let study = surveyed.study();
     text.push_str("<div class=\"w\">")?;
@@ -83,7 +81,7 @@ pub fn push_overview<A: Allocator + Clone>(
 /// Adds that the picture has all rows of the front, and the page doesn't.
 #[tactic(auto, unfolding(crate::specs::Page::all_in_picture))]
 fn push_all_in_picture<A: Allocator>(text: &mut String<A>, front: usize) -> Result<(), AllocError>
-    ensures { OnOk result (string_bytes text.new ≡ string_bytes text.old ++ all_in_picture front) }
+    ensures { OnOk result (Appends (all_in_picture front) text.old text.new) }
 {
     write!(
         text,
@@ -95,7 +93,7 @@ them: <code>tomex front</code> has them all.</p>\n"
 /// Adds that some rows of the front aren't shown, if so.
 #[tactic(auto, unfolding(crate::specs::Page::left_out))]
 pub fn push_left_out<A: Allocator>(text: &mut String<A>, front: usize) -> Result<(), AllocError>
-    ensures { OnOk result (string_bytes text.new ≡ string_bytes text.old ++ left_out front) }
+    ensures { OnOk result (Appends (left_out front) text.old text.new) }
 {
     if front <= MOST_ROWS {
         return Ok(());

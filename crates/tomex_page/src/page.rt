@@ -1,7 +1,8 @@
 //! The page of a study.
 
-ghost use Rattle.std.specs.Prelude.{◌≡◌, ◌<◌, ◌++◌, length, All, IfOk, OnOk, string_bytes};
+ghost use Rattle.std.specs.Prelude.{◌≡◌, ◌<◌, length, All, IfOk, OnOk};
 ghost use Rattle.std.specs.List.{Contains};
+ghost use Rattle.tomex_csv_text.specs.Growth.{Appends};
 ghost use Rattle.tomex_page.specs.Page.{page_of, page_over, rows_text};
 ghost use Rattle.tomex_study.specs.StudyFront.{front_of_study};
 
@@ -27,8 +28,8 @@ fn push_rows<A: Allocator, B: Allocator + Clone>(
 ) -> Result<(), AllocError>
     requires shown { All (Contains (front_of_study surveyed.now)) shown.now }
     requires within { All (λ r. r.row < length surveyed.now.rows) shown.now }
-    ensures { OnOk result (string_bytes text.new
-        ≡ string_bytes text.old ++ rows_text surveyed.now (length (front_of_study surveyed.now)) shown.now) }
+    ensures { OnOk result (
+        Appends (rows_text surveyed.now (length (front_of_study surveyed.now)) shown.now) text.old text.new) }
 {
     let book = PriceBook::new(heap, surveyed, shown)?;
     push_left_out(text, surveyed.front().len())?;
@@ -50,8 +51,8 @@ fn push_page<A: Allocator + Clone>(
 ) -> Result<(), AllocError>
     requires shown { All (Contains (front_of_study surveyed.now)) shown.now }
     requires within { All (λ r. r.row < length surveyed.now.rows) shown.now }
-    ensures { OnOk result (string_bytes text.new ≡ string_bytes text.old
-        ++ page_over name.now surveyed.now (front_of_study surveyed.now) shown.now) }
+    ensures { OnOk result (
+        Appends (page_over name.now surveyed.now (front_of_study surveyed.now) shown.now) text.old text.new) }
 {
     let (front, rows) = (surveyed.front().len(), surveyed.rows().len());
     push_page_head(text, heap, name, front, rows)?;

@@ -1,7 +1,8 @@
 //! A program's run on a configuration: its stalls, and its chart.
 
-ghost use Rattle.std.specs.Prelude.{◌≡◌, ◌++◌, IfOk, OnOk, string_bytes};
+ghost use Rattle.std.specs.Prelude.{◌≡◌, IfOk, OnOk};
 ghost use Rattle.std.specs.List.{flat_map};
+ghost use Rattle.tomex_csv_text.specs.Growth.{Appends};
 ghost use Rattle.tomex_page.specs.Page.{run_block};
 ghost use Rattle.tomex_page.specs.Runs.{needs_on};
 
@@ -34,8 +35,7 @@ fn push_run<A: Allocator, B: Allocator + Clone>(
     config: &Config,
     program: &Program<B>,
 ) -> Result<(), AllocError>
-    ensures { OnOk result (string_bytes text.new
-        ≡ string_bytes text.old ++ run_block config.now program.now) }
+    ensures { OnOk result (Appends (run_block config.now program.now) text.old text.new) }
 {
     let needs = needs_on(alloc.clone()?, program, config)?;
     text.push_str("<div>\n")?;
@@ -52,8 +52,7 @@ pub fn push_runs<A: Allocator, B: Allocator + Clone>(
     config: &Config,
     programs: &[Program<B>],
 ) -> Result<(), AllocError>
-    ensures { OnOk result (string_bytes text.new
-        ≡ string_bytes text.old ++ flat_map (run_block config.now) programs.now) }
+    ensures { OnOk result (Appends (flat_map (run_block config.now) programs.now) text.old text.new) }
 {
     for program in programs {
         push_run(text, alloc, heap, config, program)?;

@@ -1,7 +1,7 @@
 //! The views of the rows that are shown.
 
-ghost use Rattle.std.specs.Prelude.{◌≡◌, ◌<◌, ◌++◌, length, option_map, slice_index_or, All, None, OnOk};
-ghost use Rattle.std.specs.Prelude.{string_bytes};
+ghost use Rattle.std.specs.Prelude.{◌≡◌, ◌<◌, length, option_map, slice_index_or, All, None, OnOk};
+ghost use Rattle.tomex_csv_text.specs.Growth.{Appends};
 ghost use Rattle.tomex_page.specs.Page.{number_before, row_section, row_sections, section_head, section_runs};
 ghost use Rattle.tomex_page.specs.Page.{section_start};
 ghost use Rattle.tomex_page.specs.Page.{section_tables, view_of};
@@ -31,7 +31,7 @@ pub struct View {
 /// Adds the start of a row's view.
 #[tactic(auto, unfolding(crate::specs::Page::section_start))]
 fn push_start<A: Allocator>(text: &mut String<A>, row: FrontRow) -> Result<(), AllocError>
-    ensures { OnOk result (string_bytes text.new ≡ string_bytes text.old ++ section_start row) }
+    ensures { OnOk result (Appends (section_start row) text.old text.new) }
 {
     let FrontRow { row, cost, cycles } = row;
     write!(
@@ -72,8 +72,7 @@ fn push_head<A: Allocator>(
     view: &View,
 ) -> Result<(), AllocError>
     requires { 0 < length shown.now }
-    ensures { OnOk result (string_bytes text.new
-        ≡ string_bytes text.old ++ section_head shown.now view.now) }
+    ensures { OnOk result (Appends (section_head shown.now view.now) text.old text.new) }
 {
     push_start(text, view.here.row)?;
     push_links(text, links_of(shown, view))?;
@@ -95,8 +94,7 @@ fn push_tables<A: Allocator, B: Allocator>(
     requires place { place < length shown.now }
     requires within { All (λ r. r.row < length surveyed.now.rows) shown.now }
     requires here { view.now.here.row ≡ slice_index_or shown.now place no_row }
-    ensures { OnOk result (string_bytes text.new
-        ≡ string_bytes text.old ++ section_tables surveyed.now shown.now view.now) }
+    ensures { OnOk result (Appends (section_tables surveyed.now shown.now view.now) text.old text.new) }
 {
     push_against(text, &view.before, &view.here)?;
     push_parts_table(text, &surveyed.study().prices(), &view.before, &view.here)?;
@@ -113,8 +111,7 @@ fn push_section_runs<A: Allocator, B: Allocator + Clone>(
     study: &Study<B>,
     config: &Config,
 ) -> Result<(), AllocError>
-    ensures { OnOk result (string_bytes text.new
-        ≡ string_bytes text.old ++ section_runs study.now config.now) }
+    ensures { OnOk result (Appends (section_runs study.now config.now) text.old text.new) }
 {
     text.push_str("<div class=\"l\">\n")?;
     push_runs(text, alloc, heap, config, study.programs())?;
@@ -137,8 +134,7 @@ fn push_section<A: Allocator, B: Allocator + Clone>(
     requires place { place < length shown.now }
     requires within { All (λ r. r.row < length surveyed.now.rows) shown.now }
     requires here { view.now.here.row ≡ slice_index_or shown.now place no_row }
-    ensures { OnOk result (string_bytes text.new
-        ≡ string_bytes text.old ++ row_section surveyed.now shown.now view.now) }
+    ensures { OnOk result (Appends (row_section surveyed.now shown.now view.now) text.old text.new) }
 {
     push_head(text, shown, view)?;
     push_tables(text, heap, surveyed, book, shown, place, view)?;
@@ -156,8 +152,7 @@ pub fn push_sections<A: Allocator, B: Allocator + Clone>(
 ) -> Result<(), AllocError>
     requires book { AreFound surveyed.now shown.now book.now }
     requires within { All (λ r. r.row < length surveyed.now.rows) shown.now }
-    ensures { OnOk result (string_bytes text.new
-        ≡ string_bytes text.old ++ row_sections surveyed.now shown.now None shown.now) }
+    ensures { OnOk result (Appends (row_sections surveyed.now shown.now None shown.now) text.old text.new) }
 {
     let study = surveyed.study();
     let mut before = None;

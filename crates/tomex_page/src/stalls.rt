@@ -1,7 +1,8 @@
 //! A run's stalls, with bars.
 
-ghost use Rattle.std.specs.Prelude.{◌≡◌, ◌++◌, IfOk, OnOk, string_bytes};
+ghost use Rattle.std.specs.Prelude.{◌≡◌, IfOk, OnOk, string_bytes};
 ghost use Rattle.std.specs.List.{flat_map};
+ghost use Rattle.tomex_csv_text.specs.Growth.{Appends};
 ghost use Rattle.tomex_html.specs.Tables.{row_start};
 ghost use Rattle.tomex_page.specs.Stalls.{after_issue, bar, before_issue, cause_cells, cause_row, cycle_cells};
 ghost use Rattle.tomex_page.specs.Stalls.{bar_cell, group, part_cells};
@@ -52,7 +53,7 @@ fn unit_parts() -> &'static [Part]
 /// Adds the heading of a group of lines.
 #[tactic(auto, unfolding(crate::specs::Stalls::group))]
 fn push_group<A: Allocator>(text: &mut String<A>, words: &str) -> Result<(), AllocError>
-    ensures { OnOk result (string_bytes text.new ≡ string_bytes text.old ++ group words.now) }
+    ensures { OnOk result (Appends (group words.now) text.old text.new) }
 {
     write!(
         text,
@@ -73,7 +74,7 @@ fn share(cycles: u64, total: u64) -> u64
 /// Adds a cell with a bar of this percentage of the cell's width.
 #[tactic(auto, unfolding(crate::specs::Stalls::bar_cell))]
 fn push_filled<A: Allocator>(text: &mut String<A>, percent: u64) -> Result<(), AllocError>
-    ensures { OnOk result (string_bytes text.new ≡ string_bytes text.old ++ bar_cell percent) }
+    ensures { OnOk result (Appends (bar_cell percent) text.old text.new) }
 {
     write!(text, "<td><i style=\"width:{percent}%\"></i></td>")
 }
@@ -81,7 +82,7 @@ fn push_filled<A: Allocator>(text: &mut String<A>, percent: u64) -> Result<(), A
 /// Adds a cell with a bar, as long as the cycles' share of all.
 #[tactic(auto, unfolding(crate::specs::Stalls::bar))]
 fn push_bar<A: Allocator>(text: &mut String<A>, cycles: u64, total: u64) -> Result<(), AllocError>
-    ensures { OnOk result (string_bytes text.new ≡ string_bytes text.old ++ bar cycles total) }
+    ensures { OnOk result (Appends (bar cycles total) text.old text.new) }
 {
     if cycles == 0 {
         push_empty(text)
@@ -96,8 +97,7 @@ fn push_cycles<A: Allocator>(
     cycles: u64,
     total: u64,
 ) -> Result<(), AllocError>
-    ensures { OnOk result (string_bytes text.new
-        ≡ string_bytes text.old ++ cycle_cells cycles total) }
+    ensures { OnOk result (Appends (cycle_cells cycles total) text.old text.new) }
 {
     push_number(text, cycles)?;
     push_bar(text, cycles, total)
@@ -109,8 +109,7 @@ fn push_cause_cells<A: Allocator>(
     needs: &Needs,
     cycles: u64,
 ) -> Result<(), AllocError>
-    ensures { OnOk result (string_bytes text.new
-        ≡ string_bytes text.old ++ cause_cells needs.now cycles) }
+    ensures { OnOk result (Appends (cause_cells needs.now cycles) text.old text.new) }
 {
     push_empty(text)?;
     push_empty(text)?;
@@ -125,8 +124,7 @@ fn push_cause<A: Allocator>(
     name: &str,
     cycles: u64,
 ) -> Result<(), AllocError>
-    ensures { OnOk result (string_bytes text.new
-        ≡ string_bytes text.old ++ cause_row needs.now name.now cycles) }
+    ensures { OnOk result (Appends (cause_row needs.now name.now cycles) text.old text.new) }
 {
     push_row_start(text, name)?;
     push_cause_cells(text, needs, cycles)?;
@@ -136,8 +134,7 @@ fn push_cause<A: Allocator>(
 /// Adds the start of a part's line.
 #[tactic(auto, unfolding(tomex_html::specs::Tables::row_start))]
 fn push_part_start<A: Allocator>(text: &mut String<A>, part: Part) -> Result<(), AllocError>
-    ensures { OnOk result (string_bytes text.new
-        ≡ string_bytes text.old ++ row_start (name_of_part part)) }
+    ensures { OnOk result (Appends (row_start (name_of_part part)) text.old text.new) }
 {
     text.push_str("<tr><th scope=\"row\">")?;
     push_name_of_part(text, part)?;
@@ -151,8 +148,7 @@ fn push_part_cells<A: Allocator>(
     needs: &Needs,
     part: Part,
 ) -> Result<(), AllocError>
-    ensures { OnOk result (string_bytes text.new
-        ≡ string_bytes text.old ++ part_cells config.now needs.now part) }
+    ensures { OnOk result (Appends (part_cells config.now needs.now part) text.old text.new) }
 {
     let need = needs.need(part);
     push_number(text, part.count(config))?;
@@ -167,8 +163,7 @@ fn push_part<A: Allocator>(
     needs: &Needs,
     part: Part,
 ) -> Result<(), AllocError>
-    ensures { OnOk result (string_bytes text.new
-        ≡ string_bytes text.old ++ stall_row config.now needs.now part) }
+    ensures { OnOk result (Appends (stall_row config.now needs.now part) text.old text.new) }
 {
     push_part_start(text, part)?;
     push_part_cells(text, config, needs, part)?;
@@ -181,8 +176,7 @@ fn push_parts<A: Allocator>(
     needs: &Needs,
     parts: &[Part],
 ) -> Result<(), AllocError>
-    ensures { OnOk result (string_bytes text.new
-        ≡ string_bytes text.old ++ flat_map (stall_row config.now needs.now) parts.now) }
+    ensures { OnOk result (Appends (flat_map (stall_row config.now needs.now) parts.now) text.old text.new) }
 {
     for part in parts {
         push_part(text, config, needs, *part)?;
@@ -197,8 +191,7 @@ fn push_before_issue<A: Allocator>(
     config: &Config,
     needs: &Needs,
 ) -> Result<(), AllocError>
-    ensures { OnOk result (string_bytes text.new
-        ≡ string_bytes text.old ++ before_issue config.now needs.now) }
+    ensures { OnOk result (Appends (before_issue config.now needs.now) text.old text.new) }
 {
     push_group(text, "Before an issue: these and 1 add up to all cycles")?;
     push_cause(text, needs, "branch", needs.branch)?;
@@ -214,8 +207,7 @@ fn push_after_issue<A: Allocator>(
     config: &Config,
     needs: &Needs,
 ) -> Result<(), AllocError>
-    ensures { OnOk result (string_bytes text.new
-        ≡ string_bytes text.old ++ after_issue config.now needs.now) }
+    ensures { OnOk result (Appends (after_issue config.now needs.now) text.old text.new) }
 {
     push_group(text, "After it: of all instructions together")?;
     push_cause(text, needs, "operand", needs.operand)?;
@@ -242,8 +234,7 @@ pub fn push_stalls_table<A: Allocator>(
     needs: &Needs,
     name: &str,
 ) -> Result<(), AllocError>
-    ensures { OnOk result (string_bytes text.new
-        ≡ string_bytes text.old ++ stalls_table config.now needs.now name.now) }
+    ensures { OnOk result (Appends (stalls_table config.now needs.now name.now) text.old text.new) }
 {
     let caption = caption(heap, name, needs.total)?;
     let names = ["Stalls", "Count", "Peak", "Cycles", "of all cycles"];

@@ -1,7 +1,8 @@
 //! The gain from changing one part.
 
-ghost use Rattle.std.specs.Prelude.{◌≡◌, ◌<◌, ◌++◌, length, All, OnOk, string_bytes};
+ghost use Rattle.std.specs.Prelude.{◌<◌, ◌++◌, length, All, OnOk};
 ghost use Rattle.std.specs.List.{flat_map};
+ghost use Rattle.tomex_csv_text.specs.Growth.{Appends};
 ghost use Rattle.tomex_html.specs.Html.{td};
 ghost use Rattle.tomex_page_rows.specs.Changed.{change_row, changes_table, gain_cells, row_text, to_cells};
 ghost use Rattle.tomex_worth.specs.Worth.{rate_text};
@@ -25,8 +26,7 @@ fn push_row_text<A: Allocator>(
     shown: &[FrontRow],
     row: usize,
 ) -> Result<(), AllocError>
-    ensures { OnOk result (string_bytes text.new
-        ≡ string_bytes text.old ++ row_text shown.now row) }
+    ensures { OnOk result (Appends (row_text shown.now row) text.old text.new) }
 {
     if is_shown(shown, row) {
         push_row_link(text, row)
@@ -41,8 +41,7 @@ fn push_row_cell<A: Allocator>(
     shown: &[FrontRow],
     row: usize,
 ) -> Result<(), AllocError>
-    ensures { OnOk result (string_bytes text.new
-        ≡ string_bytes text.old ++ td (row_text shown.now row)) }
+    ensures { OnOk result (Appends (td (row_text shown.now row)) text.old text.new) }
 {
     text.push_str("<td>")?;
     push_row_text(text, shown, row)?;
@@ -55,8 +54,7 @@ fn push_rate_cell<A: Allocator>(
     own: FrontRow,
     other: FrontRow,
 ) -> Result<(), AllocError>
-    ensures { OnOk result (string_bytes text.new
-        ≡ string_bytes text.old ++ td (rate_text own other)) }
+    ensures { OnOk result (Appends (td (rate_text own other)) text.old text.new) }
 {
     text.push_str("<td>")?;
     push_rate(text, own, other)?;
@@ -72,8 +70,7 @@ fn push_to_cells<A: Allocator, B: Allocator>(
     change: Change,
 ) -> Result<(), AllocError>
     requires { change.row.row < length surveyed.now.rows }
-    ensures { OnOk result (string_bytes text.new
-        ≡ string_bytes text.old ++ to_cells surveyed.now shown.now change) }
+    ensures { OnOk result (Appends (to_cells surveyed.now shown.now change) text.old text.new) }
 {
     let number = change.row.row;
     push_entry_cell(text, false, surveyed.config(number), change.part)?;
@@ -87,8 +84,7 @@ fn push_gain_cells<A: Allocator>(
     own: FrontRow,
     other: FrontRow,
 ) -> Result<(), AllocError>
-    ensures { OnOk result (string_bytes text.new
-        ≡ string_bytes text.old ++ gain_cells own other) }
+    ensures { OnOk result (Appends (gain_cells own other) text.old text.new) }
 {
     push_signed_cell(text, own.cost, other.cost)?;
     push_signed_cell(text, own.cycles, other.cycles)?;
@@ -105,8 +101,8 @@ fn push_change_cells<A: Allocator, B: Allocator>(
     change: Change,
 ) -> Result<(), AllocError>
     requires { change.row.row < length surveyed.now.rows }
-    ensures { OnOk result (string_bytes text.new ≡ string_bytes text.old
-        ++ (to_cells surveyed.now shown.now change ++ gain_cells own change.row)) }
+    ensures { OnOk result (
+        Appends (to_cells surveyed.now shown.now change ++ gain_cells own change.row) text.old text.new) }
 {
     push_to_cells(text, surveyed, shown, change)?;
     push_gain_cells(text, own, change.row)
@@ -121,8 +117,7 @@ fn push_change_row<A: Allocator, B: Allocator>(
     change: Change,
 ) -> Result<(), AllocError>
     requires { change.row.row < length surveyed.now.rows }
-    ensures { OnOk result (string_bytes text.new
-        ≡ string_bytes text.old ++ change_row surveyed.now shown.now own change) }
+    ensures { OnOk result (Appends (change_row surveyed.now shown.now own change) text.old text.new) }
 {
     push_list_start(text, change.part)?;
     push_change_cells(text, surveyed, shown, own, change)?;
@@ -137,8 +132,7 @@ fn push_change_rows<A: Allocator, B: Allocator>(
     changes: &[Change],
 ) -> Result<(), AllocError>
     requires { All (λ c. c.row.row < length surveyed.now.rows) changes.now }
-    ensures { OnOk result (string_bytes text.new ≡ string_bytes text.old
-        ++ flat_map (change_row surveyed.now shown.now own) changes.now) }
+    ensures { OnOk result (Appends (flat_map (change_row surveyed.now shown.now own) changes.now) text.old text.new) }
 {
     for change in changes {
         push_change_row(text, surveyed, shown, own, *change)?;
@@ -156,8 +150,7 @@ pub fn push_changes_table<A: Allocator, B: Allocator>(
     own: FrontRow,
 ) -> Result<(), AllocError>
     requires { own.row < length surveyed.now.rows }
-    ensures { OnOk result (string_bytes text.new
-        ≡ string_bytes text.old ++ changes_table surveyed.now shown.now own) }
+    ensures { OnOk result (Appends (changes_table surveyed.now shown.now own) text.old text.new) }
 {
     let changes = changes_of(heap, surveyed, own)?;
     let lines = changes.as_slice();

@@ -1,7 +1,8 @@
 //! A row's parts, and its differences from the row before.
 
-ghost use Rattle.std.specs.Prelude.{◌≡◌, ◌++◌, OnOk, string_bytes};
+ghost use Rattle.std.specs.Prelude.{◌≡◌, OnOk};
 ghost use Rattle.std.specs.List.{flat_map};
+ghost use Rattle.tomex_csv_text.specs.Growth.{Appends};
 ghost use Rattle.tomex_html.specs.Html.{cell, td};
 ghost use Rattle.tomex_page_rows.specs.Parts.{against, against_start, against_text, cheapest, cost_row, has_other};
 ghost use Rattle.tomex_page_rows.specs.Parts.{part_cells, part_row, parts_table, was_text};
@@ -18,7 +19,7 @@ use tomex_worth::{push_entry, push_percent, push_signed, same_entry};
 /// Adds the start of the differences, up to that of cost.
 #[tactic(auto, unfolding(crate::specs::Parts::against_start))]
 fn push_against_start<A: Allocator>(text: &mut String<A>, row: usize) -> Result<(), AllocError>
-    ensures { OnOk result (string_bytes text.new ≡ string_bytes text.old ++ against_start row) }
+    ensures { OnOk result (Appends (against_start row) text.old text.new) }
 {
     write!(text, "<p>Against row {row}: cost ")
 }
@@ -30,8 +31,7 @@ fn push_differences<A: Allocator>(
     before: &ShownRow,
     row: &ShownRow,
 ) -> Result<(), AllocError>
-    ensures { OnOk result (string_bytes text.new
-        ≡ string_bytes text.old ++ against_text before.now row.now) }
+    ensures { OnOk result (Appends (against_text before.now row.now) text.old text.new) }
 {
     push_against_start(text, before.row.row)?;
     push_signed(text, before.row.cost, row.row.cost)?;
@@ -45,7 +45,7 @@ fn push_differences<A: Allocator>(
 /// Adds that there is no row before.
 #[tactic(auto, unfolding(crate::specs::Parts::cheapest))]
 fn push_cheapest<A: Allocator>(text: &mut String<A>) -> Result<(), AllocError>
-    ensures { OnOk result (string_bytes text.new ≡ string_bytes text.old ++ cheapest) }
+    ensures { OnOk result (Appends cheapest text.old text.new) }
 {
     text.push_str("<p>The cheapest row of the front.</p>\n")
 }
@@ -56,8 +56,7 @@ pub fn push_against<A: Allocator>(
     before: &Option<ShownRow>,
     row: &ShownRow,
 ) -> Result<(), AllocError>
-    ensures { OnOk result (string_bytes text.new
-        ≡ string_bytes text.old ++ against before.now row.now) }
+    ensures { OnOk result (Appends (against before.now row.now) text.old text.new) }
 {
     match before {
         Some(before) => push_differences(text, before, row),
@@ -82,8 +81,7 @@ pub fn push_entry_cell<A: Allocator>(
     config: &Config,
     part: Part,
 ) -> Result<(), AllocError>
-    ensures { OnOk result (string_bytes text.new
-        ≡ string_bytes text.old ++ cell new (entry_text config.now part)) }
+    ensures { OnOk result (Appends (cell new (entry_text config.now part)) text.old text.new) }
 {
     text.push_str(cell_start(new))?;
     push_entry(text, config, part)?;
@@ -97,8 +95,7 @@ fn push_was<A: Allocator>(
     row: &ShownRow,
     part: Part,
 ) -> Result<(), AllocError>
-    ensures { OnOk result (string_bytes text.new
-        ≡ string_bytes text.old ++ td (was_text before.now row.now part)) }
+    ensures { OnOk result (Appends (td (was_text before.now row.now part)) text.old text.new) }
 {
     match before {
         Some(before) => {
@@ -121,8 +118,7 @@ fn push_part_cells<A: Allocator>(
     row: &ShownRow,
     part: Part,
 ) -> Result<(), AllocError>
-    ensures { OnOk result (string_bytes text.new
-        ≡ string_bytes text.old ++ part_cells prices.now before.now row.now part) }
+    ensures { OnOk result (Appends (part_cells prices.now before.now row.now part) text.old text.new) }
 {
     push_was(text, before, row, part)?;
     push_entry_cell(text, has_other(before, row, part), &row.config, part)?;
@@ -137,8 +133,7 @@ fn push_part_row<A: Allocator>(
     row: &ShownRow,
     part: Part,
 ) -> Result<(), AllocError>
-    ensures { OnOk result (string_bytes text.new
-        ≡ string_bytes text.old ++ part_row prices.now before.now row.now part) }
+    ensures { OnOk result (Appends (part_row prices.now before.now row.now part) text.old text.new) }
 {
     push_list_start(text, part)?;
     push_part_cells(text, prices, before, row, part)?;
@@ -152,8 +147,7 @@ fn push_part_rows<A: Allocator>(
     row: &ShownRow,
     parts: &[Part],
 ) -> Result<(), AllocError>
-    ensures { OnOk result (string_bytes text.new
-        ≡ string_bytes text.old ++ flat_map (part_row prices.now before.now row.now) parts.now) }
+    ensures { OnOk result (Appends (flat_map (part_row prices.now before.now row.now) parts.now) text.old text.new) }
 {
     for part in parts {
         push_part_row(text, prices, before, row, *part)?;
@@ -164,7 +158,7 @@ fn push_part_rows<A: Allocator>(
 /// Adds the line of the cost of all parts.
 #[tactic(auto, unfolding(crate::specs::Parts::cost_row))]
 fn push_cost_row<A: Allocator>(text: &mut String<A>, cost: u64) -> Result<(), AllocError>
-    ensures { OnOk result (string_bytes text.new ≡ string_bytes text.old ++ cost_row cost) }
+    ensures { OnOk result (Appends (cost_row cost) text.old text.new) }
 {
     write!(
         text,
@@ -180,8 +174,7 @@ pub fn push_parts_table<A: Allocator>(
     before: &Option<ShownRow>,
     row: &ShownRow,
 ) -> Result<(), AllocError>
-    ensures { OnOk result (string_bytes text.new
-        ≡ string_bytes text.old ++ parts_table prices.now before.now row.now) }
+    ensures { OnOk result (Appends (parts_table prices.now before.now row.now) text.old text.new) }
 {
     let names = ["Part", "Was", "Has", "Costs"];
     push_table_head(text, " class=\"a\"", "Its parts", &names)?;

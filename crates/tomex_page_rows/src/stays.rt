@@ -1,6 +1,7 @@
 //! The prices with which a row stays on the front.
 
-ghost use Rattle.std.specs.Prelude.{◌≡◌, ◌<◌, ◌++◌, length, map, slice_index_or, All, IfOk, OnOk, string_bytes};
+ghost use Rattle.std.specs.Prelude.{◌≡◌, ◌<◌, ◌++◌, length, map, slice_index_or, All, IfOk, OnOk};
+ghost use Rattle.tomex_csv_text.specs.Growth.{Appends};
 ghost use Rattle.tomex_page_tables.specs.Shown.{no_row};
 ghost use Rattle.std.specs.List.{Contains, flat_map};
 ghost use Rattle.tomex_page_rows.specs.Stays.{AreFound, off_text, prices_table, range_row, range_row_at, ranges_of};
@@ -143,15 +144,14 @@ impl PriceBook {
 /// Adds the start of a row for a price.
 #[tactic(auto, unfolding(tomex_html::specs::Tables::row_start))]
 fn push_price_start<A: Allocator>(text: &mut String<A>, price: Price) -> Result<(), AllocError>
-    ensures { OnOk result (string_bytes text.new
-        ≡ string_bytes text.old ++ row_start (name_of_price price)) }
+    ensures { OnOk result (Appends (row_start (name_of_price price)) text.old text.new) }
 {
     write!(text, "<tr><th scope=\"row\">{price}</th>")
 }
 
 /// Adds a cell with a range of prices.
 fn push_range_cell<A: Allocator>(text: &mut String<A>, range: PriceRange) -> Result<(), AllocError>
-    ensures { OnOk result (string_bytes text.new ≡ string_bytes text.old ++ td (range_text range)) }
+    ensures { OnOk result (Appends (td (range_text range)) text.old text.new) }
 {
     write!(text, "<td>{range}</td>")
 }
@@ -162,8 +162,7 @@ fn push_range_cells<A: Allocator>(
     now: u64,
     range: PriceRange,
 ) -> Result<(), AllocError>
-    ensures { OnOk result (string_bytes text.new
-        ≡ string_bytes text.old ++ (number_cell now ++ td (range_text range))) }
+    ensures { OnOk result (Appends (number_cell now ++ td (range_text range)) text.old text.new) }
 {
     push_number(text, now)?;
     push_range_cell(text, range)
@@ -176,8 +175,7 @@ fn push_range_row<A: Allocator>(
     now: u64,
     range: PriceRange,
 ) -> Result<(), AllocError>
-    ensures { OnOk result (string_bytes text.new
-        ≡ string_bytes text.old ++ range_row price now range) }
+    ensures { OnOk result (Appends (range_row price now range) text.old text.new) }
 {
     push_price_start(text, price)?;
     push_range_cells(text, now, range)?;
@@ -192,8 +190,7 @@ fn push_range_row_at<A: Allocator>(
     ranges: &Ranges,
 ) -> Result<(), AllocError>
     requires { place < length ranges.now.ranges }
-    ensures { OnOk result (string_bytes text.new
-        ≡ string_bytes text.old ++ range_row_at place ranges.now) }
+    ensures { OnOk result (Appends (range_row_at place ranges.now) text.old text.new) }
 {
     push_range_row(text, ranges.price, ranges.stated, ranges.ranges[place])
 }
@@ -204,8 +201,7 @@ fn push_range_rows<A: Allocator>(
     all: &[Ranges],
 ) -> Result<(), AllocError>
     requires { All (λ r. place < length r.ranges) all.now }
-    ensures { OnOk result (string_bytes text.new
-        ≡ string_bytes text.old ++ flat_map (range_row_at place) all.now) }
+    ensures { OnOk result (Appends (flat_map (range_row_at place) all.now) text.old text.new) }
 {
     for ranges in all {
         push_range_row_at(text, place, ranges)?;
@@ -216,7 +212,7 @@ fn push_range_rows<A: Allocator>(
 /// Adds by how many percent all prices may be off.
 #[tactic(auto, unfolding(crate::specs::Stays::up_to))]
 fn push_up_to<A: Allocator>(text: &mut String<A>, percent: u64) -> Result<(), AllocError>
-    ensures { OnOk result (string_bytes text.new ≡ string_bytes text.old ++ up_to percent) }
+    ensures { OnOk result (Appends (up_to percent) text.old text.new) }
 {
     write!(
         text,
@@ -227,7 +223,7 @@ fn push_up_to<A: Allocator>(text: &mut String<A>, percent: u64) -> Result<(), Al
 /// Adds that prices don't matter.
 #[tactic(auto, unfolding(crate::specs::Stays::whatever))]
 fn push_whatever<A: Allocator>(text: &mut String<A>) -> Result<(), AllocError>
-    ensures { OnOk result (string_bytes text.new ≡ string_bytes text.old ++ whatever) }
+    ensures { OnOk result (Appends whatever text.old text.new) }
 {
     text.push_str("<p>It stays whatever the prices are.</p></div>\n")
 }
@@ -235,7 +231,7 @@ fn push_whatever<A: Allocator>(text: &mut String<A>) -> Result<(), AllocError>
 /// Adds by how many percent all prices may be off at once.
 #[tactic(auto, unfolding(crate::specs::Stays::off_text))]
 fn push_off<A: Allocator>(text: &mut String<A>, percent: u64) -> Result<(), AllocError>
-    ensures { OnOk result (string_bytes text.new ≡ string_bytes text.old ++ off_text percent) }
+    ensures { OnOk result (Appends (off_text percent) text.old text.new) }
 {
     if percent < 100 {
         push_up_to(text, percent)
@@ -258,8 +254,8 @@ pub fn push_prices_table<A: Allocator, B: Allocator>(
     requires book { AreFound surveyed.now shown.now book.now }
     requires place { place < length shown.now }
     requires within { All (λ r. r.row < length surveyed.now.rows) shown.now }
-    ensures { OnOk result (string_bytes text.new ≡ string_bytes text.old
-        ++ prices_table surveyed.now (slice_index_or shown.now place no_row)) }
+    ensures { OnOk result (
+        Appends (prices_table surveyed.now (slice_index_or shown.now place no_row)) text.old text.new) }
 {
     let names = ["Price", "Now", "Stays"];
     text.push_str("<div>")?;

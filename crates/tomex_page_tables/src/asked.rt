@@ -1,7 +1,8 @@
 //! What was asked: the programs, and the lists of parts with their prices.
 
-ghost use Rattle.std.specs.Prelude.{◌≡◌, ◌++◌, length, OnOk, string_bytes};
+ghost use Rattle.std.specs.Prelude.{◌≡◌, ◌++◌, length, OnOk};
 ghost use Rattle.std.specs.List.{flat_map};
+ghost use Rattle.tomex_csv_text.specs.Growth.{Appends};
 ghost use Rattle.tomex_html.specs.Html.{td};
 ghost use Rattle.tomex_page_tables.specs.Asked.{end_text, list_cells, list_row, lists_table, program_row};
 ghost use Rattle.tomex_page_tables.specs.Asked.{programs_table};
@@ -20,8 +21,7 @@ use tomex_worth::push_name_of_list;
 
 /// Adds a cell with the last step's instruction, which ends the run.
 fn push_end<A: Allocator>(text: &mut String<A>, steps: &[Step]) -> Result<(), AllocError>
-    ensures { OnOk result (string_bytes text.new
-        ≡ string_bytes text.old ++ td (end_text steps.now)) }
+    ensures { OnOk result (Appends (td (end_text steps.now)) text.old text.new) }
 {
     match steps.last() {
         Some(step) => {
@@ -38,8 +38,8 @@ fn push_program_cells<A: Allocator>(
     steps: &[Step],
     weight: u32,
 ) -> Result<(), AllocError>
-    ensures { OnOk result (string_bytes text.new ≡ string_bytes text.old
-        ++ (number_cell (length steps.now) ++ (td (end_text steps.now) ++ number_cell weight))) }
+    ensures { OnOk result (
+        Appends (number_cell (length steps.now) ++ (td (end_text steps.now) ++ number_cell weight)) text.old text.new) }
 {
     push_number(text, steps.len() as u64)?;
     push_end(text, steps)?;
@@ -51,8 +51,7 @@ fn push_program_row<A: Allocator, B: Allocator>(
     text: &mut String<A>,
     program: &Program<B>,
 ) -> Result<(), AllocError>
-    ensures { OnOk result (string_bytes text.new
-        ≡ string_bytes text.old ++ program_row program.now) }
+    ensures { OnOk result (Appends (program_row program.now) text.old text.new) }
 {
     push_row_start(text, program.name())?;
     push_program_cells(text, program.steps(), program.weight())?;
@@ -63,8 +62,7 @@ fn push_program_rows<A: Allocator, B: Allocator>(
     text: &mut String<A>,
     programs: &[Program<B>],
 ) -> Result<(), AllocError>
-    ensures { OnOk result (string_bytes text.new
-        ≡ string_bytes text.old ++ flat_map program_row programs.now) }
+    ensures { OnOk result (Appends (flat_map program_row programs.now) text.old text.new) }
 {
     for program in programs {
         push_program_row(text, program)?;
@@ -78,8 +76,7 @@ pub fn push_programs_table<A: Allocator, B: Allocator>(
     text: &mut String<A>,
     study: &Study<B>,
 ) -> Result<(), AllocError>
-    ensures { OnOk result (string_bytes text.new
-        ≡ string_bytes text.old ++ programs_table study.now) }
+    ensures { OnOk result (Appends (programs_table study.now) text.old text.new) }
 {
     let names = ["Name", "Instructions", "End", "Weight"];
     push_table_head(text, " class=\"a\"", "Programs", &names)?;
@@ -90,8 +87,7 @@ pub fn push_programs_table<A: Allocator, B: Allocator>(
 /// Adds the start of a row for a part's list.
 #[tactic(auto, unfolding(tomex_html::specs::Tables::row_start))]
 pub fn push_list_start<A: Allocator>(text: &mut String<A>, part: Part) -> Result<(), AllocError>
-    ensures { OnOk result (string_bytes text.new
-        ≡ string_bytes text.old ++ row_start (name_of_list part)) }
+    ensures { OnOk result (Appends (row_start (name_of_list part)) text.old text.new) }
 {
     text.push_str("<tr><th scope=\"row\">")?;
     push_name_of_list(text, part)?;
@@ -105,8 +101,7 @@ fn push_list_cells<A: Allocator, B: Allocator>(
     study: &Study<B>,
     part: Part,
 ) -> Result<(), AllocError>
-    ensures { OnOk result (string_bytes text.new
-        ≡ string_bytes text.old ++ list_cells study.now part) }
+    ensures { OnOk result (Appends (list_cells study.now part) text.old text.new) }
 {
     text.push_str("<td>")?;
     push_entries(text, heap, study, Facet::Choice, part)?;
@@ -122,8 +117,7 @@ fn push_list_row<A: Allocator, B: Allocator>(
     study: &Study<B>,
     part: Part,
 ) -> Result<(), AllocError>
-    ensures { OnOk result (string_bytes text.new
-        ≡ string_bytes text.old ++ list_row study.now part) }
+    ensures { OnOk result (Appends (list_row study.now part) text.old text.new) }
 {
     push_list_start(text, part)?;
     push_list_cells(text, heap, study, part)?;
@@ -136,8 +130,7 @@ fn push_list_rows<A: Allocator, B: Allocator>(
     study: &Study<B>,
     parts: &[Part],
 ) -> Result<(), AllocError>
-    ensures { OnOk result (string_bytes text.new
-        ≡ string_bytes text.old ++ flat_map (list_row study.now) parts.now) }
+    ensures { OnOk result (Appends (flat_map (list_row study.now) parts.now) text.old text.new) }
 {
     for part in parts {
         push_list_row(text, heap, study, *part)?;
@@ -159,8 +152,7 @@ pub fn push_lists_table<A: Allocator, B: Allocator>(
     heap: Global,
     study: &Study<B>,
 ) -> Result<(), AllocError>
-    ensures { OnOk result (string_bytes text.new
-        ≡ string_bytes text.old ++ lists_table study.now) }
+    ensures { OnOk result (Appends (lists_table study.now) text.old text.new) }
 {
     let names = ["Part", "Choices", "Price"];
     push_table_head(text, " class=\"x\"", "Parts, and the price of each", &names)?;

@@ -1,7 +1,8 @@
 //! The entries of a study's lists. A study has rows and no lists, so a list's entries are those of the rows.
 
-ghost use Rattle.std.specs.Prelude.{◌≡◌, ◌++◌, ◌*◌, codes, IfOk, OnOk, string_bytes};
+ghost use Rattle.std.specs.Prelude.{◌≡◌, ◌++◌, ◌*◌, codes, IfOk, OnOk};
 ghost use Rattle.std.specs.List.{flat_map, list_any};
+ghost use Rattle.tomex_csv_text.specs.Growth.{Appends};
 ghost use Rattle.tomex_page_tables.specs.Asked.{cost_of_part, entries_text, facet_text, firsts, price_of_part};
 ghost use Rattle.tomex_page_tables.specs.Asked.{prices_text};
 ghost use Rattle.tomex_page_tables.specs.Pieces.{with_commas, some};
@@ -88,8 +89,7 @@ fn push_facet<A: Allocator>(
     part: Part,
     config: &Config,
 ) -> Result<(), AllocError>
-    ensures { OnOk result (string_bytes text.new
-        ≡ string_bytes text.old ++ facet_text prices.now facet part config.now) }
+    ensures { OnOk result (Appends (facet_text prices.now facet part config.now) text.old text.new) }
 {
     match facet {
         Facet::Choice => push_entry(text, config, part),
@@ -108,8 +108,8 @@ fn push_others<A: Allocator>(
     part: Part,
     configs: &[Config],
 ) -> Result<(), AllocError>
-    ensures { OnOk result (string_bytes text.new ≡ string_bytes text.old
-        ++ flat_map (λ c. codes ", " ++ facet_text prices.now facet part c) configs.now) }
+    ensures { OnOk result (
+        Appends (flat_map (λ c. codes ", " ++ facet_text prices.now facet part c) configs.now) text.old text.new) }
 {
     for config in configs {
         text.push_str(", ")?;
@@ -126,8 +126,7 @@ fn push_joined<A: Allocator>(
     part: Part,
     configs: &[Config],
 ) -> Result<(), AllocError>
-    ensures { OnOk result (string_bytes text.new
-        ≡ string_bytes text.old ++ with_commas (facet_text prices.now facet part) configs.now) }
+    ensures { OnOk result (Appends (with_commas (facet_text prices.now facet part) configs.now) text.old text.new) }
 {
     let [first, rest @ ..] = configs else {
         return Ok(());
@@ -145,8 +144,7 @@ fn push_some<A: Allocator>(
     part: Part,
     configs: &[Config],
 ) -> Result<(), AllocError>
-    ensures { OnOk result (string_bytes text.new
-        ≡ string_bytes text.old ++ some (facet_text prices.now facet part) configs.now) }
+    ensures { OnOk result (Appends (some (facet_text prices.now facet part) configs.now) text.old text.new) }
 {
     push_joined(text, prices, facet, part, first_lines(configs))?;
     if configs.len() > MOST_LINES {
@@ -164,8 +162,7 @@ pub fn push_entries<A: Allocator, B: Allocator>(
     facet: Facet,
     part: Part,
 ) -> Result<(), AllocError>
-    ensures { OnOk result (string_bytes text.new
-        ≡ string_bytes text.old ++ entries_text study.now facet part) }
+    ensures { OnOk result (Appends (entries_text study.now facet part) text.old text.new) }
 {
     let firsts = firsts(heap, study.rows(), part)?;
     push_some(text, &study.prices(), facet, part, firsts.as_slice())
@@ -178,8 +175,7 @@ pub fn push_prices<A: Allocator, B: Allocator>(
     study: &Study<B>,
     part: Part,
 ) -> Result<(), AllocError>
-    ensures { OnOk result (string_bytes text.new
-        ≡ string_bytes text.old ++ prices_text study.now part) }
+    ensures { OnOk result (Appends (prices_text study.now part) text.old text.new) }
 {
     match part {
         Part::Units(unit) => push_entries(text, heap, study, Facet::Cost, Part::Units(unit)),

@@ -1,7 +1,8 @@
 //! The front as a table, in which a row's differences are from the row above.
 
-ghost use Rattle.std.specs.Prelude.{◌≡◌, ◌<◌, ◌++◌, length, All, None, OnOk, string_bytes};
+ghost use Rattle.std.specs.Prelude.{◌≡◌, ◌<◌, length, All, None, OnOk};
 ghost use Rattle.std.specs.Fmt.{decimal};
+ghost use Rattle.tomex_csv_text.specs.Growth.{Appends};
 ghost use Rattle.tomex_front_views.specs.LinkedPlot.{link_to};
 ghost use Rattle.tomex_html.specs.Html.{td};
 ghost use Rattle.tomex_page_tables.specs.Front.{front_cells, front_row, front_rows, front_table, more_cost};
@@ -29,7 +30,7 @@ pub fn push_signed_cell<A: Allocator>(
     a: u64,
     b: u64,
 ) -> Result<(), AllocError>
-    ensures { OnOk result (string_bytes text.new ≡ string_bytes text.old ++ td (signed_difference a b)) }
+    ensures { OnOk result (Appends (td (signed_difference a b)) text.old text.new) }
 {
     text.push_str("<td>")?;
     push_signed(text, a, b)?;
@@ -42,7 +43,7 @@ pub fn push_percent_cell<A: Allocator>(
     a: u64,
     b: u64,
 ) -> Result<(), AllocError>
-    ensures { OnOk result (string_bytes text.new ≡ string_bytes text.old ++ td (percent a b)) }
+    ensures { OnOk result (Appends (td (percent a b)) text.old text.new) }
 {
     text.push_str("<td>")?;
     push_percent(text, a, b)?;
@@ -55,8 +56,7 @@ fn push_more_cost<A: Allocator>(
     before: &Option<ShownRow>,
     row: &ShownRow,
 ) -> Result<(), AllocError>
-    ensures { OnOk result (string_bytes text.new
-        ≡ string_bytes text.old ++ td (more_cost before.now row.now)) }
+    ensures { OnOk result (Appends (td (more_cost before.now row.now)) text.old text.new) }
 {
     match before {
         Some(before) => push_signed_cell(text, before.row.cost, row.row.cost),
@@ -70,8 +70,7 @@ fn push_more_cycles<A: Allocator>(
     before: &Option<ShownRow>,
     row: &ShownRow,
 ) -> Result<(), AllocError>
-    ensures { OnOk result (string_bytes text.new
-        ≡ string_bytes text.old ++ td (more_cycles before.now row.now)) }
+    ensures { OnOk result (Appends (td (more_cycles before.now row.now)) text.old text.new) }
 {
     match before {
         Some(before) => push_signed_cell(text, before.row.cycles, row.row.cycles),
@@ -85,8 +84,7 @@ fn push_more_percent<A: Allocator>(
     before: &Option<ShownRow>,
     row: &ShownRow,
 ) -> Result<(), AllocError>
-    ensures { OnOk result (string_bytes text.new
-        ≡ string_bytes text.old ++ td (more_percent before.now row.now)) }
+    ensures { OnOk result (Appends (td (more_percent before.now row.now)) text.old text.new) }
 {
     match before {
         Some(before) => push_percent_cell(text, before.row.cycles, row.row.cycles),
@@ -101,8 +99,7 @@ fn push_own_cells<A: Allocator>(
     before: &Option<ShownRow>,
     row: &ShownRow,
 ) -> Result<(), AllocError>
-    ensures { OnOk result (string_bytes text.new
-        ≡ string_bytes text.old ++ own_cells before.now row.now) }
+    ensures { OnOk result (Appends (own_cells before.now row.now) text.old text.new) }
 {
     push_number(text, row.row.cost)?;
     push_more_cost(text, before, row)?;
@@ -114,8 +111,7 @@ fn push_own_cells<A: Allocator>(
 /// Adds a row's number as a link to the row's view.
 #[tactic(auto, unfolding(tomex_front_views::specs::LinkedPlot::link_to))]
 pub fn push_row_link<A: Allocator>(text: &mut String<A>, row: usize) -> Result<(), AllocError>
-    ensures { OnOk result (string_bytes text.new
-        ≡ string_bytes text.old ++ link_to row (decimal row)) }
+    ensures { OnOk result (Appends (link_to row (decimal row)) text.old text.new) }
 {
     push_link_start(text, row)?;
     write!(text, "{row}</a>")
@@ -123,8 +119,7 @@ pub fn push_row_link<A: Allocator>(text: &mut String<A>, row: usize) -> Result<(
 
 /// Adds the start of a row, whose head is a row's number.
 fn push_link_head<A: Allocator>(text: &mut String<A>, row: usize) -> Result<(), AllocError>
-    ensures { OnOk result (string_bytes text.new
-        ≡ string_bytes text.old ++ row_start (link_to row (decimal row))) }
+    ensures { OnOk result (Appends (row_start (link_to row (decimal row))) text.old text.new) }
 {
     text.push_str("<tr><th scope=\"row\">")?;
     push_row_link(text, row)?;
@@ -141,8 +136,7 @@ fn push_front_cells<A: Allocator, B: Allocator>(
 ) -> Result<(), AllocError>
     requires row { row.row < length surveyed.now.rows }
     requires settings { settings.now ≡ settings_of surveyed.now }
-    ensures { OnOk result (string_bytes text.new
-        ≡ string_bytes text.old ++ front_cells surveyed.now before.now (row_of surveyed.now row)) }
+    ensures { OnOk result (Appends (front_cells surveyed.now before.now (row_of surveyed.now row)) text.old text.new) }
 {
     let here = row_of(surveyed.study(), row);
     push_own_cells(text, before, &here)?;
@@ -160,8 +154,7 @@ fn push_front_row<A: Allocator, B: Allocator>(
 ) -> Result<(), AllocError>
     requires row { row.row < length surveyed.now.rows }
     requires settings { settings.now ≡ settings_of surveyed.now }
-    ensures { OnOk result (string_bytes text.new
-        ≡ string_bytes text.old ++ front_row surveyed.now before.now (row_of surveyed.now row)) }
+    ensures { OnOk result (Appends (front_row surveyed.now before.now (row_of surveyed.now row)) text.old text.new) }
 {
     push_link_head(text, row.row)?;
     push_front_cells(text, surveyed, settings, before, row)?;
@@ -176,8 +169,7 @@ fn push_front_rows<A: Allocator, B: Allocator>(
 ) -> Result<(), AllocError>
     requires within { All (λ r. r.row < length surveyed.now.rows) shown.now }
     requires settings { settings.now ≡ settings_of surveyed.now }
-    ensures { OnOk result (string_bytes text.new
-        ≡ string_bytes text.old ++ front_rows surveyed.now None shown.now) }
+    ensures { OnOk result (Appends (front_rows surveyed.now None shown.now) text.old text.new) }
 {
     let mut before = None;
     for row in shown {
@@ -196,8 +188,7 @@ pub fn push_front_table<A: Allocator, B: Allocator>(
     shown: &[FrontRow],
 ) -> Result<(), AllocError>
     requires { All (λ r. r.row < length surveyed.now.rows) shown.now }
-    ensures { OnOk result (string_bytes text.new
-        ≡ string_bytes text.old ++ front_table surveyed.now shown.now) }
+    ensures { OnOk result (Appends (front_table surveyed.now shown.now) text.old text.new) }
 {
     let settings = settings_of(heap, surveyed.study())?;
     let caption = "The front, and what each row has more than the one above";

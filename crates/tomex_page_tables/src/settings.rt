@@ -1,8 +1,9 @@
 //! What the front's table shows of each row besides its cost and cycles: the settings in which rows of the study
 //! differ, and each program's own cycles if there are several.
 
-ghost use Rattle.std.specs.Prelude.{◌≡◌, ◌<◌, ◌++◌, length, map, IfOk, OnOk, string_bytes};
+ghost use Rattle.std.specs.Prelude.{◌≡◌, ◌<◌, length, map, IfOk, OnOk};
 ghost use Rattle.std.specs.List.{flat_map};
+ghost use Rattle.tomex_csv_text.specs.Growth.{Appends};
 ghost use Rattle.tomex_front_views.specs.FrontTable.{all_settings, config_of, name_of_setting};
 ghost use Rattle.tomex_page_tables.specs.Front.{column_heads, own_programs, setting_cell, settings_of, sets_anew};
 ghost use Rattle.tomex_html.specs.Tables.{column_head};
@@ -53,8 +54,7 @@ fn push_setting_cell<A: Allocator>(
     row: &ShownRow,
     setting: Setting,
 ) -> Result<(), AllocError>
-    ensures { OnOk result (string_bytes text.new
-        ≡ string_bytes text.old ++ setting_cell before.now row.now setting) }
+    ensures { OnOk result (Appends (setting_cell before.now row.now setting) text.old text.new) }
 {
     let start = cell_start(sets_anew(before, row, setting));
     let value = setting.of(&row.config);
@@ -68,8 +68,7 @@ pub fn push_setting_cells<A: Allocator>(
     row: &ShownRow,
     settings: &[Setting],
 ) -> Result<(), AllocError>
-    ensures { OnOk result (string_bytes text.new
-        ≡ string_bytes text.old ++ flat_map (setting_cell before.now row.now) settings.now) }
+    ensures { OnOk result (Appends (flat_map (setting_cell before.now row.now) settings.now) text.old text.new) }
 {
     for setting in settings {
         push_setting_cell(text, before, row, *setting)?;
@@ -104,8 +103,7 @@ pub fn own_totals<'s, A: Allocator>(surveyed: &'s Surveyed<'_, A>, row: usize) -
 /// Adds the name of a setting's column.
 #[tactic(auto, unfolding(tomex_html::specs::Tables::column_head))]
 fn push_setting_head<A: Allocator>(text: &mut String<A>, setting: Setting) -> Result<(), AllocError>
-    ensures { OnOk result (string_bytes text.new
-        ≡ string_bytes text.old ++ column_head (name_of_setting setting)) }
+    ensures { OnOk result (Appends (column_head (name_of_setting setting)) text.old text.new) }
 {
     text.push_str("<th scope=\"col\">")?;
     setting.push_name(text)?;
@@ -117,8 +115,8 @@ fn push_setting_heads<A: Allocator>(
     text: &mut String<A>,
     settings: &[Setting],
 ) -> Result<(), AllocError>
-    ensures { OnOk result (string_bytes text.new ≡ string_bytes text.old
-        ++ flat_map (λ setting. column_head (name_of_setting setting)) settings.now) }
+    ensures { OnOk result (
+        Appends (flat_map (λ setting. column_head (name_of_setting setting)) settings.now) text.old text.new) }
 {
     for setting in settings {
         push_setting_head(text, *setting)?;
@@ -131,8 +129,7 @@ fn push_program_heads<A: Allocator, B: Allocator>(
     text: &mut String<A>,
     programs: &[Program<B>],
 ) -> Result<(), AllocError>
-    ensures { OnOk result (string_bytes text.new ≡ string_bytes text.old
-        ++ flat_map (λ p. column_head p.name) programs.now) }
+    ensures { OnOk result (Appends (flat_map (λ p. column_head p.name) programs.now) text.old text.new) }
 {
     for program in programs {
         push_column_head(text, program.name())?;
@@ -148,8 +145,7 @@ pub fn push_front_heads<A: Allocator, B: Allocator>(
     settings: &[Setting],
 ) -> Result<(), AllocError>
     requires { settings.now ≡ settings_of study.now }
-    ensures { OnOk result (string_bytes text.new
-        ≡ string_bytes text.old ++ column_heads study.now) }
+    ensures { OnOk result (Appends (column_heads study.now) text.old text.new) }
 {
     let names = ["row", "cost", "more", "cycles", "more", "%"];
     push_column_heads(text, &names)?;

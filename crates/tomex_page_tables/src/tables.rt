@@ -1,6 +1,7 @@
 //! The most that is shown in a table.
 
-ghost use Rattle.std.specs.Prelude.{◌≡◌, ◌++◌, take, OnOk, string_bytes};
+ghost use Rattle.std.specs.Prelude.{◌≡◌, take, OnOk};
+ghost use Rattle.tomex_csv_text.specs.Growth.{Appends};
 ghost use Rattle.tomex_page_tables.specs.Pieces.{more, most_lines, rest_text};
 
 use std::alloc::{AllocError, Allocator};
@@ -31,8 +32,7 @@ fn push_rest<A: Allocator>(
     command: &str,
     rest: usize,
 ) -> Result<(), AllocError>
-    ensures { OnOk result (string_bytes text.new
-        ≡ string_bytes text.old ++ rest_text command.now rest) }
+    ensures { OnOk result (Appends (rest_text command.now rest) text.old text.new) }
 {
     write!(
         text,
@@ -47,8 +47,7 @@ pub fn push_more<A: Allocator>(
     command: &str,
     lines: usize,
 ) -> Result<(), AllocError>
-    ensures { OnOk result (string_bytes text.new
-        ≡ string_bytes text.old ++ more command.now lines) }
+    ensures { OnOk result (Appends (more command.now lines) text.old text.new) }
 {
     if lines <= MOST_LINES {
         Ok(())

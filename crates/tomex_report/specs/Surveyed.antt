@@ -46,17 +46,17 @@ IsWithoutText view s Memory = Unit {0}
 IsWithoutText view s error = ⊥
 
 -- the bytes and the files are those of a study, and the text is what is printed of its rows
-abbrev pub IsSurveyed : SurveyView → List ℕ → List (List ℕ) → List ℕ → Type 0
-IsSurveyed view bytes files text = (s : DesignSpace) × IsStudyOf bytes files s × IsTextOf view s text
+abbrev pub IsTextFrom : SurveyView → List ℕ → List (List ℕ) → List ℕ → Type 0
+IsTextFrom view bytes files text = (s : DesignSpace) × IsStudyOf bytes files s × IsTextOf view s text
 
 -- they are those of a study that has no such text for this reason, or out of memory
-abbrev pub IsUnsurveyed : SurveyView → List ℕ → List (List ℕ) → SurveyError → Type 0
-IsUnsurveyed view bytes files error = (s : DesignSpace) × IsStudyOf bytes files s × IsWithoutText view s error
+abbrev pub IsWithoutTextFrom : SurveyView → List ℕ → List (List ℕ) → SurveyError → Type 0
+IsWithoutTextFrom view bytes files error = (s : DesignSpace) × IsStudyOf bytes files s × IsWithoutText view s error
 
 -- the study's own refusal; or it is a study, and has no such text
 abbrev pub IsSurveyRefusal : SurveyView → List ℕ → List (List ℕ) → SurveyError → Type 0
 IsSurveyRefusal view bytes files (Study error) = IsStudyRefusal bytes files error
-IsSurveyRefusal view bytes files error = IsUnsurveyed view bytes files error
+IsSurveyRefusal view bytes files error = IsWithoutTextFrom view bytes files error
 
 abbrev pub error_of_prices : PricesError → SurveyError
 error_of_prices prices.TooLarge = TooLarge

@@ -1,9 +1,10 @@
 //! The front report.
 
-ghost use Rattle.std.specs.Prelude.{◌≡◌, ◌++◌, IfOk, OnOk};
+ghost use Rattle.std.specs.Prelude.{◌≡◌, IfOk, OnOk};
 ghost use Rattle.std.specs.List.{AllZip, flat_map};
 ghost use Rattle.tomex_study.specs.StudyFront.{front_of_study};
-ghost use Rattle.tomex_csv_text.specs.Csv.{IsReady, text_written};
+ghost use Rattle.tomex_csv_text.specs.Csv.{IsReady};
+ghost use Rattle.tomex_csv_text.specs.Growth.{Writes};
 ghost use Rattle.tomex_texts.specs.Ends.{IsProgramEnd};
 ghost use Rattle.tomex_texts.specs.RowEnds.{AreEndsOf};
 ghost use Rattle.tomex_texts.specs.FrontReport.{program_record, records_of, report_of};
@@ -29,9 +30,8 @@ fn put_programs<A: Allocator>(
     requires ready { IsReady writer.old }
     requires ends { AllZip (IsProgramEnd config.now) programs.now ends.now }
     ensures ready { OnOk result (IsReady writer.new) }
-    ensures text { OnOk result (text_written (λ v. v.items) writer.new
-        ≡ text_written (λ v. v.items) writer.old
-        ++ flat_map (program_record wide front config.now) programs.now) }
+    ensures text { OnOk result (
+        Writes (flat_map (program_record wide front config.now) programs.now) writer.old writer.new) }
 {
     let mut record = ByteRecord::new(heap);
     for (place, program) in programs.iter().enumerate() {
@@ -60,8 +60,7 @@ fn put_row<A: Allocator>(
     requires ready { IsReady writer.old }
     requires ends { AreEndsOf study.now front ends.now }
     ensures ready { OnOk result (IsReady writer.new) }
-    ensures text { OnOk result (text_written (λ v. v.items) writer.new
-        ≡ text_written (λ v. v.items) writer.old ++ records_of study.now front) }
+    ensures text { OnOk result (Writes (records_of study.now front) writer.old writer.new) }
 {
     let config = &study.rows()[front.row];
     put_programs(
@@ -87,8 +86,7 @@ fn put_rows<A: Allocator>(
     requires ready { IsReady writer.old }
     requires ends { AllZip (λ r e. AreEndsOf study.now r e) front.now ends.now }
     ensures ready { OnOk result (IsReady writer.new) }
-    ensures text { OnOk result (text_written (λ v. v.items) writer.new
-        ≡ text_written (λ v. v.items) writer.old ++ flat_map (records_of study.now) front.now) }
+    ensures text { OnOk result (Writes (flat_map (records_of study.now) front.now) writer.old writer.new) }
 {
     for (place, row) in front.iter().enumerate() {
         put_row(writer, heap, study, *row, &ends[place])?;

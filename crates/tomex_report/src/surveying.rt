@@ -2,7 +2,7 @@
 
 ghost use Rattle.std.specs.Prelude.{◌≡◌, ◌≤◌, false, true, map, IfErr, IfOk, IsErrOf};
 ghost use Rattle.tomex_prices.specs.PricesTable.{is_too_large};
-ghost use Rattle.tomex_report.specs.Surveyed.{IsSurveyRefusal, IsSurveyed, IsTextOf, IsWithoutText};
+ghost use Rattle.tomex_report.specs.Surveyed.{IsSurveyRefusal, IsTextFrom, IsTextOf, IsWithoutText};
 ghost use Rattle.tomex_report.specs.Surveyed.{lacks_row};
 
 use crate::crew::Crew;
@@ -81,7 +81,7 @@ pub fn answer_survey<R: Threads + Sync, A: Allocator + Clone + Send + Sync + Dro
     requires some_workers { 1 ≤ crew.workers }
     requires few_workers { crew.workers ≤ 32 }
     ensures text { IfOk result
-        (λ text. IsSurveyed view.entry study.now (map (λ f. f.items) files.now) text.items) }
+        (λ text. IsTextFrom view.entry study.now (map (λ f. f.items) files.now) text.items) }
     ensures refused { IfErr result
         (λ e. IsSurveyRefusal view.entry study.now (map (λ f. f.items) files.now) e) }
 {

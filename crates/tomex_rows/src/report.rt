@@ -1,8 +1,9 @@
 //! All rows as CSV.
 
-ghost use Rattle.std.specs.Prelude.{◌≡◌, ◌<◌, ◌++◌, length, map, IfOk, OnOk};
+ghost use Rattle.std.specs.Prelude.{◌≡◌, ◌<◌, length, map, IfOk, OnOk};
 ghost use Rattle.std.specs.List.{flat_map, range_with_len};
-ghost use Rattle.tomex_csv_text.specs.Csv.{IsReady, text_written};
+ghost use Rattle.tomex_csv_text.specs.Csv.{IsReady};
+ghost use Rattle.tomex_csv_text.specs.Growth.{Writes};
 ghost use Rattle.tomex_rows.specs.RowsReport.{is_on_front, row_record, rows_text_of};
 ghost use Rattle.tomex_study.specs.StudyFront.{all_rows, front_of_study};
 
@@ -27,8 +28,7 @@ fn put_row<A: Allocator>(
     requires row { row.row < length surveyed.now.rows }
     requires front { on_front ≡ is_on_front (front_of_study surveyed.now) row.row }
     ensures ready { OnOk result (IsReady writer.new) }
-    ensures text { OnOk result (text_written (λ v. v.items) writer.new
-        ≡ text_written (λ v. v.items) writer.old ++ row_record surveyed.now row) }
+    ensures text { OnOk result (Writes (row_record surveyed.now row) writer.old writer.new) }
 {
     let mut fields = ByteRecord::new(heap);
     let wide = surveyed.study().wide();
@@ -48,8 +48,8 @@ fn put_rows<A: Allocator>(
     requires flags { flags.now
         ≡ map (is_on_front (front_of_study surveyed.now)) (range_with_len 0 (length surveyed.now.rows)) }
     ensures ready { OnOk result (IsReady writer.new) }
-    ensures text { OnOk result (text_written (λ v. v.items) writer.new
-        ≡ text_written (λ v. v.items) writer.old ++ flat_map (row_record surveyed.now) (all_rows surveyed.now)) }
+    ensures text { OnOk result (
+        Writes (flat_map (row_record surveyed.now) (all_rows surveyed.now)) writer.old writer.new) }
 {
     for row in surveyed.rows() {
         put_row(writer, heap, surveyed, *row, flags[row.row])?;

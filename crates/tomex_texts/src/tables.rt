@@ -1,7 +1,8 @@
 //! The text of the tables after a cycle.
 
-ghost use Rattle.std.specs.Prelude.{◌≡◌, ◌++◌, IfOk, OnOk, string_bytes};
+ghost use Rattle.std.specs.Prelude.{◌≡◌, IfOk, OnOk};
 ghost use Rattle.std.specs.List.{filter_map, flat_map};
+ghost use Rattle.tomex_csv_text.specs.Growth.{Appends};
 ghost use Rattle.tomex_texts.specs.TablesText.{register_line, register_lines, station_line, tables_text_of};
 
 use std::alloc::{AllocError, Allocator};
@@ -83,7 +84,7 @@ impl fmt::Display for Address {
 
 /// Adds the line of a busy station.
 fn push_station<A: Allocator>(text: &mut String<A>, busy: &Busy) -> Result<(), AllocError>
-    ensures { OnOk result (string_bytes text.new ≡ string_bytes text.old ++ station_line busy.now) }
+    ensures { OnOk result (Appends (station_line busy.now) text.old text.new) }
 {
     let name = busy.instr.op().name();
     let (station, a) = (Station(busy.tag), Address(busy.a));
@@ -100,8 +101,7 @@ fn push_stations<A: Allocator>(
     text: &mut String<A>,
     places: &[Option<Busy>],
 ) -> Result<(), AllocError>
-    ensures { OnOk result (string_bytes text.new
-        ≡ string_bytes text.old ++ flat_map station_line (filter_map (λ b. b) places.now)) }
+    ensures { OnOk result (Appends (flat_map station_line (filter_map (λ b. b) places.now)) text.old text.new) }
 {
     for place in places {
         if let Some(busy) = place {
@@ -117,8 +117,7 @@ fn push_register<A: Allocator>(
     register: usize,
     qi: Tag,
 ) -> Result<(), AllocError>
-    ensures { OnOk result (string_bytes text.new
-        ≡ string_bytes text.old ++ register_line register (Some qi)) }
+    ensures { OnOk result (Appends (register_line register (Some qi)) text.old text.new) }
 {
     let station = Station(qi);
     write!(text, "x{register} Qi={station}\n")?;
@@ -130,8 +129,7 @@ fn push_registers<A: Allocator>(
     text: &mut String<A>,
     registers: &[Option<Tag>],
 ) -> Result<(), AllocError>
-    ensures { OnOk result (string_bytes text.new
-        ≡ string_bytes text.old ++ register_lines 0 registers.now) }
+    ensures { OnOk result (Appends (register_lines 0 registers.now) text.old text.new) }
 {
     for (register, qi) in registers.iter().enumerate() {
         if let Some(qi) = qi {

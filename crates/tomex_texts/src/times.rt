@@ -2,7 +2,8 @@
 
 ghost use Rattle.std.specs.Prelude.{◌≡◌, ◌++◌, ◌∷◌, [], IfOk, OnOk, length, codes};
 ghost use Rattle.csv.specs.Records.{fields_of, partial_of};
-ghost use Rattle.tomex_csv_text.specs.Csv.{IsReady, text_written};
+ghost use Rattle.tomex_csv_text.specs.Csv.{IsReady};
+ghost use Rattle.tomex_csv_text.specs.Growth.{Writes};
 ghost use Rattle.tomex_texts.specs.TimesReport.{cycle_text, station_text, fields_of_step, header, report_of_times};
 ghost use Rattle.tomex_texts.specs.TimesReport.{step_records, times_report_of, total_fields};
 ghost use Rattle.tomex_rvexec.specs.Run.{start_of};
@@ -116,8 +117,7 @@ fn put_steps<A: Allocator>(
     requires ready { IsReady writer.old }
     requires pairs { length times.now ≡ length steps.now }
     ensures ready { OnOk result (IsReady writer.new) }
-    ensures text { OnOk result (text_written (λ v. v.items) writer.new
-        ≡ text_written (λ v. v.items) writer.old ++ step_records 1 steps.now times.now) }
+    ensures text { OnOk result (Writes (step_records 1 steps.now times.now) writer.old writer.new) }
 {
     let mut record = ByteRecord::new(heap);
     let mut scratch = String::new(heap);

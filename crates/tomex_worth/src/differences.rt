@@ -1,7 +1,8 @@
 //! Differences as texts.
 
-ghost use Rattle.std.specs.Prelude.{◌≡◌, ◌++◌, IfOk, OnOk, string_bytes};
+ghost use Rattle.std.specs.Prelude.{◌≡◌, IfOk, OnOk, string_bytes};
 ghost use Rattle.tomex_pareto.specs.Front.{dominates};
+ghost use Rattle.tomex_csv_text.specs.Growth.{Appends};
 ghost use Rattle.tomex_worth.specs.Differences.{distance, percent, sign_of, signed_difference, tenths};
 ghost use Rattle.tomex_worth.specs.Worth.{rate_text};
 
@@ -20,7 +21,7 @@ fn sign_of(a: u64, b: u64) -> &'static str
 /// Adds `b - a`, as in `+6`, `-9426` and `0`.
 #[tactic(auto, unfolding(crate::specs::Differences::signed_difference))]
 pub fn push_signed<A: Allocator>(text: &mut String<A>, a: u64, b: u64) -> Result<(), AllocError>
-    ensures { OnOk result (string_bytes text.new ≡ string_bytes text.old ++ signed_difference a b) }
+    ensures { OnOk result (Appends (signed_difference a b) text.old text.new) }
 {
     if a == b {
         return text.push_str("0");
@@ -41,7 +42,7 @@ pub fn signed_difference(heap: Global, a: u64, b: u64) -> Result<String, AllocEr
 /// Adds `b - a` in percent of `a`, with one digit after the point, rounded towards 0.
 #[tactic(auto, unfolding(crate::specs::Differences::percent, crate::specs::Differences::tenths))]
 pub fn push_percent<A: Allocator>(text: &mut String<A>, a: u64, b: u64) -> Result<(), AllocError>
-    ensures { OnOk result (string_bytes text.new ≡ string_bytes text.old ++ percent a b) }
+    ensures { OnOk result (Appends (percent a b) text.old text.new) }
 {
     if a == b {
         return text.push_str("0");
@@ -76,7 +77,7 @@ pub fn push_rate<A: Allocator>(
     own: FrontRow,
     other: FrontRow,
 ) -> Result<(), AllocError>
-    ensures { OnOk result (string_bytes text.new ≡ string_bytes text.old ++ rate_text own other) }
+    ensures { OnOk result (Appends (rate_text own other) text.old text.new) }
 {
     if dominates(other, own) {
         return text.push_str("better");

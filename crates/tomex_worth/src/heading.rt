@@ -1,6 +1,7 @@
 //! The headings of the table's columns.
 
-ghost use Rattle.std.specs.Prelude.{◌≡◌, ◌++◌, IfOk, OnOk, string_bytes};
+ghost use Rattle.std.specs.Prelude.{◌≡◌, IfOk, OnOk, string_bytes};
+ghost use Rattle.tomex_csv_text.specs.Growth.{Appends};
 ghost use Rattle.tomex_worth.specs.Worth.{entry_text, name_of_list, name_under};
 
 use std::alloc::{AllocError, Allocator, Global};
@@ -58,7 +59,7 @@ impl Heading {
 
 /// Adds a list's name, as studies write it.
 pub fn push_name_of_list<A: Allocator>(text: &mut String<A>, part: Part) -> Result<(), AllocError>
-    ensures { OnOk result (string_bytes text.new ≡ string_bytes text.old ++ name_of_list part) }
+    ensures { OnOk result (Appends (name_of_list part) text.old text.new) }
 {
     match part {
         Part::Stations(pool) => write!(text, "{pool}"),
@@ -83,8 +84,7 @@ pub fn push_entry<A: Allocator>(
     config: &Config,
     part: Part,
 ) -> Result<(), AllocError>
-    ensures { OnOk result (string_bytes text.new
-        ≡ string_bytes text.old ++ entry_text config.now part) }
+    ensures { OnOk result (Appends (entry_text config.now part) text.old text.new) }
 {
     match part {
         Part::Units(unit) => {

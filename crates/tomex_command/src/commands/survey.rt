@@ -1,6 +1,6 @@
 //! The text of the commands on all rows of a study.
 ghost use Rattle.std.specs.Prelude.{IfOk, IfErr};
-ghost use Rattle.tomex_command.specs.SurveyLines.{IsSurveyFailure, IsSurveyOf};
+ghost use Rattle.tomex_command.specs.SurveyLines.{IsSurveyFailure, IsSurveyTextOf};
 
 use super::study::sources_in;
 use crate::failure::Failure;
@@ -27,7 +27,7 @@ pub fn text_of_survey<
     view: SurveyView<'_>,
 ) -> Result<Vec<u8, A>, Failure>
     ensures text { IfOk result
-        (λ text. IsSurveyOf view.entry (F.file files.now) line.entry.study.now text.items) }
+        (λ text. IsSurveyTextOf view.entry (F.file files.now) line.entry.study.now text.items) }
     ensures failure { IfErr result
         (λ failure. IsSurveyFailure view.entry (F.file files.now) line.entry.study.now failure) }
 {

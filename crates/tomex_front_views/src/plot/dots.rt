@@ -1,8 +1,9 @@
 //! All rows as dots: one path, whose strokes go down over dots one below another.
 
-ghost use Rattle.std.specs.Prelude.{◌≡◌, ◌<◌, ◌+◌, ◌-◌, ◌++◌, ◌*◌, ℕ, Bool, false, ◌&&◌, not, if◌then◌else◌};
-ghost use Rattle.std.specs.Prelude.{drop, length, map, nat_eq, slice_index_or, OnOk, IfOk, string_bytes};
+ghost use Rattle.std.specs.Prelude.{◌≡◌, ◌<◌, ◌+◌, ◌-◌, ◌*◌, ℕ, Bool, false, ◌&&◌, not, if◌then◌else◌};
+ghost use Rattle.std.specs.Prelude.{drop, length, map, nat_eq, slice_index_or, OnOk, IfOk};
 ghost use Rattle.std.specs.List.{prefix_len};
+ghost use Rattle.tomex_csv_text.specs.Growth.{Appends};
 ghost use Rattle.tomex_front_views.specs.Axes.{x_of, y_of};
 ghost use Rattle.tomex_front_views.specs.Dots.{IsTable, all_y, column_text, dots, dots_line, stroke, stroke_at};
 ghost use Rattle.tomex_front_views.specs.Dots.{width_of};
@@ -68,7 +69,7 @@ fn push_stroke<A: Allocator>(
     y: usize,
     far: usize,
 ) -> Result<(), AllocError>
-    ensures { OnOk result (string_bytes text.new ≡ string_bytes text.old ++ stroke x y far) }
+    ensures { OnOk result (Appends (stroke x y far) text.old text.new) }
 {
     write!(text, "M{x} {y}v{far}")
 }
@@ -83,7 +84,7 @@ fn push_stroke_at<A: Allocator>(
     requires count { length column.now ≡ 281 }
     requires line { line < 281 }
     ensures { OnOk result ((dot : ℕ → Bool) → dot 79 ≡ false → column.now ≡ map dot all_y
-        → string_bytes text.new ≡ string_bytes text.old ++ stroke_at dot x (80 + line)) }
+        → Appends (stroke_at dot x (80 + line)) text.old text.new) }
 {
     if begins(column, line) {
         return push_stroke(text, x, 80 + line, reach(column, line));
@@ -99,7 +100,7 @@ fn push_column<A: Allocator>(
 ) -> Result<(), AllocError>
     requires { length column.now ≡ 281 }
     ensures { OnOk result ((dot : ℕ → Bool) → dot 79 ≡ false → column.now ≡ map dot all_y
-        → string_bytes text.new ≡ string_bytes text.old ++ column_text dot x) }
+        → Appends (column_text dot x) text.old text.new) }
 {
     for line in 0..LINES {
         push_stroke_at(text, x, column, line)?;
@@ -114,7 +115,7 @@ fn push_dots<A: Allocator + Clone>(
     axes: &Axes,
     rows: &[FrontRow],
 ) -> Result<(), AllocError>
-    ensures { OnOk result (string_bytes text.new ≡ string_bytes text.old ++ dots axes.now rows.now) }
+    ensures { OnOk result (Appends (dots axes.now rows.now) text.old text.new) }
 {
     let table = table_of(alloc, axes, rows)?;
     let marks = table.as_slice();
@@ -139,8 +140,7 @@ pub fn push_dots_line<A: Allocator + Clone>(
     axes: &Axes,
     rows: &[FrontRow],
 ) -> Result<(), AllocError>
-    ensures { OnOk result (string_bytes text.new
-        ≡ string_bytes text.old ++ dots_line axes.now rows.now) }
+    ensures { OnOk result (Appends (dots_line axes.now rows.now) text.old text.new) }
 {
     text.push_str("<path d=\"")?;
     push_dots(text, alloc, axes, rows)?;

@@ -1,7 +1,8 @@
 //! The front over all rows of a study, as a picture in a page: the circles of some rows are links.
 
-ghost use Rattle.std.specs.Prelude.{◌≡◌, ◌++◌, length, OnOk, string_bytes};
+ghost use Rattle.std.specs.Prelude.{◌≡◌, length, OnOk};
 ghost use Rattle.std.specs.List.{flat_map};
+ghost use Rattle.tomex_csv_text.specs.Growth.{Appends};
 ghost use Rattle.tomex_front_views.specs.LinkedPlot.{is_shown, link_start, link_to, linked_circle, linked_line};
 ghost use Rattle.tomex_front_views.specs.LinkedPlot.{linked_over, linked_picture_of, linked_rows};
 ghost use Rattle.tomex_front_views.specs.Plot.{circle, radius_of};
@@ -27,7 +28,7 @@ pub fn is_shown(shown: &[FrontRow], row: usize) -> bool
 /// Adds the start of a link to a row's view.
 #[tactic(auto, unfolding(crate::specs::LinkedPlot::link_start))]
 pub fn push_link_start<A: Allocator>(text: &mut String<A>, row: usize) -> Result<(), AllocError>
-    ensures { OnOk result (string_bytes text.new ≡ string_bytes text.old ++ link_start row) }
+    ensures { OnOk result (Appends (link_start row) text.old text.new) }
 {
     write!(text, "<a href=\"#r{row}\">")
 }
@@ -40,8 +41,7 @@ fn push_link<A: Allocator>(
     radius: u64,
     row: FrontRow,
 ) -> Result<(), AllocError>
-    ensures { OnOk result (string_bytes text.new
-        ≡ string_bytes text.old ++ link_to row.row (circle axes.now radius row)) }
+    ensures { OnOk result (Appends (link_to row.row (circle axes.now radius row)) text.old text.new) }
 {
     push_link_start(text, row.row)?;
     push_circle(text, axes, radius, row)?;
@@ -57,8 +57,7 @@ fn push_linked_circle<A: Allocator>(
     shown: &[FrontRow],
     row: FrontRow,
 ) -> Result<(), AllocError>
-    ensures { OnOk result (string_bytes text.new
-        ≡ string_bytes text.old ++ linked_circle axes.now radius shown.now row) }
+    ensures { OnOk result (Appends (linked_circle axes.now radius shown.now row) text.old text.new) }
 {
     if is_shown(shown, row.row) {
         push_link(text, axes, radius, row)
@@ -76,8 +75,7 @@ fn push_linked_line<A: Allocator>(
     shown: &[FrontRow],
     row: FrontRow,
 ) -> Result<(), AllocError>
-    ensures { OnOk result (string_bytes text.new
-        ≡ string_bytes text.old ++ linked_line axes.now radius shown.now row) }
+    ensures { OnOk result (Appends (linked_line axes.now radius shown.now row) text.old text.new) }
 {
     push_linked_circle(text, axes, radius, shown, row)?;
     text.push_str("\n")
@@ -90,8 +88,8 @@ fn push_linked_lines<A: Allocator>(
     shown: &[FrontRow],
     front: &[FrontRow],
 ) -> Result<(), AllocError>
-    ensures { OnOk result (string_bytes text.new ≡ string_bytes text.old
-        ++ flat_map (linked_line axes.now (radius_of (length front.now)) shown.now) front.now) }
+    ensures { OnOk result (Appends
+        (flat_map (linked_line axes.now (radius_of (length front.now)) shown.now) front.now) text.old text.new) }
 {
     let radius = radius_of(front.len());
     for row in front {
@@ -110,8 +108,7 @@ fn push_linked_rows<A: Allocator>(
     shown: &[FrontRow],
     front: &[FrontRow],
 ) -> Result<(), AllocError>
-    ensures { OnOk result (string_bytes text.new
-        ≡ string_bytes text.old ++ linked_rows axes.now stairs.now shown.now front.now) }
+    ensures { OnOk result (Appends (linked_rows axes.now stairs.now shown.now front.now) text.old text.new) }
 {
     write!(
         text,
@@ -135,8 +132,7 @@ fn push_linked_over<A: Allocator + Clone>(
     front: &[FrontRow],
     shown: &[FrontRow],
 ) -> Result<(), AllocError>
-    ensures { OnOk result (string_bytes text.new
-        ≡ string_bytes text.old ++ linked_over all rows.now front.now shown.now) }
+    ensures { OnOk result (Appends (linked_over all rows.now front.now shown.now) text.old text.new) }
 {
     let axes = axes_of(rows);
     let title = title_of(heap, front.len(), all)?;
@@ -162,8 +158,7 @@ pub fn push_linked_picture<A: Allocator + Clone>(
     surveyed: &Surveyed<'_, A>,
     shown: &[FrontRow],
 ) -> Result<(), AllocError>
-    ensures { OnOk result (string_bytes text.new
-        ≡ string_bytes text.old ++ linked_picture_of surveyed.now shown.now) }
+    ensures { OnOk result (Appends (linked_picture_of surveyed.now shown.now) text.old text.new) }
 {
     let (rows, front) = (surveyed.rows(), surveyed.front());
     push_linked_over(text, alloc, heap, rows.len(), rows, front, shown)

@@ -1,6 +1,7 @@
 //! The lines and numbers of the axes.
 
-ghost use Rattle.std.specs.Prelude.{◌≡◌, ◌++◌, OnOk, string_bytes};
+ghost use Rattle.std.specs.Prelude.{◌≡◌, OnOk};
+ghost use Rattle.tomex_csv_text.specs.Growth.{Appends};
 ghost use Rattle.tomex_front_views.specs.Plot.{mark_at, marks_of, span_of};
 
 use crate::plot::axes::{Axes, Span};
@@ -35,8 +36,7 @@ fn push_mark_at<A: Allocator>(
     mark: Mark,
     value: u64,
 ) -> Result<(), AllocError>
-    ensures { OnOk result (string_bytes text.new
-        ≡ string_bytes text.old ++ mark_at axes.now mark value) }
+    ensures { OnOk result (Appends (mark_at axes.now mark value) text.old text.new) }
 {
     let (x, y) = (axes.x_of(value), axes.y_of(value));
     match mark {
@@ -57,8 +57,7 @@ pub fn push_marks<A: Allocator>(
     axes: &Axes,
     mark: Mark,
 ) -> Result<(), AllocError>
-    ensures { OnOk result (string_bytes text.new
-        ≡ string_bytes text.old ++ marks_of axes.now mark) }
+    ensures { OnOk result (Appends (marks_of axes.now mark) text.old text.new) }
 {
     let span = span_of(axes, mark);
     let step = step_of(span.greatest.saturating_sub(span.least));

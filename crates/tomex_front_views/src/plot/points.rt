@@ -1,7 +1,8 @@
 //! The points of the rows, and their numbers.
 
-ghost use Rattle.std.specs.Prelude.{◌≡◌, ◌≤◌, ◌++◌, length, None, IfOk, OnOk, string_bytes};
+ghost use Rattle.std.specs.Prelude.{◌≡◌, ◌≤◌, length, None, IfOk, OnOk};
 ghost use Rattle.std.specs.List.{flat_map};
+ghost use Rattle.tomex_csv_text.specs.Growth.{Appends};
 ghost use Rattle.tomex_front_views.specs.Plot.{circle, circle_at, circle_line, has_room, named_point, number_at};
 ghost use Rattle.tomex_front_views.specs.Plot.{numbers_of, radius_of, row_title};
 
@@ -24,7 +25,7 @@ fn push_circle_at<A: Allocator>(
     at: Point,
     radius: u64,
 ) -> Result<(), AllocError>
-    ensures { OnOk result (string_bytes text.new ≡ string_bytes text.old ++ circle_at at radius) }
+    ensures { OnOk result (Appends (circle_at at radius) text.old text.new) }
 {
     let (x, y) = (at.x, at.y);
     write!(text, "<circle cx=\"{x}\" cy=\"{y}\" r=\"{radius}\">")
@@ -33,7 +34,7 @@ fn push_circle_at<A: Allocator>(
 /// Adds a circle's tooltip.
 #[tactic(auto, unfolding(crate::specs::Plot::row_title))]
 fn push_row_title<A: Allocator>(text: &mut String<A>, row: FrontRow) -> Result<(), AllocError>
-    ensures { OnOk result (string_bytes text.new ≡ string_bytes text.old ++ row_title row) }
+    ensures { OnOk result (Appends (row_title row) text.old text.new) }
 {
     let (number, cost, cycles) = (row.row, row.cost, row.cycles);
     write!(
@@ -50,8 +51,7 @@ pub fn push_circle<A: Allocator>(
     radius: u64,
     row: FrontRow,
 ) -> Result<(), AllocError>
-    ensures { OnOk result (string_bytes text.new
-        ≡ string_bytes text.old ++ circle axes.now radius row) }
+    ensures { OnOk result (Appends (circle axes.now radius row) text.old text.new) }
 {
     push_circle_at(text, axes.point_of(row), radius)?;
     push_row_title(text, row)
@@ -65,8 +65,7 @@ fn push_circle_line<A: Allocator>(
     radius: u64,
     row: FrontRow,
 ) -> Result<(), AllocError>
-    ensures { OnOk result (string_bytes text.new
-        ≡ string_bytes text.old ++ circle_line axes.now radius row) }
+    ensures { OnOk result (Appends (circle_line axes.now radius row) text.old text.new) }
 {
     push_circle(text, axes, radius, row)?;
     text.push_str("\n")
@@ -85,9 +84,8 @@ pub fn push_circles<A: Allocator>(
     axes: &Axes,
     rows: &[FrontRow],
 ) -> Result<(), AllocError>
-    ensures { OnOk result (string_bytes text.new
-        ≡ string_bytes text.old
-        ++ flat_map (circle_line axes.now (radius_of (length rows.now))) rows.now) }
+    ensures { OnOk result (
+        Appends (flat_map (circle_line axes.now (radius_of (length rows.now))) rows.now) text.old text.new) }
 {
     let radius = radius_of(rows.len());
     for row in rows {
@@ -114,7 +112,7 @@ fn has_room(last: Option<Named>, at: Point) -> bool
 #[tactic(auto, unfolding(crate::specs::Plot::number_at))]
 fn push_number<A: Allocator>(text: &mut String<A>, at: Point, row: usize) -> Result<(), AllocError>
     requires { at.x ≤ 648 }
-    ensures { OnOk result (string_bytes text.new ≡ string_bytes text.old ++ number_at at row) }
+    ensures { OnOk result (Appends (number_at at row) text.old text.new) }
 {
     let (x, y) = (at.x + 6, at.y.saturating_sub(6));
     write!(text, "<text x=\"{x}\" y=\"{y}\">{row}</text>\n")
@@ -138,8 +136,7 @@ pub fn push_numbers<A: Allocator>(
     axes: &Axes,
     rows: &[FrontRow],
 ) -> Result<(), AllocError>
-    ensures { OnOk result (string_bytes text.new
-        ≡ string_bytes text.old ++ numbers_of axes.now None rows.now) }
+    ensures { OnOk result (Appends (numbers_of axes.now None rows.now) text.old text.new) }
 {
     let mut last = None;
     for row in rows {

@@ -1,6 +1,7 @@
 //! The staircase above which all rows lie.
 
-ghost use Rattle.std.specs.Prelude.{◌≡◌, ◌++◌, codes, OnOk, string_bytes};
+ghost use Rattle.std.specs.Prelude.{codes, OnOk};
+ghost use Rattle.tomex_csv_text.specs.Growth.{Appends};
 ghost use Rattle.tomex_front_views.specs.Plot.{move_to, staircase, steps_down};
 
 use crate::plot::axes::{Axes, Point};
@@ -11,8 +12,7 @@ use tomex_pareto::FrontRow;
 /// Adds a move to the right, unless it has no length.
 #[tactic(auto, unfolding(crate::specs::Plot::move_to))]
 fn push_right<A: Allocator>(text: &mut String<A>, from: u64, to: u64) -> Result<(), AllocError>
-    ensures { OnOk result (string_bytes text.new
-        ≡ string_bytes text.old ++ move_to (codes "H") from to) }
+    ensures { OnOk result (Appends (move_to (codes "H") from to) text.old text.new) }
 {
     if from != to {
         write!(text, "H{to}")?;
@@ -23,8 +23,7 @@ fn push_right<A: Allocator>(text: &mut String<A>, from: u64, to: u64) -> Result<
 /// Adds a move up or down, unless it has no length.
 #[tactic(auto, unfolding(crate::specs::Plot::move_to))]
 fn push_down<A: Allocator>(text: &mut String<A>, from: u64, to: u64) -> Result<(), AllocError>
-    ensures { OnOk result (string_bytes text.new
-        ≡ string_bytes text.old ++ move_to (codes "V") from to) }
+    ensures { OnOk result (Appends (move_to (codes "V") from to) text.old text.new) }
 {
     if from != to {
         write!(text, "V{to}")?;
@@ -39,8 +38,7 @@ fn push_steps<A: Allocator>(
     from: Point,
     rows: &[FrontRow],
 ) -> Result<(), AllocError>
-    ensures { OnOk result (string_bytes text.new
-        ≡ string_bytes text.old ++ steps_down axes.now from rows.now) }
+    ensures { OnOk result (Appends (steps_down axes.now from rows.now) text.old text.new) }
 {
     let mut at = from;
     for row in rows {
@@ -59,8 +57,7 @@ pub fn push_staircase<A: Allocator>(
     axes: &Axes,
     rows: &[FrontRow],
 ) -> Result<(), AllocError>
-    ensures { OnOk result (string_bytes text.new
-        ≡ string_bytes text.old ++ staircase axes.now rows.now) }
+    ensures { OnOk result (Appends (staircase axes.now rows.now) text.old text.new) }
 {
     let Some(first) = rows.first() else {
         return Ok(());

@@ -1,7 +1,8 @@
 //! The headings of the front's table.
 
-ghost use Rattle.std.specs.Prelude.{◌≡◌, ◌++◌, ◌==◌, not, IfOk, OnOk, string_bytes};
+ghost use Rattle.std.specs.Prelude.{◌≡◌, ◌==◌, not, IfOk, OnOk, string_bytes};
 ghost use Rattle.std.specs.List.{list_any};
+ghost use Rattle.tomex_csv_text.specs.Growth.{Appends};
 ghost use Rattle.tomex_front_views.specs.FrontTable.{differs, name_of_heading, name_of_setting, setting_of};
 
 use std::alloc::{AllocError, Allocator, Global};
@@ -62,8 +63,7 @@ impl Setting {
 
     /// Adds its name, which is that of its column in the front report.
     pub fn push_name<A: Allocator>(self, text: &mut String<A>) -> Result<(), AllocError>
-        ensures { OnOk result (string_bytes text.new
-            ≡ string_bytes text.old ++ name_of_setting self) }
+        ensures { OnOk result (Appends (name_of_setting self) text.old text.new) }
     {
         match self {
             Setting::Count(Part::Stations(pool)) => write!(text, "{pool}"),

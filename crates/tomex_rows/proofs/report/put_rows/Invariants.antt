@@ -1,7 +1,8 @@
 -- The text so far: the records of the rows up to here.
-use Rattle.std.proofs.Common.{◌≡◌, ◌++◌, take}
+use Rattle.std.proofs.Common.{take}
 use Rattle.std.specs.List.{flat_map}
-use Rattle.tomex_csv_text.specs.Csv.{IsReady, text_written}
+use Rattle.tomex_csv_text.specs.Csv.{IsReady}
+use Rattle.tomex_csv_text.specs.Growth.{Writes}
 use Rattle.tomex_rows.specs.RowsReport.{row_record}
 use Rattle.tomex_study.specs.StudyFront.{all_rows}
 use Rattle.tomex_rows.proofs.report.put_rows.Given as goal
@@ -9,6 +10,5 @@ use Rattle.tomex_rows.proofs.report.put_rows.Given as goal
 abbrev pub invariant-loop-row : goal.invariant-loop-row
 invariant-loop-row g l = record {
   ready : IsReady l.writer;
-  text : text_written (λ v. v.items) l.writer
-      ≡ text_written (λ v. v.items) l.fn.writer ++ flat_map (row_record l.surveyed) (take l.row-index (all_rows l.surveyed));
+  text : Writes (flat_map (row_record l.surveyed) (take l.row-index (all_rows l.surveyed))) l.fn.writer l.writer;
 }
