@@ -1,5 +1,5 @@
--- Along a path that waits for no station, unit or bus, each event is no later than in a second run of the same steps, on
--- a machine of at most the width and at least the latencies.
+-- Along a path that waits for no station, unit or bus, each event is no later than in a second run of the same steps,
+-- on a machine of at most the width and at least the latencies.
 use Rattle.std.proofs.Common.{ℕ, ◌+◌, ◌-◌, ◌<◌, ◌≤◌, ◌≡◌, true, false, arith, ap, subst, inl, inr}
 use Rattle.std.proofs.Common.{List, [], ◌∷◌, Option, Some, None, ◌==◌, not, is_some}
 use Rattle.std.specs.List.{list_all}

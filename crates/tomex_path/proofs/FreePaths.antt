@@ -30,7 +30,8 @@ all_turned : (p : Link → Bool) (ls : List Link) → list_all p (reverse ls) �
 all_turned p [] e = refl
 all_turned p (l ∷ ls) e =
     let f : list_all p (reverse ls ++ (l ∷ [])) ≡ true = rw (reverse-append (l ∷ []) ls) at e in
-    let g : (list_all p (reverse ls) && list_all p (l ∷ [])) ≡ true = rw (list_all-append p (reverse ls) (l ∷ [])) at f in
+    let g : (list_all p (reverse ls) && list_all p (l ∷ [])) ≡ true =
+    rw (list_all-append p (reverse ls) (l ∷ [])) at f in
     let two = and_parts (list_all p (reverse ls)) (list_all p (l ∷ [])) g in
     and_from (p l) (list_all p ls) (and_parts (p l) true two.1).0 (all_turned p ls two.0)
 
@@ -89,6 +90,7 @@ free_is_floor config steps good free =
     (history config steps) reached.0 good (are_timed config steps good) reached.1
     (steps_timed config (reverse steps) ∙ sym second) (omega arith)
     (latency_many (latency_of config) config.width (length (reverse steps))) free in
-    let bound = floor_is_bound config (latency_of config) config.width steps good (omega arith) (λ u. inl (omega arith)) in
+    let bound = floor_is_bound config (latency_of config) config.width steps good (omega arith)
+    (λ u. inl (omega arith)) in
     let total = total_is config steps in
     omega (arith, least, bound, total, reached.3)

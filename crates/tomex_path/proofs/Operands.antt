@@ -64,8 +64,8 @@ which j k t l a b e = grind (arith, nat_tests)
 -- if an operand wasn't there in the cycle before, and is now, the youngest step that brings one ended in it
 pub operand_before : (older : List Done) (d : Done) → 1 < d.at.start
     → has_operands older d.step (d.at.start - 1) ≡ false → has_operands older d.step d.at.start ≡ true
-    → holder_at (Writer (just_ended older (j_of d.step) d.at.start) (just_ended older (k_of d.step) d.at.start)) older + 1
-    ≡ d.at.start
+    → holder_at (Writer (just_ended older (j_of d.step) d.at.start) (just_ended older (k_of d.step) d.at.start)) older
+    + 1 ≡ d.at.start
 operand_before older d l a b =
     let j : ℕ = source_end older (j_of d.step) in
     let k : ℕ = source_end older (k_of d.step) in

@@ -8,8 +8,8 @@ use Rattle.tomex_config.specs.Configuration.{Configuration, IsWithinLimits}
 use Rattle.tomex_timing.specs.declared.times.Done.{Done}
 use Rattle.tomex_timing.specs.History.{cycle_of, is_memory}
 use Rattle.tomex_timing.specs.Needs.{lacks_address, lacks_memory, lacks_unit, waits_of}
-use Rattle.tomex_timing.specs.Recurrence.{AreTimed, IsLeast, are_conflicts_finished, can_address, can_start, has_operands}
-use Rattle.tomex_timing.specs.Recurrence.{has_unit}
+use Rattle.tomex_timing.specs.Recurrence.{AreTimed, IsLeast, are_conflicts_finished, can_address, can_start}
+use Rattle.tomex_timing.specs.Recurrence.{has_operands, has_unit}
 use Rattle.tomex_timing.proofs.Accounts.{start_account}
 use Rattle.tomex_timing.proofs.Bands.{none_pass}
 use Rattle.tomex_timing.proofs.Bools.{last_fails}
@@ -117,7 +117,8 @@ start_case config d older good timed = elim (cases_unit d.step) [
                   ≡ false = op.start.1 (d.at.start - 1) (omega arith) in
                   let full : has_unit config older unit (d.at.start - 1) ≡ false =
                   last_fails (((nat_lt d.at.issue (d.at.start - 1) && nat_lt (cycle_of d.at.address) (d.at.start - 1))
-                  && has_operands older d.step (d.at.start - 1)) && are_conflicts_finished older d.step (d.at.start - 1))
+                  && has_operands older d.step (d.at.start - 1))
+                  && are_conflicts_finished older d.step (d.at.start - 1))
                   (has_unit config older unit (d.at.start - 1)) (rw (
                     lt-ltb d.at.issue (d.at.start - 1) (omega arith),
                     lt-ltb (cycle_of d.at.address) (d.at.start - 1) a,

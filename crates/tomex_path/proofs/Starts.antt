@@ -58,6 +58,6 @@ pub access_before : (older : List Done) (d : Done) (t : ℕ) → 0 < t
     → are_conflicts_finished older d.step (t - 1) ≡ false → are_conflicts_finished older d.step t ≡ true
     → holder_at (Conflict (access_of d) (t - 1)) older + 1 ≡ t
 access_before older d t pos a b =
-    found (λ x. conflicts x.step d.step && x.at.finish == t - 1) (passes (Conflict (access_of d) (t - 1))) Finish t older
-    (λ o x. refl) (λ x i. before_is (conflicts x.step d.step) x.at.finish t pos i)
+    found (λ x. conflicts x.step d.step && x.at.finish == t - 1) (passes (Conflict (access_of d) (t - 1))) Finish t
+    older (λ o x. refl) (λ x i. before_is (conflicts x.step d.step) x.at.finish t pos i)
     (conflict_there older d.step t pos a b)

@@ -87,7 +87,8 @@ station_case config d older good timed waits =
     let none : has_station config older (step_pool d.step) (d.at.issue - 1) ≡ false =
     last_fails ((nat_lt 0 (d.at.issue - 1) && can_issue_another config older (d.at.issue - 1))
     && are_branches_finished older (d.at.issue - 1)) (has_station config older (step_pool d.step) (d.at.issue - 1))
-    (sym rest ∙ le-leb (from_of config older) (d.at.issue - 1) early) (timed.0.issue.1 (d.at.issue - 1) (omega arith)) in
+    (sym rest ∙ le-leb (from_of config older) (d.at.issue - 1) early)
+    (timed.0.issue.1 (d.at.issue - 1) (omega arith)) in
     elim (pool_cases (step_pool d.step)) [
       | inl e ↦ let f : true ≡ false = rw e at none in absurd (cc)
       | inr p ↦

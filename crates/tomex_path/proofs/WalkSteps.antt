@@ -108,7 +108,8 @@ taken config by next older d whole ls items link test is true_is e1 e2 e3 e4 =
     ∙ sym (append_assoc ls (link_of config by older d ∷ []) (links config k.by older))))
 
 pub skipped : (config : Configuration) (by : Holder) (older : List Done) (d : Done) (whole ls : List Link)
-    (test : Bool) → test ≡ passes by older d → test ≡ false → whole ≡ ls ++ links config by (d ∷ older) → whole ≡ ls ++ links config by older
+    (test : Bool) → test ≡ passes by older d → test ≡ false → whole ≡ ls ++ links config by (d ∷ older)
+    → whole ≡ ls ++ links config by older
 skipped config by older d whole ls test is false_is e =
     let other : passes by older d ≡ false = sym is ∙ false_is in
     let same : links config by (d ∷ older) ≡ links config by older = rw other refl in

@@ -127,7 +127,8 @@ module _ (config : Configuration) (good : IsWithinLimits config) where
     | inl c ↦ met_as c.is (record { before = c.before; within = after })
     | inr (inl c) ↦ met_as c.is (record { before = c.before; within = after })
     | inr (inr (inl c)) ↦ met_as c.is (record { before = c.before; within = after })
-    | inr (inr (inr (inl c))) ↦ met_as c.is (record { before = omega (arith, c.before); within = omega (arith, c.last) })
+    | inr (inr (inr (inl c))) ↦
+        met_as c.is (record { before = omega (arith, c.before); within = omega (arith, c.last) })
     | inr (inr (inr (inr c))) ↦ met_as c.is (record { before = c.before; within = after })
   ]
 

@@ -90,8 +90,8 @@ hold_issue older d waits =
     then held reasons.Branch d.at.issue holders.Branch
     else hold_turn older d
 
--- Address: held by what holds the issue, if it comes just after it; by the end of the base's producer; or by the address
--- of the load or store before.
+-- Address: held by what holds the issue, if it comes just after it; by the end of the base's producer; or by the
+-- address of the load or store before.
 abbrev pub hold_address : List Done → Done → Waits → Hold
 hold_address older d waits =
     let t = cycle_of d.at.address in

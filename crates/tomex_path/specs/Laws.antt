@@ -1,5 +1,5 @@
--- Laws of the path: what holds an event comes in the cycle before; the links add up to the run; and if no link waits for
--- a station, a unit or a bus, no machine is faster, except by its width or its latencies.
+-- Laws of the path: what holds an event comes in the cycle before; the links add up to the run; and if no link waits
+-- for a station, a unit or a bus, no machine is faster, except by its width or its latencies.
 use Rattle.std.specs.Prelude.{ℕ, ◌+◌, ◌-◌, ◌<◌, ◌≤◌, ◌≡◌, Bool, true, false, not, ◌==◌, nat_le, ◌&&◌, ◌||◌}
 use Rattle.std.specs.Prelude.{if◌then◌else◌, is_some, List, [], ◌∷◌, map, sum_by}
 use Rattle.std.specs.List.{list_all, list_any}

@@ -1,5 +1,6 @@
 -- What the walk along a path sees of a step, as it is computed: in one pass over a run, from the first step on.
-use Rattle.std.specs.Prelude.{ℕ, ◌+◌, ◌^◌, ◌<◌, ◌≡◌, ◌==◌, nat_lt, List, [], ◌∷◌, length, max, reverse, slice_index, take}
+use Rattle.std.specs.Prelude.{ℕ, ◌+◌, ◌^◌, ◌<◌, ◌≡◌, ◌==◌, nat_lt, List, [], ◌∷◌, length}
+use Rattle.std.specs.Prelude.{max, reverse, slice_index, take}
 use Rattle.tomex_steps.specs.Steps.{j_of, k_of}
 use Rattle.tomex_steps.specs.declared.step.Step.{Step}
 use Rattle.tomex_config.specs.Configuration.{Configuration, IsWithinLimits}

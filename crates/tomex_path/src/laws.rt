@@ -3,8 +3,8 @@
 ghost use Rattle.tomex_path.specs.Laws.{EventsAreHeld, FreePathIsFloor, FreePathIsLeast, NamedPartsStall, PathAddsUp};
 ghost use Rattle.tomex_path.specs.Laws.{PathIsWithinStalls, PathRises};
 
-/// What holds an event of a step comes in the cycle before the link that ends with it, and in each cycle of the link the
-/// step issues, computes its address, is in its unit, or has a bus.
+/// What holds an event of a step comes in the cycle before the link that ends with it, and in each cycle of the link
+/// the step issues, computes its address, is in its unit, or has a bus.
 pub fn events_are_held()
     ensures { EventsAreHeld }
 {}

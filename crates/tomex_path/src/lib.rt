@@ -3,6 +3,7 @@
 //!
 //! `specs/Holds.antt` says what holds an event of a step, over the recurrence of `tomex_timing`; `specs/Path.antt` is
 //! the path, and `specs/Laws.antt` says what it shows.
+//! Tests: tomex_tests_timing.
 #![tactic(auto)]
 
 mod event;

@@ -21,8 +21,10 @@ pub returns-in_default : goal.returns-in_default
 returns-in_default c = λ config older d e. elim c.in_default.branch [
   | in_default-via-in-Some+in_default w ↦
       c.turn_of.ensures config older d e
-      ∙ sym (ap (hold_station older d) (no_number _ d.at.station (sym (ap (λ (s : Seen). s.at.station) e) ∙ w.in_default.is-1)))
+      ∙ sym (ap (hold_station older d) (no_number _ d.at.station
+      (sym (ap (λ (s : Seen). s.at.station) e) ∙ w.in_default.is-1)))
   | in_default-via-in_default w ↦
       c.turn_of.ensures config older d e
-      ∙ sym (ap (hold_station older d) (no_pool _ d.at.station (sym (ap (λ (s : Seen). s.facts.pool) e) ∙ w.in_default.is-0)))
+      ∙ sym (ap (hold_station older d) (no_pool _ d.at.station
+      (sym (ap (λ (s : Seen). s.facts.pool) e) ∙ w.in_default.is-0)))
 ]

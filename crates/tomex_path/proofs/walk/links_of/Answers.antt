@@ -33,7 +33,8 @@ loop-passed-preserved g c = λ config steps ev.
     let d = done_at config steps (length c.args.times.now - 1 - c.loop-passed.passed) x.0 in
     let up : length c.args.times.now - c.loop-passed.passed ≡ length c.args.times.now - 1 - c.loop-passed.passed + 1 =
     omega (arith, c.loop-passed-test.true) in
-    let down : length c.args.times.now - (c.loop-passed.passed + 1) ≡ length c.args.times.now - 1 - c.loop-passed.passed =
+    let down : length c.args.times.now - (c.loop-passed.passed + 1)
+    ≡ length c.args.times.now - 1 - c.loop-passed.passed =
     omega arith in
     let here : history config (take (length c.args.times.now - c.loop-passed.passed) steps) ≡ d ∷ older =
     ap (λ i. history config (take i steps)) up

@@ -33,7 +33,8 @@ returns-clause-seen c = λ config steps x ev e.
     elim c.if-place-eq0.branch [
       | then-place-eq0 w ↦ w.result-is ∙ first_previous config steps c.args.place w.if-place-eq0.true
       | else-place-eq0 w ↦ w.result-is
-          ∙ previous_there config steps c.args.times.now c.args.place _ ev.of_times (omega (arith, w.if-place-eq0.false)) l
+          ∙ previous_there config steps c.args.times.now c.args.place _ ev.of_times
+          (omega (arith, w.if-place-eq0.false)) l
     ] in
     seen_there config steps c.args.place x l e c.args.facts.now c.args.times.now c.args.waits.now c.args.notes.now
     _ _ _ c.if-place-eq0.result _ ev before
