@@ -1,32 +1,17 @@
 //! Floors of small runs, compared with those of another implementation of the rules, and with
 //! totals.
 
-ghost use Rattle.std.specs.Prelude.{◌<◌, ◌≤◌, length, IfOk};
+ghost use Rattle.std.specs.Prelude.{◌<◌, ◌≤◌};
 
+use crate::runs::{Program, random_config, random_run, run_of};
 use std::alloc::{AllocError, Global};
 use std::test::Fail;
-use tomex_config::{Config, UnitOption};
+use tomex_config::Config;
 use tomex_floor::floors;
-use tomex_rvexec::trace;
-use tomex_tests_fixtures::machines::{config_of, one_unit_each};
+use tomex_tests_fixtures::machines::one_unit_each;
 use tomex_tests_fixtures::programs::{LOOP_WORDS, PRODUCT_WORDS};
-use tomex_tests_fixtures::{Attempt, Heap, Random, Try, image_of, refusals};
+use tomex_tests_fixtures::{Attempt, Heap, Random, Try, refusals};
 use tomex_timing::{Needs, Part, Run};
-
-/// A program, loaded at a base into memory of this size.
-struct Program {
-    base: u32,
-    size: u32,
-    words: &'static [u32],
-}
-
-/// The run of a program of at most 2000 steps.
-fn run_of(alloc: Global, program: &Program) -> Result<Run, Fail>
-    ensures { IfOk result (λ run. length run ≤ 2000) }
-{
-    let image = image_of(alloc, program.base, program.size, program.words)?;
-    Ok(Run::new(alloc, trace(alloc, &image, 2000)?)?)
-}
 
 /// The floors of a program's run for these latencies.
 fn floors_of(alloc: Global, program: &Program, latencies: [u8; 5]) -> Result<[u64; 4], Fail> {
@@ -119,81 +104,6 @@ fn the_floor_of_no_steps_is_0(rt: HostRuntime) -> Result<(), Fail> {
     let none = Run::new(rt.alloc(), Vec::new(rt.alloc()))?;
     assert!(rt; floors(rt.alloc(), &none, &config)? == [0; 4]);
     Ok(())
-}
-
-/// One of the registers x1 to x7.
-fn register(random: &mut Random) -> u32
-    ensures { result < 8 }
-{
-    random.below(7) + 1
-}
-
-/// An instruction: a sum, a product, a quotient, a load or a store of 16 bytes, or a branch past the next one.
-fn word(random: &mut Random) -> u32 {
-    let rd = register(random) * 0x80;
-    let rs1 = register(random) * 0x8000;
-    let rs2 = register(random) * 0x100000;
-    let place = random.below(16);
-    let loaded = (0x400 + place) * 0x100000;
-    let stored = 0x40000000 + place * 0x80;
-    match random.below(9) {
-        0 => 0x00000013 | rd | place * 0x100000,
-        1 => 0x00000033 | rd | rs1 | rs2,
-        2 => 0x02000033 | rd | rs1 | rs2,
-        3 => 0x02004033 | rd | rs1 | rs2,
-        4 => 0x00002003 | rd | loaded,
-        5 => 0x00000003 | rd | loaded,
-        6 => 0x00002023 | stored | rs2,
-        7 => 0x00000023 | stored | rs2,
-        _ => 0x00001463 | rs1 | rs2,
-    }
-}
-
-/// The run of a program of 30 such instructions.
-fn random_run(random: &mut Random, alloc: Global) -> Result<Run, Fail>
-    ensures { IfOk result (λ run. length run ≤ 2000) }
-{
-    let mut words = Vec::new(alloc);
-    for _ in 0..30 {
-        words.push(word(random))?;
-    }
-    words.extend_from_slice(&[0x00100073, 0x00100073])?;
-    let image = image_of(alloc, 0, 4096, words.as_slice())?;
-    Ok(Run::new(alloc, trace(alloc, &image, 2000)?)?)
-}
-
-/// A number of parts, or of cycles.
-fn count(random: &mut Random, most: u32) -> u8
-    requires { (0 < most) × (most < 256) }
-{
-    (random.below(most) + 1) as u8
-}
-
-/// At most two units of the kind, of a latency of at most 8.
-fn option(random: &mut Random) -> UnitOption {
-    UnitOption {
-        units: count(random, 2),
-        latency: count(random, 8),
-        price: 0,
-    }
-}
-
-/// A configuration of few parts, or of many.
-fn random_config(random: &mut Random, most: u32) -> Result<Config, Fail>
-    requires { (0 < most) × (most < 256) }
-{
-    let mut stations = [1; 6];
-    for pool in 0..6usize {
-        stations[pool] = count(random, most);
-    }
-    let mut units = [option(random); 5];
-    for unit in 0..4usize {
-        units[unit] = option(random);
-    }
-    units[4].units = 1;
-    let buses = count(random, 4);
-    let width = count(random, 4);
-    config_of(stations, units, buses, width)
 }
 
 /// True if no floor is below that of the next width.

@@ -1,5 +1,5 @@
 //! Tests of the recurrence: times, waits and needs of worked examples, the reservations of steps,
-//! and floors.
+//! floors and paths.
 #![tactic(auto)]
 
 #[cfg(test)]
@@ -7,6 +7,10 @@ mod floors;
 #[cfg(test)]
 mod needs;
 #[cfg(test)]
+mod paths;
+#[cfg(test)]
 mod reservations;
+#[cfg(test)]
+mod runs;
 #[cfg(test)]
 mod timings;

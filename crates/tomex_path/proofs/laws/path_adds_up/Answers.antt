@@ -1,0 +1,9 @@
+-- The laws are the lemmas.
+use Rattle.tomex_path.proofs.Turned.{path_adds_up, path_rises}
+use Rattle.tomex_path.proofs.laws.path_adds_up.Goals as goal
+
+pub returns-clause-cycles : goal.returns-clause-cycles
+returns-clause-cycles c = path_adds_up
+
+pub returns-clause-steps : goal.returns-clause-steps
+returns-clause-steps c = path_rises

@@ -1,0 +1,20 @@
+//! The critical path of a run: a chain of steps, each of which waited for the one before, with each cycle of the run
+//! once.
+//!
+//! `specs/Holds.antt` says what holds an event of a step, over the recurrence of `tomex_timing`; `specs/Path.antt` is
+//! the path, and `specs/Laws.antt` says what it shows.
+//! Tests: tomex_tests_timing.
+#![tactic(auto)]
+
+mod event;
+mod hold;
+mod laws;
+mod link;
+mod note;
+mod reason;
+mod walk;
+
+pub use laws::{events_are_held, free_path_takes_the_floor, path_adds_up, path_waits_are_stalls};
+pub use link::Link;
+pub use reason::Reason;
+pub use walk::path;
