@@ -82,10 +82,14 @@ fn rows(random: &mut Random, alloc: Global) -> Result<Vec<Config>, Fail> {
 
 /// Prices of the stations, of a bus and of the width: small ones, so that some are 0 and costs are often equal.
 fn prices(random: &mut Random) -> Prices {
-    let mut stations = [0; 6];
-    for pool in 0..6usize {
-        stations[pool] = random.below(5);
-    }
+    let stations = [
+        random.below(5),
+        random.below(5),
+        random.below(5),
+        random.below(5),
+        random.below(5),
+        random.below(5),
+    ];
     Prices::new(stations, random.below(9), random.below(9))
 }
 

@@ -8,6 +8,7 @@ use std::test::Fail;
 use std::thread::Threads;
 use tomex_config::Config;
 use tomex_sweep::{Mark, Program, Study, run_all};
+use tomex_tests_fixtures::Random;
 use tomex_timing::evaluate::{times, total};
 
 /// The cycles of a program on a row, by the recurrence.
