@@ -8,8 +8,14 @@ use tomex_image::{Image, Window, load};
 use tomex_report::tables_text;
 use tomex_tests_fixtures::machines::one_unit_each;
 use tomex_tests_fixtures::programs::PRODUCT;
-use tomex_tests_fixtures::studies::PRODUCT_AFTER_3;
 use tomex_tests_fixtures::{Attempt, Heap, Try, ample, refusals};
+
+/// The tables of the product after the third cycle on a machine of two alu stations.
+const PRODUCT_AFTER_3: &str = "cycle 3\n\
+    alu1 addi Vj=00000000 Vk=- Qj=- Qk=- A=-\n\
+    mul0 mul Vj=00000005 Vk=- Qj=- Qk=alu1 A=-\n\
+    x2 Qi=alu1\n\
+    x3 Qi=mul0\n";
 
 /// The machine of a program on a configuration, made in one memory, and the text of its tables after 3 cycles,
 /// made in the other.
