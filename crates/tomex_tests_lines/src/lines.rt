@@ -290,7 +290,7 @@ static HELP_ENDS: [(&str, &str); 9] = [
     ("explore --help", ",matrix,6625,22408,ebreak,..\n"),
     (
         "front --help",
-        "\n    4    85       8  0.20    2            3      1\n",
+        "\n    4    85       8  0.12    2            3      1\n",
     ),
     ("plot --help", " width=\"720\" height=\"440\" ..\n"),
 ];
