@@ -3,6 +3,7 @@ pub mod Best
 pub mod Chosen
 pub mod Ends
 pub mod Mixes
+pub mod OnFront
 pub mod OnHull
 pub mod Pareto
 pub mod Passes

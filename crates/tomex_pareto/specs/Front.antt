@@ -29,6 +29,10 @@ by_cost (r ∷ rs) = put r (by_cost rs)
 unfoldable pub front_of : List FrontRow → List FrontRow
 front_of rows = by_cost (filter (is_undominated rows) rows)
 
+-- the row of this number is on the front
+abbrev pub is_on : List FrontRow → ℕ → Bool
+is_on front n = list_any (λ r. r.row == n) front
+
 -- rows of these costs and cycles, numbered from n on
 abbrev pub rows_from : ℕ → List ℕ → List ℕ → List FrontRow
 rows_from n (c ∷ cs) (y ∷ ys) = record { row = n; cost = c; cycles = y } ∷ rows_from (suc n) cs ys

@@ -2,7 +2,7 @@
 
 ghost use Rattle.std.specs.Prelude.{◌≡◌, ◌<◌, ◌≤◌, ◌-◌, ◌*◌, ◌++◌, [], ◌∷◌, List};
 ghost use Rattle.std.specs.List.{Contains};
-ghost use Rattle.tomex_pareto.specs.Front.{front_of};
+ghost use Rattle.tomex_pareto.specs.Front.{front_of, is_on, is_undominated};
 ghost use Rattle.tomex_pareto.specs.Hull.{hull_of, IsBestForSome};
 ghost use Rattle.tomex_pareto.specs.Pareto.{AreNumbered, IsFront};
 ghost use Rattle.tomex_pareto.specs.declared.front_row.FrontRow.{FrontRow};
@@ -13,6 +13,12 @@ pub fn front_is_the_undominated_rows()
     ensures is { (rows : List FrontRow) → AreNumbered rows → IsFront rows (front_of rows) }
     ensures only { (rows front : List FrontRow) → AreNumbered rows → IsFront rows front
         → front ≡ front_of rows }
+{}
+
+/// Of numbered configurations one is on the front, by its number, if and only if none dominates it.
+pub fn undominated_rows_are_on_the_front()
+    ensures { (rows : List FrontRow) → (r : FrontRow) → AreNumbered rows → Contains rows r
+        → is_on (front_of rows) r.row ≡ is_undominated rows r }
 {}
 
 /// Of two steps along the hull, the later one saves no more for 1 of cost.

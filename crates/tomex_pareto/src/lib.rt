@@ -13,5 +13,5 @@ pub use fronts::front;
 pub use hulls::hull;
 pub use laws::{
     ends_of_the_front_are_on_the_hull, equal_rows_stay_together, front_is_the_undominated_rows,
-    hull_is_the_best_for_some_worth, rates_never_rise,
+    hull_is_the_best_for_some_worth, rates_never_rise, undominated_rows_are_on_the_front,
 };

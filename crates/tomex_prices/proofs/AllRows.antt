@@ -16,7 +16,7 @@ use Rattle.tomex_study.specs.Cycles.{cycles_of}
 use Rattle.tomex_study.specs.StudyFront.{all_rows, front_of_study, row_at}
 use Rattle.tomex_study.proofs.Rows.{as_many_rows, cycles_at}
 use Rattle.tomex_prices.specs.declared.price.Price.{Price}
-use Rattle.tomex_prices.specs.declared.priced_row.PricedRow.{PricedRow}
+use Rattle.tomex_spans.specs.declared.line_row.LineRow.{LineRow}
 use Rattle.tomex_prices.specs.Interval.{IsSmall}
 use Rattle.tomex_prices.specs.Repriced.{priced_from, with_price_apart}
 
@@ -39,7 +39,7 @@ front_row_within s r is one =
 
 -- one more row with a price apart
 pub next_priced : (price : Price) (prices : PriceList) (k : ℕ) (cs : List Configuration) (ys : List ℕ)
-    {c : Configuration} (before : List PricedRow) {after whole : List PricedRow} {r : PricedRow} → k < length cs
+    {c : Configuration} (before : List LineRow) {after whole : List LineRow} {r : LineRow} → k < length cs
     → k < length ys → c ≡ get_or cs k c → r ≡ with_price_apart price prices k c (get_or ys k 0)
     → after ≡ before ++ r ∷ [] → before ++ priced_from price prices k (drop k cs) (drop k ys) ≡ whole
     → after ++ priced_from price prices (k + 1) (drop (k + 1) cs) (drop (k + 1) ys) ≡ whole
@@ -53,7 +53,7 @@ next_priced price prices k cs ys {c} before {whole} {r} low less is made grown s
 
 -- a row that is made of a row of the study
 pub made_apart : (s : DesignSpace) (price : Price) (k : ℕ) (config : Configuration) (prices : PriceList)
-    (cycles : ℕ) (r : PricedRow) → k < length s.rows → prices ≡ s.prices → cycles ≡ (row_at s k).cycles
+    (cycles : ℕ) (r : LineRow) → k < length s.rows → prices ≡ s.prices → cycles ≡ (row_at s k).cycles
     → r ≡ with_price_apart price prices k config cycles
     → r ≡ with_price_apart price s.prices k config (get_or (cycles_of s) k 0)
 made_apart s price k config prices cycles r low list is made =
@@ -63,7 +63,7 @@ made_apart s price k config prices cycles r low list is made =
     ∙ ap (λ (y : ℕ). with_price_apart price s.prices k config y) own)
 
 -- one more small row
-pub small_more : (before after : List PricedRow) (r : PricedRow) → after ≡ before ++ r ∷ [] → IsSmall r
+pub small_more : (before after : List LineRow) (r : LineRow) → after ≡ before ++ r ∷ [] → IsSmall r
     → All IsSmall before → All IsSmall after
 small_more before after r grown small all =
     subst (All IsSmall) (sym grown) (All-append IsSmall before (r ∷ []) all (All-cons IsSmall r [] small

@@ -1,8 +1,5 @@
 -- Lemmas of this crate.
-pub mod Rivals
-pub mod AllRivals
-pub mod SoFar
-pub mod OnFront
+pub mod Within
 pub mod Splitting
 pub mod Repricing
 pub mod SameCycles

@@ -1,17 +1,19 @@
 -- All rows of a study with other costs: a row is on the front if each rival that is no slower costs enough more.
-use Rattle.std.proofs.Common.{◌≡◌, ◌≢◌, ◌∙◌, ◌+◌, ◌<◌, ◌≤◌, inl, inr, ℕ, ap, arith}
+use Rattle.std.proofs.Common.{◌≡◌, ◌∙◌, ◌+◌, ◌<◌, ◌≤◌, ◌==◌, inl, inr, ℕ, ap, arith}
 use Rattle.std.proofs.Common.{refl, sym, subst, Bool, true, false, cond, List, [], ◌∷◌, get_or, length, map}
 use Rattle.std.specs.Prelude.{nat_lt, sum_by}
 use Rattle.std.specs.List.{Contains}
-use Rattle.std.proofs.lemmas.Bool.{cases_Bool, cases_lt, le-ltb, lt-ltb}
+use Rattle.std.proofs.lemmas.Bool.{cases_Bool, cases_lt, false_from_ne_true, le-ltb, lt-ltb}
 use Rattle.std.proofs.lemmas.List.{get_or-map}
 use Rattle.tomex_config.specs.Configuration.{plain}
 use Rattle.tomex_config.specs.Cost.{cost_of}
-use Rattle.tomex_pareto.specs.Front.{front_of}
+use Rattle.tomex_pareto.specs.Front.{front_of, is_on, is_undominated}
 use Rattle.tomex_pareto.specs.declared.front_row.FrontRow.{FrontRow}
 use Rattle.tomex_pareto.specs.Pareto.{Dominates}
-use Rattle.tomex_pareto.proofs.Rows.{row_at, rows_apart}
-use Rattle.tomex_pareto.proofs.Pareto.{AllOf, AreApart, Has, IsFree, contains_has, front_is}
+use Rattle.tomex_pareto.proofs.OnFront.{contains_map, distinct_map, on_front}
+use Rattle.tomex_pareto.proofs.Rows.{row_at, rows_apart, rows_numbered}
+use Rattle.tomex_pareto.proofs.Pareto.{AreApart, Has, IsFree, among, apart, contains_has, free_undominated, front_is}
+use Rattle.tomex_pareto.proofs.Pareto.{has_contains, undominated_free}
 use Rattle.tomex_study.specs.Study.{DesignSpace, IsStudy}
 use Rattle.tomex_study.specs.Cycles.{cycles_of}
 use Rattle.tomex_study.specs.StudyFront.{all_rows, front_of_study}
@@ -19,8 +21,6 @@ use Rattle.tomex_prices.specs.Prices.{prices_of}
 use Rattle.tomex_prices.specs.Studies.{config_of}
 use Rattle.tomex_prices.proofs.AllCosts.{cost_is_shares, share}
 use Rattle.tomex_study.proofs.Rows.{as_many_rows}
-use Rattle.tomex_prices.proofs.OnFront.{has_number, number_has, same_row}
-use Rattle.tomex_prices.specs.Repriced.{is_on}
 
 -- rows
 
@@ -89,20 +89,14 @@ module _ (cost : FrontRow → ℕ) (s : DesignSpace) where
   abbrev pub is_on_costed : FrontRow → Bool
   is_on_costed r = is_on (front_of (map costed (all_rows s))) r.row
 
-  numbers_stay : (n : ℕ) (rows : List FrontRow) → AllOf (λ x. n ≢ x.row) rows
-      → AllOf (λ x. n ≢ x.row) (map costed rows)
-  numbers_stay n [] all = tt
-  numbers_stay n (r ∷ rs) all = (all.0, numbers_stay n rs all.1)
+  far : AreApart (map costed (all_rows s))
+  far = apart (map costed (all_rows s)) (subst (λ (T : Type 0). T)
+      (sym (distinct_map (λ (a b : FrontRow). a.row == b.row) costed (all_rows s)))
+      (rows_numbered s.costs (cycles_of s)))
 
-  apart_costed : (rows : List FrontRow) → AreApart rows → AreApart (map costed rows)
-  apart_costed [] far = tt
-  apart_costed (r ∷ rs) far = (numbers_stay r.row rs far.0, apart_costed rs far.1)
-
-  has_costed : (rows : List FrontRow) (r : FrontRow) → Has rows r
-      → Has (map costed rows) (costed r)
-  has_costed [] r one = absurd one
-  has_costed (x ∷ xs) r (inl is) = inl (ap costed is)
-  has_costed (x ∷ xs) r (inr there) = inr (has_costed xs r there)
+  has_costed : (r : FrontRow) → Has (all_rows s) r → Has (map costed (all_rows s)) (costed r)
+  has_costed r one = among (map costed (all_rows s)) (costed r)
+      (contains_map costed (all_rows s) r (has_contains (all_rows s) r one))
 
   of_costed : (rows : List FrontRow) (q : FrontRow) → Has (map costed rows) q
       → (j : FrontRow) × Has rows j × (costed j ≡ q)
@@ -110,41 +104,25 @@ module _ (cost : FrontRow → ℕ) (s : DesignSpace) where
   of_costed (x ∷ xs) q (inl is) = (x, inl refl, is)
   of_costed (x ∷ xs) q (inr there) = let w = of_costed xs q there in (w.0, inr w.1, w.2)
 
-  far : AreApart (map costed (all_rows s))
-  far = apart_costed (all_rows s) (rows_apart 0 s.costs (cycles_of s))
+  on_is : (r : FrontRow) → Has (all_rows s) r
+      → is_on_costed r ≡ is_undominated (map costed (all_rows s)) (costed r)
+  on_is r one = on_front (map costed (all_rows s)) (costed r) far (has_costed r one)
 
   -- a row that no rival beats is on the front
   pub on_costed : (r : FrontRow) → Has (all_rows s) r
       → ((j : FrontRow) → Has (all_rows s) j → j.cycles ≤ r.cycles
       → cost r + premium r j ≤ cost j)
       → is_on_costed r ≡ true
-  on_costed r one keeps =
-      let rows = map costed (all_rows s) in
-      has_number (front_of rows) (costed r)
-      ((front_is rows far).all (costed r) (has_costed (all_rows s) r one) (free r keeps))
-    where
-      free : (r : FrontRow) → ((j : FrontRow) → Has (all_rows s) j → j.cycles ≤ r.cycles
-          → cost r + premium r j ≤ cost j)
-          → IsFree (map costed (all_rows s)) (costed r)
-      free r keeps q there w =
-          let j = of_costed (all_rows s) q there in
-          keeps_free (costed r) (costed j.0) (keeps j.0 j.1)
-          (subst (λ (x : FrontRow). Dominates x (costed r)) (sym j.2) w)
+  on_costed r one keeps = on_is r one ∙ free_undominated (map costed (all_rows s)) (costed r) (λ q there w.
+      let j = of_costed (all_rows s) q there in
+      keeps_free (costed r) (costed j.0) (keeps j.0 j.1)
+      (subst (λ (x : FrontRow). Dominates x (costed r)) (sym j.2) w))
 
   -- one that a rival beats isn't
   pub off_costed : (r j : FrontRow) → Has (all_rows s) r → Has (all_rows s) j
       → Dominates (costed j) (costed r) → is_on_costed r ≡ false
-  off_costed r j one there beaten = elim (cases_Bool (is_on_costed r)) [
-    | inl on ↦
-        let rows = map costed (all_rows s) in
-        let w = number_has (front_of rows) r.row on in
-        let o = (front_is rows far).only w.0 w.1 in
-        let is : w.0 ≡ costed r =
-        same_row rows w.0 (costed r) far o.0 (has_costed (all_rows s) r one) w.2 in
-        absurd (o.1 (costed j) (has_costed (all_rows s) j there)
-        (subst (λ (x : FrontRow). Dominates (costed j) x) (sym is) beaten))
-    | inr off ↦ off
-  ]
+  off_costed r j one there beaten = on_is r one ∙ false_from_ne_true _ (λ e.
+      undominated_free (map costed (all_rows s)) (costed r) e (costed j) (has_costed j there) beaten)
 
 -- a row of the front is one of all rows, and none of them dominates it
 pub front_free : (s : DesignSpace) (r : FrontRow) → Contains (front_of_study s) r

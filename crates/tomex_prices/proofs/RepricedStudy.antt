@@ -7,8 +7,9 @@ use Rattle.std.specs.List.{Contains}
 use Rattle.std.proofs.lemmas.List.{get_or_default}
 use Rattle.tomex_config.specs.Configuration.{Configuration, plain}
 use Rattle.tomex_config.specs.Cost.{PriceList}
-use Rattle.tomex_pareto.specs.Front.{front_of, rows_from}
+use Rattle.tomex_pareto.specs.Front.{front_of, is_on, rows_from}
 use Rattle.tomex_pareto.specs.declared.front_row.FrontRow.{FrontRow}
+use Rattle.tomex_pareto.proofs.OnFront.{has_number}
 use Rattle.tomex_pareto.proofs.Rows.{IsAt}
 use Rattle.tomex_pareto.proofs.Pareto.{contains_has}
 use Rattle.tomex_study.specs.Study.{DesignSpace, IsStudy, costs_of}
@@ -17,14 +18,12 @@ use Rattle.tomex_study.specs.StudyFront.{front_of_study}
 use Rattle.tomex_prices.specs.declared.intervals.PriceRange.{PriceRange}
 use Rattle.tomex_prices.specs.declared.price.Price.{Price}
 use Rattle.tomex_prices.specs.declared.price.TheConstants.{GREATEST_PRICE}
-use Rattle.tomex_prices.specs.declared.priced_row.PricedRow.{PricedRow}
+use Rattle.tomex_spans.specs.declared.line_row.LineRow.{LineRow}
 use Rattle.tomex_prices.specs.Interval.{interval, is_within}
-use Rattle.tomex_prices.specs.Price.{amount}
-use Rattle.tomex_prices.specs.Repriced.{costs_with, is_on, priced_from, with_price_apart}
+use Rattle.tomex_prices.specs.Repriced.{costs_with, priced_from, with_price_apart}
 use Rattle.tomex_prices.specs.Studies.{IsOnStudyExactlyWithin, interval_of, space_with, row_with, rows_with}
 use Rattle.tomex_prices.proofs.AllRows.{front_row_at}
 use Rattle.tomex_study.proofs.Rows.{as_many_cycles, as_many_rows}
-use Rattle.tomex_prices.proofs.OnFront.{has_number}
 use Rattle.tomex_prices.proofs.Repricing.{on_repriced_within}
 use Rattle.tomex_prices.proofs.SameCycles.{all_cycles_same}
 
@@ -34,10 +33,10 @@ unfolding cycles_of
 study_cycles s price q few is = all_cycles_same price q s.programs s.rows few is.limits
 
 -- a row with the price apart
-on_study : (s : DesignSpace) (price : Price) (q : ℕ) (r : PricedRow) → IsStudy s → q ≤ GREATEST_PRICE
+on_study : (s : DesignSpace) (price : Price) (q : ℕ) (r : LineRow) → IsStudy s → q ≤ GREATEST_PRICE
     → Contains (rows_with s price) r → is_on (front_of_study s) r.row ≡ true
     → is_on (front_of_study (space_with s price q)) r.row
-    ≡ is_within (interval (amount price s.prices) r (rows_with s price)) q
+    ≡ is_within (interval r (rows_with s price)) q
 unfolding front_of_study
 on_study s price q r is few one here =
     let before : is_on (front_of (rows_from 0 (costs_of s.prices s.rows) (cycles_of s))) r.row ≡ true =
@@ -57,7 +56,7 @@ priced_long price prices n (suc k) (c ∷ cs) (y ∷ ys) low less =
     let rest = priced_long price prices (suc n) k cs ys (omega arith) (omega arith) in
     omega arith
 
-priced_at : (price : Price) (prices : PriceList) (n k : ℕ) (cs : List Configuration) (ys : List ℕ) (d : PricedRow)
+priced_at : (price : Price) (prices : PriceList) (n k : ℕ) (cs : List Configuration) (ys : List ℕ) (d : LineRow)
     → k < length cs → k < length ys
     → get_or (priced_from price prices n cs ys) k d
     ≡ with_price_apart price prices (n + k) (get_or cs k plain) (get_or ys k 0)
@@ -80,7 +79,7 @@ row_at_apart s price r is at =
     let is_k : at.k ≡ r.row = (let n = at.number in omega arith) in
     let low : at.k < length s.rows = (let w = at.within in omega arith) in
     let less : at.k < length (cycles_of s) = omega arith in
-    let row : ℕ → PricedRow = λ k. with_price_apart price s.prices k (get_or s.rows k plain) r.cycles in (
+    let row : ℕ → LineRow = λ k. with_price_apart price s.prices k (get_or s.rows k plain) r.cycles in (
       at.k,
       priced_long price s.prices 0 at.k s.rows (cycles_of s) low less,
       priced_at price s.prices 0 at.k s.rows (cycles_of s) (row_with s price r) low less
@@ -102,12 +101,12 @@ on_study_within s price q r is few one =
     on_study s price q (row_with s price r) is few (row_apart s price r is one) (is_there (front_of_study s) r one)
 
 -- an interval that is made of these is that of the row
-pub interval_is : (s : DesignSpace) (price : Price) (r : FrontRow) {range : PriceRange} {now : ℕ} {prices : PriceList}
-    {config : Configuration} {configs : List Configuration} {row : PricedRow} {rows : List PricedRow}
-    → r.row < length s.rows → range ≡ interval now row rows → now ≡ amount price prices → prices ≡ s.prices
+pub interval_is : (s : DesignSpace) (price : Price) (r : FrontRow) {range : PriceRange} {prices : PriceList}
+    {config : Configuration} {configs : List Configuration} {row : LineRow} {rows : List LineRow}
+    → r.row < length s.rows → range ≡ interval row rows → prices ≡ s.prices
     → row ≡ with_price_apart price prices r.row config r.cycles → config ≡ get_or configs r.row config
     → configs ≡ s.rows → rows ≡ rows_with s price → range ≡ interval_of s price r
-interval_is s price r {config} {row} {rows} low range_is now_is list row_is config_is all rows_are =
+interval_is s price r {config} {row} {rows} low range_is list row_is config_is all rows_are =
     let found : config ≡ get_or s.rows r.row plain =
     config_is ∙ (ap (λ (cs : List Configuration). get_or cs r.row config) all
     ∙ get_or_default s.rows r.row config plain low) in
@@ -116,6 +115,5 @@ interval_is s price r {config} {row} {rows} low range_is now_is list row_is conf
     ∙ (ap (λ (p : PriceList). with_price_apart price p r.row config r.cycles) list
     ∙ ap (λ (c : Configuration). with_price_apart price s.prices r.row c r.cycles) found) in
     range_is
-    ∙ (ap (λ (n : ℕ). interval n row rows) (now_is ∙ ap (amount price) list)
-    ∙ (ap (λ (x : PricedRow). interval (amount price s.prices) x rows) apart
-    ∙ ap (λ (xs : List PricedRow). interval (amount price s.prices) (row_with s price r) xs) rows_are))
+    ∙ (ap (λ (x : LineRow). interval x rows) apart
+    ∙ ap (λ (xs : List LineRow). interval (row_with s price r) xs) rows_are)

@@ -1,24 +1,26 @@
 -- A row of the front stays at the stated price, and at all prices if rows pay it equally often.
-use Rattle.std.proofs.Common.{◌≡◌, ◌∙◌, ◌<◌, ◌≤◌, ◌&&◌, ◌==◌, ℕ, zero, suc, ap, arith}
-use Rattle.std.proofs.Common.{refl, sym, Bool, true, false, not}
+use Rattle.std.proofs.Common.{◌≡◌, ◌∙◌, ◌<◌, ◌≤◌, ◌==◌, ℕ, zero, suc, ap, arith}
+use Rattle.std.proofs.Common.{refl, subst, sym, false, not}
 use Rattle.std.proofs.Common.{inl, inr, get_or, length, List, [], ◌∷◌}
-use Rattle.std.specs.Prelude.{max, min}
-use Rattle.std.specs.List.{list_any}
-use Rattle.std.proofs.lemmas.Bool.{cases_Bool, eqb-true, le-ltb, or_parts, true≢false}
+use Rattle.std.specs.List.{AllByRecursion, list_any}
+use Rattle.std.proofs.lemmas.Bool.{cases_Bool, eqb-true, or_parts, true≢false}
 use Rattle.tomex_config.specs.Configuration.{Configuration, plain}
 use Rattle.tomex_config.specs.Cost.{PriceList}
-use Rattle.tomex_pareto.specs.Front.{front_of, rows_from}
+use Rattle.tomex_pareto.specs.Front.{front_of, is_on, rows_from}
 use Rattle.tomex_study.specs.Study.{DesignSpace, IsStudy}
 use Rattle.tomex_study.specs.Cycles.{cycles_of}
 use Rattle.tomex_study.specs.StudyFront.{front_of_study}
 use Rattle.tomex_prices.specs.declared.price.Price.{Price}
 use Rattle.tomex_prices.specs.declared.price.TheConstants.{GREATEST_PRICE}
-use Rattle.tomex_prices.specs.declared.priced_row.PricedRow.{PricedRow}
-use Rattle.tomex_prices.specs.Interval.{fall, least, most, rise}
+use Rattle.tomex_spans.specs.declared.line_row.LineRow.{LineRow}
+use Rattle.tomex_spans.specs.declared.spans.ValueSpan.{ValueSpan}
+use Rattle.tomex_spans.specs.Spans.{span}
+use Rattle.tomex_spans.proofs.EqualTimes.{IsAllOrNone, all_or_none}
+use Rattle.tomex_prices.specs.Interval.{interval, range_of}
 use Rattle.tomex_prices.specs.Price.{payments, amount}
 use Rattle.tomex_prices.specs.Prices.{is_relevant}
 use Rattle.tomex_prices.specs.PriceLaws.{HoldsAllIfIrrelevant, HoldsStated}
-use Rattle.tomex_prices.specs.Repriced.{costs_with, is_on, priced_from}
+use Rattle.tomex_prices.specs.Repriced.{costs_with, priced_from}
 use Rattle.tomex_prices.specs.Studies.{space_with, row_with, rows_with}
 use Rattle.tomex_prices.proofs.RepricedStudy.{is_there, on_study_within, study_cycles}
 use Rattle.tomex_prices.proofs.Repricing.{stated_costs}
@@ -42,12 +44,10 @@ holds_stated s price r is few one =
 -- all pay it t times
 
 abbrev EachPays : Price → ℕ → List Configuration → Type 0
-EachPays price t [] = Unit {0}
-EachPays price t (c ∷ cs) = (payments price c ≡ t) × EachPays price t cs
+EachPays price t cs = AllByRecursion (λ c. payments price c ≡ t) cs
 
-abbrev EachIsPaid : ℕ → List PricedRow → Type 0
-EachIsPaid t [] = Unit {0}
-EachIsPaid t (j ∷ js) = (j.times ≡ t) × EachIsPaid t js
+abbrev EachIsPaid : ℕ → List LineRow → Type 0
+EachIsPaid t rows = AllByRecursion (λ j. j.times ≡ t) rows
 
 not_other : (n t : ℕ) → not (n == t) ≡ false → n ≡ t
 not_other n t e = elim (cases_Bool (n == t)) [
@@ -74,44 +74,21 @@ is_paid price prices t n [] ys each = tt
 is_paid price prices t n (c ∷ cs) [] each = tt
 is_paid price prices t n (c ∷ cs) (y ∷ ys) each = (each.0, is_paid price prices t (suc n) cs ys each.1)
 
--- so no rival sets a bound
+-- so a span is all prices or none, and either way the interval is all
+all_prices : (s : ValueSpan) → IsAllOrNone (record { first = 0; end = suc GREATEST_PRICE }) s
+    → range_of s ≡ record { least = 0; most = GREATEST_PRICE }
+all_prices s is = elim is.end [
+  | inl all ↦ rw (is.first, all) refl
+  | inr none ↦ rw (is.first, none) refl
+]
 
-never : (x : Bool) → (x && false) ≡ false
-never true = refl
-never false = refl
-
-no_rise : (now : ℕ) (r j : PricedRow) → j.times ≡ r.times → rise now r j ≡ GREATEST_PRICE
-no_rise now r j same = rw (le-ltb j.times r.times (omega arith), never) refl
-
-no_fall : (now : ℕ) (r j : PricedRow) → j.times ≡ r.times → fall now r j ≡ 0
-no_fall now r j same = rw (le-ltb r.times j.times (omega arith), never) refl
-
-most_any : (now t : ℕ) (r : PricedRow) (rows : List PricedRow) → r.times ≡ t → EachIsPaid t rows
-    → most now r rows ≡ GREATEST_PRICE
-most_any now t r [] own each = refl
-most_any now t r (j ∷ js) own each =
-    let one = no_rise now r j (each.0 ∙ sym own) in
-    let rest = most_any now t r js own each.1 in
-    let m : min (rise now r j) (most now r js) ≡ GREATEST_PRICE = omega arith in
-    m
-
-least_any : (now t : ℕ) (r : PricedRow) (rows : List PricedRow) → r.times ≡ t → EachIsPaid t rows
-    → least now r rows ≡ 0
-least_any now t r [] own each = refl
-least_any now t r (j ∷ js) own each =
-    let one = no_fall now r j (each.0 ∙ sym own) in
-    let rest = least_any now t r js own each.1 in
-    let m : max (fall now r j) (least now r js) ≡ 0 = omega arith in
-    m
-
-interval_any : (s : DesignSpace) (price : Price) (t : ℕ) (r : PricedRow) → r.times ≡ t → EachPays price t s.rows
-    → (least (amount price s.prices) r (rows_with s price) ≡ 0)
-    × (most (amount price s.prices) r (rows_with s price) ≡ GREATEST_PRICE)
+interval_any : (s : DesignSpace) (price : Price) (t : ℕ) (r : LineRow) → r.times ≡ t → EachPays price t s.rows
+    → interval r (rows_with s price) ≡ record { least = 0; most = GREATEST_PRICE }
 interval_any s price t r own each =
-    let paid = is_paid price s.prices t 0 s.rows (cycles_of s) each in (
-      least_any (amount price s.prices) t r (rows_with s price) own paid,
-      most_any (amount price s.prices) t r (rows_with s price) own paid,
-    )
+    let paid = is_paid price s.prices t 0 s.rows (cycles_of s) each in
+    all_prices (span 0 GREATEST_PRICE r (rows_with s price)) (all_or_none r (rows_with s price)
+    (record { first = 0; end = suc GREATEST_PRICE })
+    (subst (λ (n : ℕ). AllByRecursion (λ (j : LineRow). j.times ≡ n) (rows_with s price)) (sym own) paid))
 
 equally_often : (price : Price) (cs : List Configuration) → is_relevant cs price ≡ false → (t : ℕ) × EachPays price t cs
 unfolding is_relevant
@@ -122,5 +99,4 @@ pub all_hold : HoldsAllIfIrrelevant
 all_hold s price r low fails =
     let each = equally_often price s.rows fails in
     let own : (row_with s price r).times ≡ each.0 = pays_at price each.0 r.row s.rows low each.1 in
-    let two = interval_any s price each.0 (row_with s price r) own each.1 in
-    rw (two.0, two.1) refl
+    interval_any s price each.0 (row_with s price r) own each.1

@@ -1,22 +1,27 @@
 -- Prices that move together, each by a share of the way to an end of its interval.
-use Rattle.std.proofs.Common.{◌≡◌, ◌∙◌, ◌+◌, ◌-◌, ◌*◌, ◌/◌, ◌<◌, ◌≤◌, inl, inr, ℕ, zero, suc, ap, arith}
-use Rattle.std.proofs.Common.{refl, sym, subst, List, [], ◌∷◌, get_or, length}
-use Rattle.std.specs.Prelude.{max, min, sum_by}
+use Rattle.std.proofs.Common.{◌≡◌, ◌∙◌, ◌+◌, ◌-◌, ◌*◌, ◌<◌, ◌≤◌, inl, inr, ℕ, ap, arith, true}
+use Rattle.std.proofs.Common.{refl, sym, List, [], ◌∷◌, length}
+use Rattle.std.specs.Prelude.{map, sum_by}
 use Rattle.std.specs.List.{Contains}
-use Rattle.std.proofs.lemmas.Bool.{cases_lt, le-leb, lt-ltb}
+use Rattle.std.proofs.lemmas.Bool.{cases_lt}
 use Rattle.std.proofs.lemmas.List.Sums.{sum_by-cons}
-use Rattle.std.proofs.Math.Nat.{add-mul, div-mul-le_self, le_of_mul-le-mul_right, mul-add, mul-le-mul_left}
+use Rattle.std.proofs.Math.Nat.{add-mul, le_of_mul-le-mul_right, mul-add, mul-le-mul_left}
 use Rattle.std.proofs.Math.Nat.{mul-le-mul_right, mul_assoc, mul_comm}
 use Rattle.tomex_config.specs.Configuration.{plain}
+use Rattle.tomex_pareto.specs.Front.{is_undominated, rows_from}
 use Rattle.tomex_pareto.specs.declared.front_row.FrontRow.{FrontRow}
+use Rattle.tomex_pareto.proofs.OnFront.{contains_map}
 use Rattle.tomex_pareto.proofs.Rows.{row_at}
-use Rattle.tomex_pareto.proofs.Pareto.{Has, contains_has}
+use Rattle.tomex_pareto.proofs.Pareto.{Has, among, contains_has, free_undominated, undominated_free}
+use Rattle.tomex_spans.specs.declared.line_row.LineRow.{LineRow}
+use Rattle.tomex_spans.specs.Spans.{as_cost, measure_at, stays}
+use Rattle.tomex_spans.proofs.Ends.{first_low, stays_at_first}
 use Rattle.tomex_study.specs.Study.{DesignSpace, IsStudy}
 use Rattle.tomex_study.specs.Cycles.{cycles_of}
-use Rattle.tomex_study.specs.StudyFront.{all_rows}
+use Rattle.tomex_study.specs.StudyFront.{all_rows, front_of_study}
 use Rattle.tomex_prices.specs.declared.price.Price.{Price}
-use Rattle.tomex_prices.specs.declared.priced_row.PricedRow.{PricedRow}
-use Rattle.tomex_prices.specs.Interval.{cost_at, fall, least, most, rise, slack}
+use Rattle.tomex_prices.specs.declared.price.TheConstants.{GREATEST_PRICE}
+use Rattle.tomex_prices.specs.Interval.{interval}
 use Rattle.tomex_prices.specs.Price.{payments, amount}
 use Rattle.tomex_prices.specs.Prices.{prices_of}
 use Rattle.tomex_prices.specs.Studies.{config_of, interval_of, row_with, rows_with}
@@ -25,7 +30,9 @@ use Rattle.tomex_prices.proofs.AllCosts.{share}
 use Rattle.tomex_study.proofs.Rows.{as_many_rows}
 use Rattle.tomex_prices.proofs.NewCosts.{config_cost, front_free, free_keeps, on_costed, premium, row_shares}
 use Rattle.tomex_prices.proofs.RepricedStudy.{row_at_apart}
+use Rattle.tomex_prices.proofs.Repricing.{rows_stated}
 use Rattle.tomex_prices.proofs.Splitting.{costs_split, stated_costs_stay}
+use Rattle.tomex_prices.proofs.Within.{stays_at_most}
 
 -- one price: n is its stated value, v its new value; the row pays it a times and a rival b times; w is the whole, and
 -- k the share of it that counts against a slack of g
@@ -106,43 +113,54 @@ rival_helped n v a b w k g more rises =
     let y : n * a + v * b ≡ v * b + n * a = omega arith in
     rw (x, y) at turned
 
--- the ends of an interval leave a rival its slack
+-- at an end of its interval a row still stays, so the way there is worth no more than a rival's slack: how much cheaper
+-- the rival may get at the stated price, relative to the row
 
-has_most : (now : ℕ) (r : PricedRow) (rows : List PricedRow) (k : ℕ) (j : PricedRow) → k < length rows
-    → get_or rows k j ≡ j → most now r rows ≤ rise now r j
-has_most now r [] k j low at = absurd (omega (arith, low))
-has_most now r (x ∷ xs) zero j low at =
-    subst (λ (y : PricedRow). min (rise now r x) (most now r xs) ≤ rise now r y) at (omega arith)
-has_most now r (x ∷ xs) (suc k) j low at = omega (arith, has_most now r xs k j (omega (arith, low)) at)
+abbrev slack : ℕ → LineRow → LineRow → ℕ
+slack now r j = measure_at now j - measure_at now r - premium (as_cost now r) (as_cost now j)
 
-has_least : (now : ℕ) (r : PricedRow) (rows : List PricedRow) (k : ℕ) (j : PricedRow) → k < length rows
-    → get_or rows k j ≡ j → fall now r j ≤ least now r rows
-has_least now r [] k j low at = absurd (omega (arith, low))
-has_least now r (x ∷ xs) zero j low at =
-    subst (λ (y : PricedRow). fall now r y ≤ max (fall now r x) (least now r xs)) at (omega arith)
-has_least now r (x ∷ xs) (suc k) j low at = omega (arith, has_least now r xs k j (omega (arith, low)) at)
+keeps : (q : ℕ) (rows : List LineRow) (r j : LineRow) → stays q rows r ≡ true → Contains rows j → j.other ≤ r.other
+    → measure_at q r + premium (as_cost q r) (as_cost q j) ≤ measure_at q j
+keeps q rows r j here there fast =
+    let at_q = map (as_cost q) rows in
+    free_keeps (as_cost q r) (as_cost q j) (undominated_free at_q (as_cost q r) here (as_cost q j)
+    (among at_q (as_cost q j) (contains_map (as_cost q) rows j there))) fast
 
-way_up : (now : ℕ) (r j : PricedRow) (rows : List PricedRow) → Contains rows j → j.cycles ≤ r.cycles
-    → j.times < r.times → (most now r rows - now) * (r.times - j.times) ≤ slack now r j
-way_up now r j rows there fast more =
-    let q = slack now r j / (r.times - j.times) in
-    let rises : rise now r j ≡ now + q = rw (le-leb j.cycles r.cycles fast, lt-ltb j.times r.times more) refl in
-    let low = has_most now r rows there.0 j there.1 there.2 in
-    let way : most now r rows - now ≤ q = omega (arith, low, rises) in
-    omega (arith, mul-le-mul_right (r.times - j.times) way, div-mul-le_self (slack now r j) (r.times - j.times))
+up_by : (n e a b u d p : ℕ) → a + (n + e) * (u + d) + p ≤ b + (n + e) * u → e * d ≤ b + n * u - (a + n * (u + d)) - p
+up_by n e a b u d p low = omega (arith, low, mul-add (n + e) u d, add-mul n e d, mul-add n u d)
 
-way_down : (now : ℕ) (r j : PricedRow) (rows : List PricedRow) → Contains rows j → j.cycles ≤ r.cycles
-    → r.times < j.times → (now - least now r rows) * (j.times - r.times) ≤ slack now r j
-way_down now r j rows there fast more =
-    let q = slack now r j / (j.times - r.times) in
-    let falls : fall now r j ≡ now - q = rw (le-leb j.cycles r.cycles fast, lt-ltb r.times j.times more) refl in
-    let low = has_least now r rows there.0 j there.1 there.2 in
-    let way : now - least now r rows ≤ q = omega (arith, low, falls) in
-    omega (arith, mul-le-mul_right (j.times - r.times) way, div-mul-le_self (slack now r j) (j.times - r.times))
+down_by : (m e a b t d p : ℕ) → a + m * t + p ≤ b + m * (t + d)
+    → e * d ≤ b + (m + e) * (t + d) - (a + (m + e) * t) - p
+down_by m e a b t d p low = omega (arith, low, mul-add (m + e) t d, add-mul m e d, mul-add m t d)
+
+way_up : (now : ℕ) (r j : LineRow) (rows : List LineRow) → stays now rows r ≡ true → Contains rows j
+    → j.other ≤ r.other → j.times < r.times → ((interval r rows).most - now) * (r.times - j.times) ≤ slack now r j
+way_up now r j rows here there fast more =
+    let last = (interval r rows).most in
+    elim (cases_lt now last) [
+      | inl later ↦
+          let n_is : now + (last - now) ≡ last = omega (arith, later) in
+          let t_is : j.times + (r.times - j.times) ≡ r.times = omega (arith, more) in
+          (rw (n_is, t_is) at (up_by now (last - now) r.rest j.rest j.times (r.times - j.times)
+          (premium (as_cost now r) (as_cost now j))))
+          (keeps last rows r j (stays_at_most now rows r here (omega (arith, later))) there fast)
+      | inr past ↦ let none : last - now ≡ 0 = omega (arith, past) in rw none (omega arith)
+    ]
+
+way_down : (now : ℕ) (r j : LineRow) (rows : List LineRow) → stays now rows r ≡ true → Contains rows j
+    → j.other ≤ r.other → r.times < j.times → (now - (interval r rows).least) * (j.times - r.times) ≤ slack now r j
+way_down now r j rows here there fast more =
+    let first = (interval r rows).least in
+    let low = first_low 0 GREATEST_PRICE now rows r (omega arith) here in
+    let n_is : first + (now - first) ≡ now = omega (arith, low) in
+    let t_is : r.times + (j.times - r.times) ≡ j.times = omega (arith, more) in
+    (rw (n_is, t_is) at (down_by first (now - first) r.rest j.rest r.times (j.times - r.times)
+    (premium (as_cost now r) (as_cost now j))))
+    (keeps first rows r j (stays_at_first 0 GREATEST_PRICE now rows r (omega arith) here) there fast)
 
 -- a row with a price apart has the same cost
 apart_cost : (s : DesignSpace) (price : Price) (r : FrontRow) → IsStudy s → Has (all_rows s) r
-    → cost_at (amount price s.prices) (row_with s price r) ≡ r.cost
+    → measure_at (amount price s.prices) (row_with s price r) ≡ r.cost
 apart_cost s price r is one =
     let at = row_at 0 s.costs (cycles_of s) r one in
     let costs = as_many_rows s is in
@@ -152,10 +170,25 @@ apart_cost s price r is one =
     sym (costs_split price (amount price s.prices) s.prices config is.prices within)
     ∙ (stated_costs_stay price s.prices config is.prices within ∙ config_cost s r is one)
 
+-- and is undominated at the stated price if it is on the front
+stays_stated : (s : DesignSpace) (price : Price) (r : FrontRow) → IsStudy s → Contains (front_of_study s) r
+    → stays (amount price s.prices) (rows_with s price) (row_with s price r) ≡ true
+stays_stated s price r is on =
+    let free = front_free s r on in
+    ap (λ (rows : List FrontRow). is_undominated rows (as_cost (amount price s.prices) (row_with s price r)))
+    (rows_stated price s.prices s.rows (cycles_of s) is.prices is.limits
+    ∙ ap (λ (costs : List ℕ). rows_from 0 costs (cycles_of s)) (sym is.costs))
+    ∙ (ap (λ (cost : ℕ). is_undominated (all_rows s) (record { row = r.row; cost = cost; cycles = r.cycles }))
+    (apart_cost s price r is free.0)
+    ∙ free_undominated (all_rows s) r free.1)
+
 -- all prices together
 
 module _ (s : DesignSpace) (values : Values) (shares : Price → ℕ) (whole : ℕ) (r j : FrontRow) (is : IsStudy s)
-    (one : Has (all_rows s) r) (there : Has (all_rows s) j) (fast : j.cycles ≤ r.cycles) where
+    (on : Contains (front_of_study s) r) (there : Has (all_rows s) j) (fast : j.cycles ≤ r.cycles) where
+  one : Has (all_rows s) r
+  one = (front_free s r on).0
+
   abbrev gap : ℕ
   gap = j.cost - r.cost - premium r j
 
@@ -181,8 +214,8 @@ module _ (s : DesignSpace) (values : Values) (shares : Price → ℕ) (whole : �
             elim (cases_lt n v) [
               | inl rises ↦
                   up_counts n v a b whole (shares price) gap (interval_of s price r).most more rises moves.up
-                  (rw (slack_is price) at (way_up n (row_with s price r) (row_with s price j) (rows_with s price) rival
-                  fast more))
+                  (rw (slack_is price) at (way_up n (row_with s price r) (row_with s price j) (rows_with s price)
+                  (stays_stated s price r is on) rival fast more))
               | inr falls ↦ row_helped n v a b whole (shares price) gap (omega (arith, more)) falls
             ]
         | inr less ↦
@@ -193,7 +226,7 @@ module _ (s : DesignSpace) (values : Values) (shares : Price → ℕ) (whole : �
                     | inl more ↦
                         down_counts n v a b whole (shares price) gap (interval_of s price r).least more falls moves.down
                         (rw (slack_is price) at (way_down n (row_with s price r) (row_with s price j)
-                        (rows_with s price) rival fast more))
+                        (rows_with s price) (stays_stated s price r is on) rival fast more))
                     | inr same ↦ row_helped n v a b whole (shares price) gap same (omega (arith, falls))
                   ]
             ]
@@ -257,7 +290,7 @@ unfolding cost_at_values
 stays_by_shares s values shares whole r is one some few moves =
     let free = front_free s r one in
     on_costed (λ x. sum_by (λ price. values price * payments price (config_of s x)) (prices_of s)) s r free.0
-    (λ j there fast. stays_dearer s values shares whole r j is free.0 there fast moves some few
+    (λ j there fast. stays_dearer s values shares whole r j is one there fast moves some few
     (free_keeps r j (free.1 j there) fast))
 
 pub stated_at_stated : IsStatedAtStated

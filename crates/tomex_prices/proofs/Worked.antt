@@ -16,7 +16,7 @@ use Rattle.tomex_prices.specs.declared.price.Price.{Price}
 use Rattle.tomex_prices.specs.declared.price.Price.TheVariants.{Station, Choice, Bus, Width}
 use Rattle.tomex_prices.specs.Interval.{interval, range_text}
 use Rattle.tomex_prices.specs.Percent.{difference, least_percent, percent_text}
-use Rattle.tomex_prices.specs.Price.{name_of_price, amount}
+use Rattle.tomex_prices.specs.Price.{name_of_price}
 use Rattle.tomex_prices.specs.Prices.{choices_of, is_relevant, prices_of, relevant_prices_of}
 use Rattle.tomex_prices.specs.Repriced.{priced_from, with_price_apart}
 
@@ -63,7 +63,7 @@ relevant = refl
 -- the values of a price for which a row stays
 abbrev range_of : Price → ℕ → Configuration → ℕ → PriceRange
 range_of price n c y =
-    interval (amount price list) (with_price_apart price list n c y) (priced_from price list 0 rows cycles)
+    interval (with_price_apart price list n c y) (priced_from price list 0 rows cycles)
 
 abbrev texts : ℕ → Configuration → ℕ → List (List ℕ)
 texts n c y =

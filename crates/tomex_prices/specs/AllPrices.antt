@@ -4,7 +4,7 @@ use Rattle.std.specs.Prelude.{◌≡◌, ◌+◌, ◌*◌, ◌<◌, ◌≤◌, �
 use Rattle.std.specs.List.{Contains}
 use Rattle.tomex_config.specs.Configuration.{Configuration}
 use Rattle.tomex_config.specs.Cost.{PriceList}
-use Rattle.tomex_pareto.specs.Front.{front_of}
+use Rattle.tomex_pareto.specs.Front.{front_of, is_on}
 use Rattle.tomex_pareto.specs.declared.front_row.FrontRow.{FrontRow}
 use Rattle.tomex_study.specs.Study.{DesignSpace, IsStudy}
 use Rattle.tomex_study.specs.StudyFront.{all_rows, front_of_study}
@@ -12,7 +12,6 @@ use Rattle.tomex_prices.specs.declared.price.Price.{Price}
 use Rattle.tomex_prices.specs.Percent.{percent_of}
 use Rattle.tomex_prices.specs.Price.{payments, amount}
 use Rattle.tomex_prices.specs.Prices.{prices_of}
-use Rattle.tomex_prices.specs.Repriced.{is_on}
 use Rattle.tomex_prices.specs.Studies.{config_of}
 
 -- a factor for each price

@@ -1,17 +1,16 @@
 -- Configurations and a price list with one price replaced, and their costs.
-use Rattle.std.specs.Prelude.{◌≡◌, ℕ, ◌+◌, ◌*◌, ◌≤◌, ◌==◌, if◌then◌else◌, Bool, true, suc, List, [], ◌∷◌, map}
+use Rattle.std.specs.Prelude.{◌≡◌, ℕ, ◌+◌, ◌*◌, ◌≤◌, if◌then◌else◌, true, suc, List, [], ◌∷◌, map}
 use Rattle.std.specs.Prelude.{All, slice_set}
-use Rattle.std.specs.List.{Contains, list_any}
+use Rattle.std.specs.List.{Contains}
 use Rattle.tomex_rvdec.specs.Parts.{place_of_pool}
 use Rattle.tomex_config.specs.Configuration.{Configuration, IsWithinLimits, option_of, with_option}
 use Rattle.tomex_config.specs.Cost.{IsPriceList, PriceList, cost_of}
-use Rattle.tomex_pareto.specs.Front.{front_of, rows_from}
-use Rattle.tomex_pareto.specs.declared.front_row.FrontRow.{FrontRow}
+use Rattle.tomex_pareto.specs.Front.{front_of, is_on, rows_from}
+use Rattle.tomex_spans.specs.declared.line_row.LineRow.{LineRow}
 use Rattle.tomex_study.specs.Study.{costs_of}
 use Rattle.tomex_prices.specs.declared.price.Price.{Price}
 use Rattle.tomex_prices.specs.declared.price.Price.TheVariants.{Station, Choice, Bus, Width}
 use Rattle.tomex_prices.specs.declared.price.TheConstants.{GREATEST_PRICE}
-use Rattle.tomex_prices.specs.declared.priced_row.PricedRow.{PricedRow}
 use Rattle.tomex_prices.specs.Interval.{interval, is_within}
 use Rattle.tomex_prices.specs.Price.{payments, amount}
 use Rattle.tomex_config.specs.Configuration.{same_option}
@@ -47,27 +46,23 @@ StatedCostsStay = (price : Price) (prices : PriceList) (config : Configuration) 
 abbrev pub costs_with : Price → ℕ → PriceList → List Configuration → List ℕ
 costs_with price q prices configs = costs_of (list_with price q prices) (map (config_with price q) configs)
 
--- a configuration of this number and these cycles, with a price apart
-abbrev pub with_price_apart : Price → PriceList → ℕ → Configuration → ℕ → PricedRow
+-- a configuration of this number and these cycles, with a price apart: its cost is a line in the price
+abbrev pub with_price_apart : Price → PriceList → ℕ → Configuration → ℕ → LineRow
 with_price_apart price prices n config cycles =
-    record { row = n; rest = cost_with price 0 prices config; cycles = cycles; times = payments price config }
+    record { row = n; rest = cost_with price 0 prices config; times = payments price config; other = cycles }
 
 -- configurations of these cycles, numbered from n on
-abbrev pub priced_from : Price → PriceList → ℕ → List Configuration → List ℕ → List PricedRow
+abbrev pub priced_from : Price → PriceList → ℕ → List Configuration → List ℕ → List LineRow
 priced_from price prices n (c ∷ cs) (y ∷ ys) =
     with_price_apart price prices n c y ∷ priced_from price prices (suc n) cs ys
 priced_from price prices n _ _ = []
-
--- the row of this number is on the front
-abbrev pub is_on : List FrontRow → ℕ → Bool
-is_on front n = list_any (λ r. r.row == n) front
 
 -- a row of the front is on the front of the same configurations with one price replaced by q exactly if q is within its
 -- interval
 abbrev pub IsOnRepricedExactlyWithin : Type 0
 IsOnRepricedExactlyWithin = (price : Price) (prices : PriceList) (configs : List Configuration) (cycles : List ℕ)
-    (q : ℕ) (r : PricedRow) → IsPriceList prices → All IsWithinLimits configs → q ≤ GREATEST_PRICE
+    (q : ℕ) (r : LineRow) → IsPriceList prices → All IsWithinLimits configs → q ≤ GREATEST_PRICE
     → Contains (priced_from price prices 0 configs cycles) r
     → is_on (front_of (rows_from 0 (costs_of prices configs) cycles)) r.row ≡ true
     → is_on (front_of (rows_from 0 (costs_with price q prices configs) cycles)) r.row
-    ≡ is_within (interval (amount price prices) r (priced_from price prices 0 configs cycles)) q
+    ≡ is_within (interval r (priced_from price prices 0 configs cycles)) q

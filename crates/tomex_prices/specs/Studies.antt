@@ -2,6 +2,7 @@
 use Rattle.std.specs.Prelude.{◌≡◌, ℕ, ◌≤◌, List, map, slice_index_or}
 use Rattle.std.specs.List.{Contains}
 use Rattle.tomex_config.specs.Configuration.{Configuration, plain}
+use Rattle.tomex_pareto.specs.Front.{is_on}
 use Rattle.tomex_pareto.specs.declared.front_row.FrontRow.{FrontRow}
 use Rattle.tomex_study.specs.Study.{DesignSpace, IsStudy}
 use Rattle.tomex_study.specs.Cycles.{cycles_of}
@@ -9,10 +10,9 @@ use Rattle.tomex_study.specs.StudyFront.{front_of_study}
 use Rattle.tomex_prices.specs.declared.intervals.PriceRange.{PriceRange}
 use Rattle.tomex_prices.specs.declared.price.Price.{Price}
 use Rattle.tomex_prices.specs.declared.price.TheConstants.{GREATEST_PRICE}
-use Rattle.tomex_prices.specs.declared.priced_row.PricedRow.{PricedRow}
+use Rattle.tomex_spans.specs.declared.line_row.LineRow.{LineRow}
 use Rattle.tomex_prices.specs.Interval.{interval, is_within}
-use Rattle.tomex_prices.specs.Price.{amount}
-use Rattle.tomex_prices.specs.Repriced.{config_with, costs_with, is_on, list_with, priced_from, with_price_apart}
+use Rattle.tomex_prices.specs.Repriced.{config_with, costs_with, list_with, priced_from, with_price_apart}
 
 -- the same rows and programs, with that one price replaced by q, and so with other costs
 abbrev pub space_with : DesignSpace → Price → ℕ → DesignSpace
@@ -27,15 +27,15 @@ abbrev pub config_of : DesignSpace → FrontRow → Configuration
 config_of s r = slice_index_or s.rows r.row plain
 
 -- a row with a price apart, and all rows
-abbrev pub row_with : DesignSpace → Price → FrontRow → PricedRow
+abbrev pub row_with : DesignSpace → Price → FrontRow → LineRow
 row_with s price r = with_price_apart price s.prices r.row (config_of s r) r.cycles
 
-abbrev pub rows_with : DesignSpace → Price → List PricedRow
+abbrev pub rows_with : DesignSpace → Price → List LineRow
 rows_with s price = priced_from price s.prices 0 s.rows (cycles_of s)
 
 -- the values of a price for which a row of the front is on the front, all other prices as stated
 abbrev pub interval_of : DesignSpace → Price → FrontRow → PriceRange
-interval_of s price r = interval (amount price s.prices) (row_with s price r) (rows_with s price)
+interval_of s price r = interval (row_with s price r) (rows_with s price)
 
 -- it is on the front of the study with this price replaced by q exactly if q is within
 abbrev pub IsOnStudyExactlyWithin : Type 0

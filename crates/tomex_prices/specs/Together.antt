@@ -2,7 +2,7 @@
 use Rattle.std.specs.Prelude.{◌≡◌, ◌-◌, ◌*◌, ◌<◌, ◌≤◌, ℕ, Bool, true, List, map, sum_by}
 use Rattle.std.specs.List.{Contains}
 use Rattle.tomex_config.specs.Configuration.{Configuration}
-use Rattle.tomex_pareto.specs.Front.{front_of}
+use Rattle.tomex_pareto.specs.Front.{front_of, is_on}
 use Rattle.tomex_pareto.specs.declared.front_row.FrontRow.{FrontRow}
 use Rattle.tomex_study.specs.Study.{DesignSpace, IsStudy}
 use Rattle.tomex_study.specs.StudyFront.{all_rows, front_of_study}
@@ -10,7 +10,6 @@ use Rattle.tomex_prices.specs.declared.intervals.PriceRange.{PriceRange}
 use Rattle.tomex_prices.specs.declared.price.Price.{Price}
 use Rattle.tomex_prices.specs.Price.{payments, amount}
 use Rattle.tomex_prices.specs.Prices.{prices_of}
-use Rattle.tomex_prices.specs.Repriced.{is_on}
 use Rattle.tomex_prices.specs.Studies.{config_of, interval_of}
 
 -- a value for each price

@@ -21,7 +21,7 @@ pub use laws::{
 };
 pub use percents::percent;
 pub use price::{GREATEST_PRICE, Price};
-pub use priced_row::{PricedRow, rows_with};
+pub use priced_row::rows_with;
 pub use prices_error::PricesError;
 pub use study_prices::{prices, relevant_prices};
 pub use table::prices_table;

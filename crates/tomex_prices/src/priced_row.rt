@@ -8,28 +8,17 @@ ghost use Rattle.tomex_prices.specs.Studies.{rows_with};
 use crate::price::Price;
 use std::alloc::{AllocError, Allocator};
 use tomex_config::{Config, Prices, cost};
+use tomex_spans::LineRow;
 use tomex_study::Surveyed;
 
-/// A row, with its cost except for one price.
-#[derive(Clone, Copy, Debug, PartialEq, Eq)]
-pub struct PricedRow {
-    /// Its number, from 0.
-    pub row: usize,
-    /// Its cost without that price.
-    pub rest: u64,
-    pub cycles: u64,
-    /// How often it pays the price.
-    pub times: u64,
-}
-
-/// A configuration of these cycles with a price apart.
+/// A configuration of these cycles with a price apart: its cost is a line in that price.
 pub(crate) fn with_price_apart(
     price: Price,
     prices: &Prices,
     row: usize,
     config: &Config,
     cycles: u64,
-) -> PricedRow
+) -> LineRow
     ensures parts { result ≡ with_price_apart price prices.now row config.now cycles }
     ensures small { IsSmall result }
 {
@@ -37,11 +26,11 @@ pub(crate) fn with_price_apart(
     config.keeps_limits();
     let times = price.payments(config);
     let rest = cost(config, prices) - price.amount(prices) * times;
-    PricedRow {
+    LineRow {
         row,
         rest,
-        cycles,
         times,
+        other: cycles,
     }
 }
 
@@ -50,7 +39,7 @@ pub fn rows_with<A: Allocator, B: Allocator>(
     alloc: B,
     surveyed: &Surveyed<'_, A>,
     price: Price,
-) -> Result<Vec<PricedRow, B>, AllocError>
+) -> Result<Vec<LineRow, B>, AllocError>
     ensures rows { IfOk result (λ v. v.items ≡ rows_with surveyed.now price) }
     ensures small { IfOk result (λ v. All IsSmall v.items) }
 {

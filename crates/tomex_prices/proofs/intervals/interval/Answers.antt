@@ -1,29 +1,21 @@
--- At the end no rivals remain; a row stays at exactly the prices between the ends.
-use Rattle.std.proofs.Common.{refl}
-use Rattle.std.proofs.lemmas.List.{drop_all}
-use Rattle.tomex_prices.proofs.SoFar.{ends_at_first, ends_at_last}
-use Rattle.tomex_prices.proofs.AllRivals.{exactly_within}
-use Rattle.tomex_prices.proofs.OnFront.{on_front_within}
+-- A row's span says at which prices it stays.
+use Rattle.std.proofs.Common.{◌≡◌, ◌∙◌, ap, sym}
+use Rattle.tomex_prices.specs.declared.intervals.PriceRange.{PriceRange}
+use Rattle.tomex_prices.specs.Interval.{interval, is_within, range_of}
+use Rattle.tomex_prices.proofs.Within.{exactly_within, on_front_within}
 use Rattle.tomex_prices.proofs.intervals.interval.Goals as goal
 
-pub loop-rival-init : goal.loop-rival-init
-loop-rival-init c = ends_at_first c.args.now c.args.row c.args.rows.now
-
 pub returns-clause-ends : goal.returns-clause-ends
-returns-clause-ends c =
-    let two = ends_at_last c.args.now c.args.row c.args.rows.now c.loop-rival.least c.loop-rival.most
-    (rw (drop_all c.loop-rival.rival-index c.args.rows.now c.loop-rival-test.false) at c.loop-rival.invariant) in
-    rw (two.0, two.1) refl
+returns-clause-ends c = c.range_of.ensures ∙ ap range_of c.span.ensures.span
 
 pub returns-clause-exact : goal.returns-clause-exact
 returns-clause-exact c =
-    let two = ends_at_last c.args.now c.args.row c.args.rows.now c.loop-rival.least c.loop-rival.most
-    (rw (drop_all c.loop-rival.rival-index c.args.rows.now c.loop-rival-test.false) at c.loop-rival.invariant) in
-    λ here q few. rw (two.0, two.1) (exactly_within c.args.now q c.args.rows.now c.args.row few here)
+    let ends : c.range_of.result ≡ interval c.args.row c.args.rows.now = returns-clause-ends c in
+    λ now q here few. exactly_within now q c.args.rows.now c.args.row few here
+    ∙ ap (λ (range : PriceRange). is_within range q) (sym ends)
 
 pub returns-clause-front : goal.returns-clause-front
 returns-clause-front c =
-    let two = ends_at_last c.args.now c.args.row c.args.rows.now c.loop-rival.least c.loop-rival.most
-    (rw (drop_all c.loop-rival.rival-index c.args.rows.now c.loop-rival-test.false) at c.loop-rival.invariant) in
-    λ numbered one here q few. rw (two.0, two.1)
-    (on_front_within c.args.now q c.args.rows.now c.args.row few numbered one here)
+    let ends : c.range_of.result ≡ interval c.args.row c.args.rows.now = returns-clause-ends c in
+    λ now q numbered one here few. on_front_within now q c.args.rows.now c.args.row few numbered one here
+    ∙ ap (λ (range : PriceRange). is_within range q) (sym ends)

@@ -21,7 +21,7 @@ offset_bounds-rows-row g c =
 pub returns-clause-ends : goal.returns-clause-ends
 returns-clause-ends g c =
     let low = front_row_within c.args.study.now c.args.row c.keeps_limits.ensures c.requires.front in
-    interval_is c.args.study.now c.args.price c.args.row low c.interval.ensures.ends c.amount.ensures.price
+    interval_is c.args.study.now c.args.price c.args.row low c.interval.ensures.ends
     c.prices-prices.ensures.value c.with_price_apart-apart.ensures.parts c.index-rows-row.is c.rows.ensures.value
     c.requires.rows
 

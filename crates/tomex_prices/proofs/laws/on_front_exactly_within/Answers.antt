@@ -1,4 +1,4 @@
-use Rattle.tomex_prices.proofs.OnFront.{on_front_within}
+use Rattle.tomex_prices.proofs.Within.{on_front_within}
 use Rattle.tomex_prices.proofs.laws.on_front_exactly_within.Goals as goal
 
 pub returns : goal.returns

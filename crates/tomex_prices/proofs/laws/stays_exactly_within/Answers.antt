@@ -1,4 +1,4 @@
-use Rattle.tomex_prices.proofs.AllRivals.{exactly_within}
+use Rattle.tomex_prices.proofs.Within.{exactly_within}
 use Rattle.tomex_prices.proofs.laws.stays_exactly_within.Goals as goal
 
 pub returns : goal.returns
