@@ -10,13 +10,19 @@ pub mod LastWaits
 pub mod StartCases
 pub mod Whole
 pub mod Turned
+pub mod LinkBounds
+pub mod Operations
 pub mod Works
+pub mod Lengths
 pub mod PathStalls
+pub mod Reasons
 pub mod SecondRun
+pub mod NoStarts
 pub mod Follows
+pub mod Bounds
 pub mod FreePaths
 pub mod Places
-pub mod EndsMore
 pub mod HoldSteps
+pub mod NoteSteps
 pub mod WalkSteps
 mod Rows

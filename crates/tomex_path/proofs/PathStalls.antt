@@ -35,7 +35,7 @@ use Rattle.tomex_path.proofs.StartCases.{start_case}
 use Rattle.tomex_path.proofs.StationEnds.{issue_cases}
 use Rattle.tomex_path.proofs.Whole.{has_address, later}
 
-tag_pool : (x : Option PoolId) (n : Option ℕ) (tag : Tag) → tag_at x n ≡ Some tag → x ≡ Some tag.pool
+pub tag_pool : (x : Option PoolId) (n : Option ℕ) (tag : Tag) → tag_at x n ≡ Some tag → x ≡ Some tag.pool
 tag_pool None n tag e = absurd (cc)
 tag_pool (Some pool) None tag e = absurd (cc)
 tag_pool (Some pool) (Some n) tag e = ap pool_in e
@@ -167,7 +167,7 @@ module _ (config : Configuration) (good : IsWithinLimits config) (part : Part) w
     | inr skipped ↦ rw skipped (some_named by older timed.1 (rw skipped at e))
   ]
 
-sum_turned : (f : Link → ℕ) (ls : List Link) → sum_by f (reverse ls) ≡ sum_by f ls
+pub sum_turned : (f : Link → ℕ) (ls : List Link) → sum_by f (reverse ls) ≡ sum_by f ls
 sum_turned f [] = refl
 sum_turned f (l ∷ ls) =
     let more : reverse (l ∷ ls) ≡ reverse ls ++ (l ∷ []) = reverse-append (l ∷ []) ls in

@@ -7,12 +7,10 @@ use Rattle.std.proofs.lemmas.List.{append-nil, get_or_append_left, length-append
 use Rattle.std.proofs.lemmas.List.{map-append, reverse-append, take-append-drop, take_more}
 use Rattle.tomex_steps.specs.declared.step.Step.{Step}
 use Rattle.tomex_config.specs.Configuration.{Configuration, IsWithinLimits}
-use Rattle.tomex_timing.specs.declared.part.Waits.{Waits}
 use Rattle.tomex_timing.specs.declared.recent.Facts.{Facts}
 use Rattle.tomex_timing.specs.declared.times.Done.{Done}
 use Rattle.tomex_timing.specs.declared.times.Times.{Times}
 use Rattle.tomex_timing.specs.History.{last_issue}
-use Rattle.tomex_timing.specs.Needs.{waits_in, waits_of, waits_over}
 use Rattle.tomex_timing.specs.Recent.{facts_of}
 use Rattle.tomex_timing.specs.Recurrence.{AreTimed}
 use Rattle.tomex_timing.specs.Search.{history, times_in, times_of}
@@ -92,7 +90,7 @@ module _ {X : Type 0} (f : List Done → Done → X) (config : Configuration) wh
       rw (whole, upto, get_or_append_left (in_order (take i steps) ++ (v ∷ [])) rest.0 z i (omega arith))
       (rw count at here)
 
--- times, waits and notes are such values
+-- times and notes are such values
 
 times_each : (config : Configuration) (h : List Done)
     → map (λ d. d.at) (reverse h) ≡ reverse (each (λ (o : List Done) (d : Done). d.at) config h)
@@ -104,13 +102,9 @@ times_each config (d ∷ h) =
       times_each config h,
     ) (sym (reverse-append (d.at ∷ []) (each (λ (o : List Done) (d : Done). d.at) config h)))
 
-waits_each : (config : Configuration) (h : List Done) → waits_over config h ≡ each (waits_of config) config h
-waits_each config [] = refl
-waits_each config (d ∷ h) = ap (λ ws. waits_of config h d ∷ ws) (waits_each config h)
-
-notes_each : (config : Configuration) (h : List Done) → notes_over h ≡ each note_of config h
+notes_each : (config : Configuration) (h : List Done) → notes_over config h ≡ each (note_of config) config h
 notes_each config [] = refl
-notes_each config (d ∷ h) = ap (λ ns. note_of h d ∷ ns) (notes_each config h)
+notes_each config (d ∷ h) = ap (λ ns. note_of config h d ∷ ns) (notes_each config h)
 
 module _ (config : Configuration) (steps : List Step) (i : ℕ) (x : Step) (l : i < length steps)
     (e : slice_index_or steps i x ≡ x) where
@@ -118,13 +112,9 @@ module _ (config : Configuration) (steps : List Step) (i : ℕ) (x : Step) (l : 
   times_at z = rw (times_each config (history config steps))
       (at_place (λ (o : List Done) (d : Done). d.at) config steps i x z l e)
 
-  pub waits_at : (z : Waits) → slice_index_or (waits_in config steps) i z
-      ≡ waits_of config (history config (take i steps)) (done_at config steps i x)
-  waits_at z = rw (waits_each config (history config steps)) (at_place (waits_of config) config steps i x z l e)
-
   pub notes_at : (z : Note) → slice_index_or (notes_in config steps) i z
-      ≡ note_of (history config (take i steps)) (done_at config steps i x)
-  notes_at z = rw (notes_each config (history config steps)) (at_place note_of config steps i x z l e)
+      ≡ note_of config (history config (take i steps)) (done_at config steps i x)
+  notes_at z = rw (notes_each config (history config steps)) (at_place (note_of config) config steps i x z l e)
 
   -- its issue is a small number
   pub issue_small : IsWithinLimits config → length steps < 2 ^ 56 → (done_at config steps i x).at.issue < 2 ^ 63
@@ -140,17 +130,14 @@ module _ (config : Configuration) (steps : List Step) (i : ℕ) (x : Step) (l : 
 pub notes_more : (config : Configuration) (steps : List Step) (i : ℕ) (x : Step) → i < length steps
     → slice_index_or steps i x ≡ x
     → notes_in config (take (i + 1) steps) ≡ notes_in config (take i steps)
-    ++ (note_of (history config (take i steps)) (done_at config steps i x) ∷ [])
+    ++ (note_of config (history config (take i steps)) (done_at config steps i x) ∷ [])
 notes_more config steps i x l e =
-    rw (history_at config steps i x l e) (reverse-append (_ ∷ []) (notes_over (history config (take i steps))))
-
-length_notes_over : (h : List Done) → length (notes_over h) ≡ length h
-length_notes_over [] = refl
-length_notes_over (d ∷ h) = ap suc (length_notes_over h)
+    rw (history_at config steps i x l e) (reverse-append (_ ∷ []) (notes_over config (history config (take i steps))))
 
 pub length_notes : (config : Configuration) (steps : List Step) → length (notes_in config steps) ≡ length steps
-length_notes config steps = length-reverse (notes_over (history config steps))
-    ∙ (length_notes_over (history config steps) ∙ length-history config steps)
+length_notes config steps =
+    ap (λ ns. length (reverse ns)) (notes_each config (history config steps))
+    ∙ length_in_order (note_of config) config steps
 
 -- the issue before a place
 pub previous_at : (config : Configuration) (steps : List Step) (k : ℕ) (z : Times) → k + 1 < length steps

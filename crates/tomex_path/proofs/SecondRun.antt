@@ -1,20 +1,25 @@
 -- The same step in a second run of the same steps: where a test of the first run finds a step, its event in the second
 -- run is no later than what the second run's tests ask for.
-use Rattle.std.proofs.Common.{ℕ, zero, suc, ◌+◌, ◌<◌, ◌≤◌, ◌≡◌, true, false, arith, max, inl, inr}
+use Rattle.std.proofs.Common.{ℕ, zero, suc, ◌+◌, ◌<◌, ◌≤◌, ◌≡◌, true, false, arith, max, refl, inl, inr}
 use Rattle.std.proofs.Common.{List, [], ◌∷◌, Option, Some, None, ◌==◌, ◌&&◌, count_by}
 use Rattle.std.specs.Prelude.{if◌then◌else◌, nat_lt}
-use Rattle.std.proofs.lemmas.Bool.{cases_Bool, cases_lt, cases_order, eq-eqb, le-ltb, lt-ltb}
+use Rattle.std.proofs.lemmas.Bool.{and_parts, cases_Bool, cases_lt, cases_order, eq-eqb, eqb-true, le-leb, le-ltb}
+use Rattle.std.proofs.lemmas.Bool.{lt-ltb}
 use Rattle.std.proofs.lemmas.List.Sums.{sum_by-cons}
-use Rattle.tomex_steps.specs.Steps.{is_branch, is_number, step_dest}
+use Rattle.tomex_steps.specs.Steps.{is_branch, is_in, is_number, step_dest, step_pool}
 use Rattle.tomex_config.specs.Configuration.{Configuration}
+use Rattle.tomex_timing.specs.Ahead.{one}
+use Rattle.tomex_timing.specs.declared.tables.Tag.{Tag}
 use Rattle.tomex_timing.specs.declared.times.Done.{Done}
 use Rattle.tomex_timing.specs.History.{greatest_end, is_memory, last_address, last_issue}
 use Rattle.tomex_timing.specs.Recurrence.{AreTimed, conflicts}
+use Rattle.tomex_timing.specs.Station.{is_held}
 use Rattle.tomex_timing.proofs.Width.{issue_from, none_later}
 use Rattle.tomex_floor.specs.Floor.{issue_back, last_finish}
 use Rattle.tomex_path.specs.declared.event.Holder.{Holder}
 use Rattle.tomex_path.specs.declared.event.Holder.TheVariants as holders
 use Rattle.tomex_path.specs.Holds.{access_of, cycle_at, event_of, passes}
+use Rattle.tomex_path.proofs.Chain.{holder_at}
 use Rattle.tomex_path.proofs.Operands.{end_of}
 
 -- two histories of the same steps
@@ -41,7 +46,7 @@ last_second (d ∷ h) (b ∷ g) =
     ]
 
 module _ (other : Configuration) where
-  issued_second : (t : ℕ) (h g : List Done) → AreTimed other g → second_at (holders.FirstIssue t) h g ≤ last_issue g
+  pub issued_second : (t : ℕ) (h g : List Done) → AreTimed other g → second_at (holders.FirstIssue t) h g ≤ last_issue g
   issued_second t [] g timed = omega arith
   issued_second t (d ∷ h) [] timed = omega arith
   issued_second t (d ∷ h) (b ∷ g) timed =
@@ -88,9 +93,41 @@ module _ (other : Configuration) where
     ]
   ]
 
-  pub turn_second : (t : ℕ) (h g : List Done) → AreTimed other g
-      → second_at (holders.FirstIssue t) h g ≤ last_issue g
-  turn_second t h g timed = issued_second t h g timed
+-- if none issues first in a cycle
+pub none_second : (t : ℕ) (h g : List Done) → 0 < t → holder_at (holders.FirstIssue t) h ≡ 0
+    → second_at (holders.FirstIssue t) h g ≡ 0
+none_second t [] g low none = refl
+none_second t (d ∷ h) [] low none = refl
+none_second t (d ∷ h) (b ∷ g) low none = elim (cases_Bool (d.at.issue == t && nat_lt (last_issue h) t)) [
+  | inl e ↦
+      let two = and_parts (d.at.issue == t) (nat_lt (last_issue h) t) e in
+      let f : d.at.issue ≡ t = eqb-true d.at.issue t two.0 in
+      let z : d.at.issue ≡ 0 = rw e at none in
+      absurd (omega arith)
+  | inr e ↦ rw e (none_second t h g low (rw e at none))
+]
+
+-- if no station of a pool is held in a cycle, each step of the pool has ended
+pub station_second : (tag : Tag) (t : ℕ) (h g : List Done) → 0 < t → AreSame h g
+    → count_by (is_held tag.pool t) g ≡ 0 → second_at (holders.Station tag) h g < t
+station_second tag t [] g low same none = low
+station_second tag t (d ∷ h) [] low same none = absurd (cc)
+station_second tag t (d ∷ h) (b ∷ g) low same none =
+    let sum : count_by (is_held tag.pool t) (b ∷ g) ≡ one (is_held tag.pool t b) + count_by (is_held tag.pool t) g =
+    sum_by-cons (λ x. one (is_held tag.pool t x)) b g in
+    let rest = station_second tag t h g low same.1 (omega arith) in
+    elim (cases_Bool (is_in tag.pool (step_pool d.step) && is_number d.at.station tag.number)) [
+      | inr e ↦ rw e rest
+      | inl e ↦
+          let own = and_parts (is_in tag.pool (step_pool d.step)) (is_number d.at.station tag.number) e in
+          let there : is_in tag.pool (step_pool b.step) ≡ true = rw same.0 at own.0 in
+          elim (cases_lt b.at.end t) [
+            | inl l ↦ rw e l
+            | inr l ↦
+                let held : one (is_held tag.pool t b) ≡ 1 = rw (there, le-leb t b.at.end l) refl in
+                absurd (omega arith)
+          ]
+    ]
 
 pub branch_second : (h g : List Done) → AreSame h g → second_at holders.Branch h g ≤ last_finish is_branch g
 branch_second [] g same = omega arith

@@ -1,8 +1,10 @@
 -- Links that follow each other from the last one back do so from the first one on; their cycles add up.
-use Rattle.std.proofs.Common.{ℕ, ◌+◌, ◌-◌, ◌<◌, ◌≤◌, ◌≡◌, arith, refl, subst, inl, inr}
+use Rattle.std.proofs.Common.{ℕ, ◌+◌, ◌-◌, ◌<◌, ◌≤◌, ◌≡◌, ◌&&◌, Bool, true, arith, refl, subst, inl, inr}
 use Rattle.std.proofs.Common.{List, [], ◌∷◌, ◌++◌, length, reverse, sum_by}
-use Rattle.std.proofs.lemmas.Bool.{cases_Bool}
+use Rattle.std.specs.List.{list_all}
+use Rattle.std.proofs.lemmas.Bool.{and_from, and_parts, cases_Bool}
 use Rattle.std.proofs.lemmas.List.{reverse-append}
+use Rattle.std.proofs.lemmas.List.Folds.{list_all-append}
 use Rattle.std.proofs.lemmas.List.Sums.{sum_by-cons}
 use Rattle.tomex_config.specs.Configuration.{Configuration}
 use Rattle.tomex_timing.specs.declared.times.Done.{Done}
@@ -12,7 +14,7 @@ use Rattle.tomex_path.specs.declared.event.Holder.TheVariants.{Last}
 use Rattle.tomex_path.specs.declared.link.Link.{Link}
 use Rattle.tomex_path.specs.Holds.{passes}
 use Rattle.tomex_path.specs.Laws.{IsChain, PathAddsUp, PathRises, StepsRise, cycles_of}
-use Rattle.tomex_path.specs.Path.{hold_by, links}
+use Rattle.tomex_path.specs.Path.{hold_by, links, path_of}
 use Rattle.tomex_path.proofs.Whole.{IsLinked, path_linked}
 
 turn_more : (l : Link) (ls : List Link) → reverse (l ∷ ls) ≡ reverse ls ++ (l ∷ [])
@@ -61,7 +63,7 @@ steps_fall config by (d ∷ older) n l = elim (cases_Bool (passes by older d)) [
 ]
 
 -- steps rise from one after m on, and stay below n
-abbrev RiseTo : ℕ → ℕ → List Link → Type 0
+abbrev pub RiseTo : ℕ → ℕ → List Link → Type 0
 RiseTo m n [] = m < n
 RiseTo m n (l ∷ ls) = (m < l.step) × RiseTo l.step n ls
 
@@ -78,8 +80,20 @@ rising : (ls : List Link) (m n : ℕ) → RiseTo m n ls → StepsRise m ls
 rising [] m n c = tt
 rising (l ∷ ls) m n c = (c.0, rising ls l.step n c.1)
 
+pub path_rises_to : (config : Configuration) (h : List Done) → RiseTo 0 (length h + 1) (path_of config h)
+path_rises_to config h =
+    rise_turned (links config Last h) (length h + 1) (omega arith)
+    (steps_fall config Last h (length h + 1) (omega arith))
+
 pub path_rises : PathRises
-path_rises config h =
-    rising (reverse (links config Last h)) 0 (length h + 1)
-    (rise_turned (links config Last h) (length h + 1) (omega arith)
-    (steps_fall config Last h (length h + 1) (omega arith)))
+path_rises config h = rising (path_of config h) 0 (length h + 1) (path_rises_to config h)
+
+-- what holds of each link from the first one on holds of each from the last one back
+pub all_turned : (p : Link → Bool) (ls : List Link) → list_all p (reverse ls) ≡ true → list_all p ls ≡ true
+all_turned p [] e = refl
+all_turned p (l ∷ ls) e =
+    let f : list_all p (reverse ls ++ (l ∷ [])) ≡ true = rw (reverse-append (l ∷ []) ls) at e in
+    let g : (list_all p (reverse ls) && list_all p (l ∷ [])) ≡ true =
+    rw (list_all-append p (reverse ls) (l ∷ [])) at f in
+    let two = and_parts (list_all p (reverse ls)) (list_all p (l ∷ [])) g in
+    and_from (p l) (list_all p ls) (and_parts (p l) true two.1).0 (all_turned p ls two.0)

@@ -1,46 +1,36 @@
 -- What the walk is given stands at the steps' places, and each turn of it takes a link, or passes a step.
 use Rattle.std.proofs.Common.{ℕ, ◌+◌, ◌-◌, ◌<◌, ◌≡◌, ◌∙◌, Bool, true, false, arith, refl, ap, sym}
 use Rattle.std.proofs.Common.{List, [], ◌∷◌, ◌++◌, append_assoc, length, take}
-use Rattle.std.specs.Prelude.{slice_index_or, IfSome}
+use Rattle.std.specs.Prelude.{slice_index_or}
 use Rattle.tomex_steps.specs.declared.step.Step.{Step}
 use Rattle.tomex_config.specs.Configuration.{Configuration}
-use Rattle.tomex_timing.specs.declared.part.Waits.{Waits}
 use Rattle.tomex_timing.specs.declared.recent.Facts.{Facts}
 use Rattle.tomex_timing.specs.declared.times.Done.{Done}
 use Rattle.tomex_timing.specs.declared.times.Times.{Times}
 use Rattle.tomex_timing.specs.History.{last_issue}
-use Rattle.tomex_timing.specs.Needs.{waits_of}
 use Rattle.tomex_timing.specs.Recent.{AreFacts, facts_of}
 use Rattle.tomex_timing.specs.Search.{history, times_in}
 use Rattle.tomex_timing.proofs.Histories.{length-times_in}
 use Rattle.tomex_timing.proofs.Turns.{length_facts}
-use Rattle.tomex_timing.proofs.WaitLists.{length-waits_in}
 use Rattle.tomex_path.specs.declared.event.Holder.{Holder}
 use Rattle.tomex_path.specs.declared.link.Link.{Link}
-use Rattle.tomex_path.specs.declared.note.Ends.{Ends}
 use Rattle.tomex_path.specs.declared.note.Note.{Note}
 use Rattle.tomex_path.specs.Holds.{passes}
 use Rattle.tomex_path.specs.Path.{hold_by, link_of, links}
-use Rattle.tomex_path.specs.Seen.{IsEnds, IsEvaluated, done_at, ends_after, note_of, seen_of}
-use Rattle.tomex_path.proofs.EndsMore.{ends_more}
-use Rattle.tomex_path.proofs.Places.{facts_at, length_notes, notes_at, previous_at}
-use Rattle.tomex_path.proofs.Places.{times_at, waits_at}
+use Rattle.tomex_path.specs.Seen.{IsEvaluated, done_at, note_of, seen_of}
+use Rattle.tomex_path.proofs.Places.{facts_at, length_notes, notes_at, previous_at, times_at}
 
 -- as many of each as steps
-pub record AreAsMany (steps : List Step) (facts : List Facts) (times : List Times) (waits : List Waits)
-    (notes : List Note) : Type 0 where
+pub record AreAsMany (steps : List Step) (facts : List Facts) (times : List Times) (notes : List Note) : Type 0 where
   pub many_facts : length facts ≡ length steps
   pub many_times : length times ≡ length steps
-  pub many_waits : length waits ≡ length steps
   pub many_notes : length notes ≡ length steps
 
 pub lengths : (config : Configuration) (steps : List Step) (facts : List Facts) (times : List Times)
-    (waits : List Waits) (notes : List Note) → IsEvaluated config steps facts times waits notes
-    → AreAsMany steps facts times waits notes
-lengths config steps facts times waits notes ev = record {
+    (notes : List Note) → IsEvaluated config steps facts times notes → AreAsMany steps facts times notes
+lengths config steps facts times notes ev = record {
   many_facts = length_facts steps facts ev.of_facts;
   many_times = ap length ev.of_times ∙ length-times_in config steps;
-  many_waits = ap length ev.of_waits ∙ length-waits_in config steps;
   many_notes = ap length ev.of_notes ∙ length_notes config steps;
 }
 
@@ -53,26 +43,23 @@ module _ (config : Configuration) (steps : List Step) (i : ℕ) (x : Step) (l : 
       → slice_index_or times i z ≡ (done_at config steps i x).at
   times_there times z is = ap (λ ts. slice_index_or ts i z) is ∙ times_at config steps i x l e z
 
-  seen_made : (older : List Done) (d : Done) (f : Facts) (at : Times) (w : Waits) (p : ℕ) (n : Note)
-      → f ≡ facts_of d.step → at ≡ d.at → w ≡ waits_of config older d → p ≡ last_issue older → n ≡ note_of older d
-      → record { facts = f; at = at; waits = w; previous = p; note = n } ≡ seen_of config older d
-  seen_made older d f at w p n e1 e2 e3 e4 e5 = rw (e1, e2, e3, e4, e5) refl
+  seen_made : (older : List Done) (d : Done) (f : Facts) (at : Times) (p : ℕ) (n : Note) → f ≡ facts_of d.step
+      → at ≡ d.at → p ≡ last_issue older → n ≡ note_of config older d
+      → record { facts = f; at = at; previous = p; note = n } ≡ seen_of config older d
+  seen_made older d f at p n e1 e2 e3 e4 = rw (e1, e2, e3, e4) refl
 
-  pub seen_there : (facts : List Facts) (times : List Times) (waits : List Waits) (notes : List Note) (zf : Facts)
-      (zt : Times) (zw : Waits) (p : ℕ) (zn : Note) → IsEvaluated config steps facts times waits notes
-      → p ≡ last_issue (history config (take i steps))
+  pub seen_there : (facts : List Facts) (times : List Times) (notes : List Note) (zf : Facts) (zt : Times) (p : ℕ)
+      (zn : Note) → IsEvaluated config steps facts times notes → p ≡ last_issue (history config (take i steps))
       → record {
         facts = slice_index_or facts i zf;
         at = slice_index_or times i zt;
-        waits = slice_index_or waits i zw;
         previous = p;
         note = slice_index_or notes i zn;
       } ≡ seen_of config (history config (take i steps)) (done_at config steps i x)
-  seen_there facts times waits notes zf zt zw p zn ev before =
+  seen_there facts times notes zf zt p zn ev before =
       seen_made (history config (take i steps)) (done_at config steps i x) (slice_index_or facts i zf)
-      (slice_index_or times i zt) (slice_index_or waits i zw) p (slice_index_or notes i zn)
-      (facts_there facts zf ev.of_facts) (times_there times zt ev.of_times)
-      (ap (λ ws. slice_index_or ws i zw) ev.of_waits ∙ waits_at config steps i x l e zw) before
+      (slice_index_or times i zt) p (slice_index_or notes i zn) (facts_there facts zf ev.of_facts)
+      (times_there times zt ev.of_times) before
       (ap (λ ns. slice_index_or ns i zn) ev.of_notes ∙ notes_at config steps i x l e zn)
 
 pub first_previous : (config : Configuration) (steps : List Step) (i : ℕ) → i ≡ 0
@@ -87,12 +74,6 @@ previous_there config steps times i z is low l =
     let before = previous_at config steps (i - 1) z (omega arith) in
     ap (λ ts. (slice_index_or ts (i - 1) z).issue) is ∙ (before
     ∙ ap (λ n. last_issue (history config (take n steps))) next)
-
-pub ends_there : (whole h : List Done) (d : Done) (ends new : Ends) (f : Facts) (at : Times) → whole ≡ d ∷ h
-    → f ≡ facts_of d.step → at ≡ d.at → IfSome f.dest (λ r. r < 32) → new ≡ ends_after f at ends → IsEnds h ends
-    → IsEnds whole new
-ends_there whole h d ends new f at e1 e2 e3 low e4 is =
-    rw (e1, e4, e2, e3) (ends_more h d ends (rw e2 at low) is)
 
 -- a turn of the walk
 

@@ -1,7 +1,7 @@
 -- Laws of the path: what holds an event comes in the cycle before; the links add up to the run; and if no link waits
 -- for a station, a unit or a bus, no machine is faster, except by its width or its latencies.
 use Rattle.std.specs.Prelude.{ℕ, ◌+◌, ◌-◌, ◌<◌, ◌≤◌, ◌≡◌, Bool, true, false, not, ◌==◌, nat_le, ◌&&◌, ◌||◌}
-use Rattle.std.specs.Prelude.{if◌then◌else◌, is_some, List, [], ◌∷◌, map, sum_by}
+use Rattle.std.specs.Prelude.{if◌then◌else◌, is_some, List, [], ◌∷◌, ◌++◌, map, sum_by}
 use Rattle.std.specs.List.{list_all, list_any}
 use Rattle.tomex_rvdec.specs.Parts.{place_of_pool, place_of_unit}
 use Rattle.tomex_rvdec.specs.declared.pool.UnitId.{UnitId}
@@ -12,7 +12,7 @@ use Rattle.tomex_timing.specs.declared.part.Part.{Part}
 use Rattle.tomex_timing.specs.declared.part.Part.TheVariants.{Stations, Units, Buses, Width}
 use Rattle.tomex_timing.specs.declared.times.Done.{Done}
 use Rattle.tomex_timing.specs.History.{cycle_of, greatest_end, is_memory, last_issue}
-use Rattle.tomex_timing.specs.Needs.{stalls, waits_of}
+use Rattle.tomex_timing.specs.Needs.{all_parts, stalls, waits_of}
 use Rattle.tomex_timing.specs.Recurrence.{AreTimed}
 use Rattle.tomex_timing.specs.Search.{history, times_in, total_of}
 use Rattle.tomex_floor.specs.Floor.{floor_of, latency_of}
@@ -21,7 +21,7 @@ use Rattle.tomex_path.specs.declared.event.Holder.{Holder}
 use Rattle.tomex_path.specs.declared.hold.Hold.{Hold}
 use Rattle.tomex_path.specs.declared.link.Link.{Link}
 use Rattle.tomex_path.specs.declared.reason.Reason.{Reason}
-use Rattle.tomex_path.specs.declared.reason.Reason.TheVariants.{For}
+use Rattle.tomex_path.specs.declared.reason.Reason.TheVariants.{Address, Branch, For, Memory, Operand, Order}
 use Rattle.tomex_path.specs.Holds.{cycle_at, event_of, hold_of, passes}
 use Rattle.tomex_path.specs.Path.{path_of}
 
@@ -77,7 +77,7 @@ PathAddsUp = (config : Configuration) (h : List Done) → IsWithinLimits config 
 abbrev pub PathRises : Type 0
 PathRises = (config : Configuration) (h : List Done) → StepsRise 0 (path_of config h)
 
--- a wait for this part
+-- the same part
 abbrev pub is_part : Part → Part → Bool
 is_part (Stations a) (Stations b) = place_of_pool a == place_of_pool b
 is_part (Units a) (Units b) = place_of_unit a == place_of_unit b
@@ -85,9 +85,34 @@ is_part Buses Buses = true
 is_part Width Width = true
 is_part a b = false
 
+-- a wait for this part
 abbrev pub is_for : Reason → Part → Bool
 is_for (For a) part = is_part a part
 is_for reason part = false
+
+-- the same reason
+abbrev pub is_reason : Reason → Reason → Bool
+is_reason (For part) reason = is_for reason part
+is_reason Branch Branch = true
+is_reason Operand Operand = true
+is_reason Address Address = true
+is_reason Memory Memory = true
+is_reason Order Order = true
+is_reason reason other = false
+
+-- all reasons, in the order in which reports list them
+abbrev pub all_reasons : List Reason
+all_reasons = map For all_parts ++ (Branch ∷ Operand ∷ Address ∷ Memory ∷ Order ∷ [])
+
+-- what a link has, if this is its reason
+abbrev pub had_for : Reason → (Link → ℕ) → Link → ℕ
+had_for reason f l = if is_reason reason l.reason then f l else 0
+
+-- Each link has one reason. So what is summed over the links of each reason, as their number, their cycles or their
+-- waits, adds up to the sum over all.
+abbrev pub ReasonsAddUp : Type 0
+ReasonsAddUp = (f : Link → ℕ) (path : List Link)
+    → sum_by (λ reason. sum_by (had_for reason f) path) all_reasons ≡ sum_by f path
 
 -- how long a link's step has waited for a part, if the link is a wait for it
 abbrev pub waited_for : Part → Link → ℕ

@@ -1,6 +1,8 @@
 -- The path of a run: from the end of the first step that ends last back to the first cycle, a link for each step that
 -- holds the one after it.
-use Rattle.std.specs.Prelude.{ℕ, ◌+◌, if◌then◌else◌, List, [], ◌∷◌, length, reverse}
+use Rattle.std.specs.Prelude.{ℕ, ◌+◌, nat_le, ◌&&◌, if◌then◌else◌, List, [], ◌∷◌, length, reverse, Option, None}
+use Rattle.tomex_rvdec.specs.declared.pool.UnitId.{UnitId}
+use Rattle.tomex_steps.specs.Steps.{step_unit}
 use Rattle.tomex_config.specs.Configuration.{Configuration}
 use Rattle.tomex_timing.specs.declared.part.Part.TheVariants.{Stations, Units, Buses, Width}
 use Rattle.tomex_timing.specs.declared.part.Waits.{Waits}
@@ -30,8 +32,12 @@ waited waits reasons.Order = 0
 abbrev pub hold_by : Configuration → Holder → List Done → Done → Hold
 hold_by config by older d = hold_of (event_of by) older d (waits_of config older d)
 
+-- the unit that a step is in from its start to its finish within some cycles, if it is
+abbrev pub operation_in : Done → ℕ → ℕ → Option UnitId
+operation_in d from to = if nat_le from d.at.start && nat_le d.at.finish to then step_unit d.step else None
+
 -- A link is one step: why it begins no earlier, how long the step waited for that, and its cycles, from the one after
--- what holds it to the event by which it holds the next link.
+-- what holds it to the event by which it holds the next link, with its operation if that lies within them.
 abbrev pub link_of : Configuration → Holder → List Done → Done → Link
 link_of config by older d =
     let hold = hold_by config by older d in
@@ -41,6 +47,7 @@ link_of config by older d =
       waits = waited (waits_of config older d) hold.reason;
       from = hold.from;
       to = cycle_at (event_of by) d.at;
+      operation = operation_in d hold.from (cycle_at (event_of by) d.at);
     }
 
 -- the links from the first step down the history that passes, back to the first cycle

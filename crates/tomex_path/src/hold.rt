@@ -2,16 +2,17 @@
 
 ghost use Rattle.std.specs.Prelude.{◌≡◌, ◌<◌, ◌^◌, List};
 ghost use Rattle.tomex_timing.specs.declared.times.Done.{Done};
-ghost use Rattle.tomex_steps.specs.Steps.{step_unit};
+ghost use Rattle.tomex_steps.specs.Steps.{j_of, k_of, step_unit};
 ghost use Rattle.tomex_config.specs.Configuration.{Configuration};
 ghost use Rattle.tomex_timing.specs.Needs.{waits_of};
 ghost use Rattle.tomex_timing.specs.Tables.{tag_of};
-ghost use Rattle.tomex_path.specs.Holds.{hold_address, hold_end, hold_issue, hold_of, hold_operand, hold_start};
-ghost use Rattle.tomex_path.specs.Holds.{hold_station, hold_turn, hold_unit};
+ghost use Rattle.tomex_path.specs.declared.event.Holder.TheVariants.{Writer};
+ghost use Rattle.tomex_path.specs.Holds.{hold_address, hold_end, hold_issue, hold_of, hold_start, hold_station};
+ghost use Rattle.tomex_path.specs.Holds.{hold_turn, hold_unit, just_ended};
 ghost use Rattle.tomex_path.specs.Seen.{seen_of};
 
 use crate::event::{Access, Event, Holder};
-use crate::note::Seen;
+use crate::note::{IssueWait, Seen, StartWait};
 use crate::reason::Reason;
 use tomex_timing::{Part, Tag};
 
@@ -66,22 +67,19 @@ fn issue_of(seen: &Seen) -> Hold
         → result ≡ hold_issue older d (waits_of config older d) }
 {
     let issue = seen.at.issue;
-    if seen.waits.station > 0 {
-        station_of(seen)
-    } else if seen.waits.width > 0 {
-        Hold {
+    match seen.note.issue {
+        IssueWait::Station => station_of(seen),
+        IssueWait::Width => Hold {
             reason: Reason::For(Part::Width),
             from: issue,
             by: Holder::FirstIssue(issue.saturating_sub(1)),
-        }
-    } else if seen.waits.branch > 0 {
-        Hold {
+        },
+        IssueWait::Branch => Hold {
             reason: Reason::Branch,
             from: issue,
             by: Holder::Branch,
-        }
-    } else {
-        turn_of(seen)
+        },
+        IssueWait::Nothing => turn_of(seen),
     }
 }
 
@@ -109,23 +107,14 @@ fn address_of(seen: &Seen) -> Hold
     }
 }
 
-/// What holds a start, if nothing else does than an operand or the issue.
-fn operand_of(seen: &Seen) -> Hold
-    requires small { seen.now.at.issue < 2 ^ 63 }
+/// The youngest of the producers that end in the cycle before a start.
+fn producer_of(seen: &Seen) -> Holder
     ensures { (config : Configuration) (older : List Done) (d : Done) → seen.now ≡ seen_of config older d
-        → result ≡ hold_operand older d (waits_of config older d) }
+        → result ≡ Writer (just_ended older (j_of d.step) d.at.start) (just_ended older (k_of d.step) d.at.start) }
 {
-    if seen.waits.operand > 0 {
-        let j = if seen.note.j { seen.facts.j } else { None };
-        let k = if seen.note.k { seen.facts.k } else { None };
-        Hold {
-            reason: Reason::Operand,
-            from: seen.at.start,
-            by: Holder::Writer(j, k),
-        }
-    } else {
-        issue_of(seen)
-    }
+    let j = if seen.note.j { seen.facts.j } else { None };
+    let k = if seen.note.k { seen.facts.k } else { None };
+    Holder::Writer(j, k)
 }
 
 /// What holds the start of a step that waits for a unit.
@@ -150,22 +139,26 @@ fn start_of(seen: &Seen) -> Hold
     ensures { (config : Configuration) (older : List Done) (d : Done) → seen.now ≡ seen_of config older d
         → result ≡ hold_start older d (waits_of config older d) }
 {
-    if seen.waits.unit > 0 {
-        unit_of(seen)
-    } else if seen.waits.memory > 0 {
-        let access = Access {
-            bytes: seen.facts.bytes,
-            is_store: seen.facts.is_store,
-        };
-        Hold {
-            reason: Reason::Memory,
-            from: seen.at.start,
-            by: Holder::Conflict(access, seen.at.start.saturating_sub(1)),
+    match seen.note.start {
+        StartWait::Unit => unit_of(seen),
+        StartWait::Memory => {
+            let access = Access {
+                bytes: seen.facts.bytes,
+                is_store: seen.facts.is_store,
+            };
+            Hold {
+                reason: Reason::Memory,
+                from: seen.at.start,
+                by: Holder::Conflict(access, seen.at.start.saturating_sub(1)),
+            }
         }
-    } else if seen.waits.address > 0 {
-        address_of(seen)
-    } else {
-        operand_of(seen)
+        StartWait::Address => address_of(seen),
+        StartWait::Operand => Hold {
+            reason: Reason::Operand,
+            from: seen.at.start,
+            by: producer_of(seen),
+        },
+        StartWait::Nothing => issue_of(seen),
     }
 }
 
@@ -175,7 +168,7 @@ fn end_of(seen: &Seen) -> Hold
     ensures { (config : Configuration) (older : List Done) (d : Done) → seen.now ≡ seen_of config older d
         → result ≡ hold_end older d (waits_of config older d) }
 {
-    if seen.waits.bus > 0 {
+    if seen.bus_wait() > 0 {
         Hold {
             reason: Reason::For(Part::Buses),
             from: seen.at.end,

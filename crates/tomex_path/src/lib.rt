@@ -2,7 +2,7 @@
 //! once.
 //!
 //! `specs/Holds.antt` says what holds an event of a step, over the recurrence of `tomex_timing`; `specs/Path.antt` is
-//! the path, and `specs/Laws.antt` says what it shows.
+//! the path, `specs/Laws.antt` says what it shows, and `specs/Bound.antt` what it bounds.
 //! Tests: tomex_tests_timing.
 #![tactic(auto)]
 
@@ -14,7 +14,10 @@ mod note;
 mod reason;
 mod walk;
 
-pub use laws::{events_are_held, free_path_takes_the_floor, path_adds_up, path_waits_are_stalls};
+pub use laws::{
+    events_are_held, free_path_takes_the_floor, path_adds_up, path_bounds_what_a_machine_saves,
+    path_waits_are_stalls,
+};
 pub use link::Link;
 pub use reason::Reason;
-pub use walk::path;
+pub use walk::{RunPath, path};

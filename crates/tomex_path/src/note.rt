@@ -1,21 +1,48 @@
-//! What the walk along a path sees of a step.
+//! What the walk along a path sees of a step, noted as the run is evaluated.
 
-ghost use Rattle.std.specs.Prelude.{◌≡◌, ◌<◌, ◌+◌, ◌==◌, ◌^◌, List, [], ◌∷◌, length, Option, IfSome, IfOk};
-ghost use Rattle.tomex_steps.specs.declared.step.Operand.{Operand};
+ghost use Rattle.std.specs.Prelude.{◌≡◌, ◌<◌, ◌≤◌, ◌+◌, ◌-◌, ◌^◌, ◌==◌, List, length, slice_index, IfOk};
 ghost use Rattle.tomex_steps.specs.declared.step.Step.{Step};
-ghost use Rattle.tomex_config.specs.Configuration.{Configuration, IsWithinLimits};
-ghost use Rattle.tomex_timing.specs.History.{source_end};
-ghost use Rattle.tomex_timing.specs.Recent.{AreFacts, facts_of, register_of, written_by};
+ghost use Rattle.tomex_rvexec.specs.Run.{most_steps};
+ghost use Rattle.tomex_timing.specs.Ahead.{end_in};
+ghost use Rattle.tomex_timing.specs.Recent.{AreFacts, AreInRange};
 ghost use Rattle.tomex_timing.specs.Search.{times_in};
-ghost use Rattle.tomex_timing.specs.declared.times.Done.{Done};
-ghost use Rattle.tomex_path.specs.Seen.{IsEnds, ends_after, note_of, notes_in};
+ghost use Rattle.tomex_timing.specs.Waiting.{AreWithin};
+ghost use Rattle.tomex_path.specs.Seen.{bus_wait, issue_wait, note_from, notes_in, operand_wait, start_wait};
 
 use std::alloc::{AllocError, Allocator};
-use tomex_timing::{Facts, Times, Waits};
+use tomex_config::Config;
+use tomex_timing::{Facts, Latest, Recent, Times, Turn, Waits, end_of, next_turn};
 
-/// What a step's times say of what is older.
+/// What a step waited for last before its issue.
+#[derive(Clone, Copy)]
+pub(crate) enum IssueWait {
+    Nothing,
+    Branch,
+    Width,
+    Station,
+}
+
+/// What a step waited for last before its start.
+#[derive(Clone, Copy)]
+pub(crate) enum StartWait {
+    Nothing,
+    Operand,
+    Address,
+    Memory,
+    Unit,
+}
+
+/// What is noted of a step's waits, and of what its times say of older steps, in 20 bytes.
 #[derive(Clone, Copy)]
 pub(crate) struct Note {
+    /// The cycles of its last wait before its issue, and before its start.
+    pub issue_cycles: u32,
+    pub start_cycles: u32,
+    /// Those of its wait for what its address comes after: its base, or an older address.
+    pub address_cycles: u32,
+    /// What these last waits are for.
+    pub issue: IssueWait,
+    pub start: StartWait,
     /// It ends later than each older step.
     pub is_last: bool,
     /// The producer of its base register ends in the cycle before its address.
@@ -30,18 +57,25 @@ pub(crate) struct Note {
 pub(crate) struct Seen {
     pub facts: Facts,
     pub at: Times,
-    pub waits: Waits,
     /// The issue of the step before it; 0 if it is the first.
     pub previous: u64,
     pub note: Note,
 }
 
-/// The ends so far, in cycles; 0 if there is none.
-#[derive(Clone, Copy)]
-pub(crate) struct Ends {
-    /// The end of each register's youngest writer.
-    pub of: [u64; 32],
-    pub greatest: u64,
+/// The times of a run's steps, and what is noted of them.
+#[derive(Drop)]
+pub(crate) struct Noted<A: Allocator> {
+    pub times: Vec<Times, A>,
+    pub notes: Vec<Note, A>,
+}
+
+impl Seen {
+    /// The cycles that its result waits for a bus.
+    pub fn bus_wait(&self) -> u64
+        ensures { result ≡ bus_wait self.now.at }
+    {
+        self.at.end.saturating_sub(self.at.finish).saturating_sub(1)
+    }
 }
 
 /// True if a cycle is the one after another.
@@ -51,75 +85,114 @@ fn is_after(before: u64, cycle: u64) -> bool
     cycle > 0 && before == cycle - 1
 }
 
-impl Ends {
-    /// The state before the first step.
-    fn none() -> Ends
-        ensures { IsEnds [] result }
-    {
-        Ends {
-            of: [0; 32],
-            greatest: 0,
-        }
+/// The last wait before an issue, and its cycles.
+fn issue_wait(waits: &Waits) -> (IssueWait, u32)
+    requires { AreWithin (2 ^ 32 - 1) waits.now }
+    ensures { result ≡ issue_wait waits.now }
+{
+    if waits.station > 0 {
+        (IssueWait::Station, waits.station as u32)
+    } else if waits.width > 0 {
+        (IssueWait::Width, waits.width as u32)
+    } else if waits.branch > 0 {
+        (IssueWait::Branch, waits.branch as u32)
+    } else {
+        (IssueWait::Nothing, 0)
     }
+}
 
-    /// The end of the producer of a register's content; 0 without a register.
-    fn end_of(&self, register: Option<u8>) -> u64
-        requires { IfSome register (λ r. r < 32) }
-        ensures { (h : List Done) (operand : Option Operand) → IsEnds h self.now → register ≡ register_of operand
-            → result ≡ source_end h operand }
-    {
-        match register {
-            None => 0,
-            Some(register) => self.of[usize::from(register)],
-        }
+/// The last wait before a start, and its cycles.
+fn start_wait(waits: &Waits) -> (StartWait, u32)
+    requires { AreWithin (2 ^ 32 - 1) waits.now }
+    ensures { result ≡ start_wait waits.now }
+{
+    if waits.unit > 0 {
+        (StartWait::Unit, waits.unit as u32)
+    } else if waits.memory > 0 {
+        (StartWait::Memory, waits.memory as u32)
+    } else if waits.address > 0 {
+        (StartWait::Address, waits.address as u32)
+    } else if waits.operand > 0 {
+        (StartWait::Operand, waits.operand as u32)
+    } else {
+        (StartWait::Nothing, 0)
     }
+}
 
-    /// What a next step's times say of the steps so far.
-    fn note(&self, facts: &Facts, at: &Times) -> Note
-        requires j { IfSome facts.now.j (λ r. r < 32) }
-        requires k { IfSome facts.now.k (λ r. r < 32) }
-        ensures { (h : List Done) (d : Done) → IsEnds h self.now → facts.now ≡ facts_of d.step → at.now ≡ d.at
-            → result ≡ note_of h d }
+impl Note {
+    /// The note of a step with these times and waits, given the greatest end before it and the ends of its operands'
+    /// producers.
+    fn of(greatest: u64, j: u64, k: u64, at: &Times, waits: &Waits) -> Note
+        requires { AreWithin (2 ^ 32 - 1) waits.now }
+        ensures { result ≡ note_from greatest j k at.now waits.now }
     {
-        let j = self.end_of(facts.j);
-        let k = self.end_of(facts.k);
+        let issue = issue_wait(waits);
+        let start = start_wait(waits);
+        let base = is_after(j, at.address.unwrap_or(0));
         Note {
-            is_last: self.greatest < at.end,
-            base: is_after(j, at.address.unwrap_or(0)),
+            issue_cycles: issue.1,
+            start_cycles: start.1,
+            address_cycles: if base {
+                waits.operand as u32
+            } else {
+                waits.address as u32
+            },
+            issue: issue.0,
+            start: start.0,
+            is_last: greatest < at.end,
+            base,
             j: is_after(j, at.start),
             k: is_after(k, at.start),
         }
     }
 
-    /// Adds a step.
-    fn add(&mut self, facts: &Facts, at: &Times)
-        requires { IfSome facts.now.dest (λ r. r < 32) }
-        ensures { self.new ≡ ends_after facts.now at.now self.old }
+    /// The cycles that the step waited for an operand, if that holds its start or its address.
+    pub fn operand_wait(&self) -> u64
+        ensures { result ≡ operand_wait self.now.start self.now }
     {
-        if let Some(register) = facts.dest {
-            self.of[usize::from(register)] = at.end;
+        match self.start {
+            StartWait::Operand => u64::from(self.start_cycles),
+            _ => u64::from(self.address_cycles),
         }
-        self.greatest = at.end.max(self.greatest);
     }
 }
 
-/// The notes of a run's steps.
-pub(crate) fn notes_of<A: Allocator>(
-    alloc: A,
-    facts: &[Facts],
-    times: &[Times],
-) -> Result<Vec<Note, A>, AllocError>
-    requires { (config : Configuration) × (steps : List Step) × AreFacts steps facts.now
-        × (times.now ≡ times_in config steps) }
-    ensures { IfOk result (λ v. (config : Configuration) (steps : List Step) → AreFacts steps facts.now
-        → times.now ≡ times_in config steps → v.items ≡ notes_in config steps) }
+/// The note of a next step, given the latest cycles of the steps before it.
+#[inline(always)]
+fn note_of(latest: &Latest, facts: &Facts, turn: &Turn) -> Note
+    requires range { AreInRange facts.now }
+    requires zero { slice_index latest.now.ends 0 ≡ 0 }
+    requires small { AreWithin (2 ^ 32 - 1) turn.now.waits }
+    ensures { result ≡ note_from latest.now.end (end_in latest.now.ends facts.now.j)
+        (end_in latest.now.ends facts.now.k) turn.now.next.at turn.now.waits }
 {
-    let mut result = Vec::new(alloc);
-    let mut ends = Ends::none();
-    for (index, step) in facts.iter().enumerate() {
-        let at = &times[index];
-        result.push(ends.note(step, at))?;
-        ends.add(step, at);
+    let j = end_of(latest, facts.j);
+    let k = end_of(latest, facts.k);
+    Note::of(latest.end, j, k, &turn.next.at, &turn.waits)
+}
+
+/// The times and the notes of the run whose steps have these facts.
+pub(crate) fn notes_of<A: Allocator + Clone>(
+    alloc: &A,
+    facts: &[Facts],
+    config: &Config,
+) -> Result<Noted<A>, AllocError>
+    requires run { (steps : List Step) × AreFacts steps facts.now }
+    requires few { length facts.now ≤ most_steps }
+    ensures times { IfOk result (λ n. (steps : List Step) → AreFacts steps facts.now
+        → n.times.items ≡ times_in config.now steps) }
+    ensures notes { IfOk result (λ n. (steps : List Step) → AreFacts steps facts.now
+        → n.notes.items ≡ notes_in config.now steps) }
+{
+    let mut times = Vec::new(alloc.clone()?);
+    let mut notes = Vec::new(alloc.clone()?);
+    let mut recent = Recent::new(alloc, alloc);
+    config.keeps_limits();
+    for step in facts {
+        let turn = next_turn(config, &recent, step);
+        notes.push(note_of(&recent.latest, step, &turn))?;
+        recent.keep(step, &turn.next.at)?;
+        times.push(turn.next.at)?;
     }
-    Ok(result)
+    Ok(Noted { times, notes })
 }

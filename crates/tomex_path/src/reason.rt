@@ -1,9 +1,10 @@
 //! Why a link of a path begins no earlier.
 
 ghost use Rattle.std.specs.Prelude.{◌≡◌};
-ghost use Rattle.tomex_path.specs.Path.{waited};
+ghost use Rattle.tomex_path.specs.Seen.{noted_wait};
 
-use tomex_timing::{Part, Waits};
+use crate::note::Seen;
+use tomex_timing::Part;
 
 /// What a step waited for last, before the first cycle of its link; `Order` if for nothing, except its turn.
 #[derive(Clone, Copy, Debug, PartialEq, Eq)]
@@ -17,19 +18,20 @@ pub enum Reason {
 }
 
 impl Reason {
-    /// The cycles that a step with these waits has waited for it.
-    pub(crate) fn waited(self, waits: &Waits) -> u64
-        ensures { result ≡ waited waits.now self }
+    /// The cycles that a step has waited for it, if it holds one of the step's events.
+    pub(crate) fn waited(self, seen: &Seen) -> u64
+        ensures { result ≡ noted_wait seen.now self }
     {
+        let note = &seen.note;
         match self {
-            Reason::For(Part::Stations(_)) => waits.station,
-            Reason::For(Part::Units(_)) => waits.unit,
-            Reason::For(Part::Buses) => waits.bus,
-            Reason::For(Part::Width) => waits.width,
-            Reason::Branch => waits.branch,
-            Reason::Operand => waits.operand,
-            Reason::Address => waits.address,
-            Reason::Memory => waits.memory,
+            Reason::For(Part::Stations(_)) => u64::from(note.issue_cycles),
+            Reason::For(Part::Units(_)) => u64::from(note.start_cycles),
+            Reason::For(Part::Buses) => seen.bus_wait(),
+            Reason::For(Part::Width) => u64::from(note.issue_cycles),
+            Reason::Branch => u64::from(note.issue_cycles),
+            Reason::Operand => note.operand_wait(),
+            Reason::Address => u64::from(note.address_cycles),
+            Reason::Memory => u64::from(note.start_cycles),
             Reason::Order => 0,
         }
     }

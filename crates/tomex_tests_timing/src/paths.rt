@@ -137,7 +137,7 @@ fn is_path(alloc: Global, case: &Case) -> Result<bool, Fail> {
         words: case.words,
     };
     let run = run_of(alloc, &program)?;
-    let links = path(alloc, &run, &case.machine.config()?)?;
+    let links = path(alloc, &run, &case.machine.config()?)?.links;
     Ok(has_links(links.as_slice(), case.links))
 }
 
@@ -153,7 +153,7 @@ fn paths_are_those_of_another_implementation(rt: HostRuntime) -> Result<(), Fail
 fn the_path_of_no_steps_has_no_links(rt: HostRuntime) -> Result<(), Fail> {
     let config = one_unit_each([1; 6], [1; 5], 1)?;
     let none = Run::new(rt.alloc(), Vec::new(rt.alloc()))?;
-    assert!(rt; path(rt.alloc(), &none, &config)?.is_empty());
+    assert!(rt; path(rt.alloc(), &none, &config)?.links.is_empty());
     Ok(())
 }
 
@@ -185,7 +185,7 @@ fn is_random_path(alloc: Global, random: &mut Random, most: u32) -> Result<bool,
     let run = random_run(random, alloc)?;
     let config = random_config(random, most)?;
     let total = run.needs(&alloc, &config)?.total;
-    let links = path(alloc, &run, &config)?;
+    let links = path(alloc, &run, &config)?.links;
     let floors = floors(alloc, &run, &config)?;
     let width = usize::from(config.width());
     let floor = floors.get(width.saturating_sub(1)).copied();
@@ -216,8 +216,8 @@ impl<'a> Attempt for Finding<'a> {
         if self.run.steps().len() > 2000 {
             return Ok(Try::Wrong);
         }
-        let links = path(heap, self.run, &self.config);
-        let is_right = links.map(|links| has_links(links.as_slice(), self.links));
+        let path = path(heap, self.run, &self.config);
+        let is_right = path.map(|path| has_links(path.links.as_slice(), self.links));
         Ok(is_right.map_or(Try::Refused, Try::right_if))
     }
 }

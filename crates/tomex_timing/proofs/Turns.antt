@@ -22,7 +22,7 @@ use Rattle.tomex_timing.specs.Ahead.{CanKeep, Held, IsHeldAfter, IsIdle, IsNextB
 use Rattle.tomex_timing.specs.Ahead.{TakesStation, end_in}
 use Rattle.tomex_timing.specs.History.{last_issue, greatest_end}
 use Rattle.tomex_timing.specs.Laws.{InReach}
-use Rattle.tomex_timing.specs.Needs.{AreNeeds, waits_in}
+use Rattle.tomex_timing.specs.Needs.{AreNeeds, waits_in, waits_of}
 use Rattle.tomex_timing.specs.Recurrence.{IsTimed}
 use Rattle.tomex_timing.specs.Search.{times_of, history, times_in}
 use Rattle.tomex_timing.specs.Waiting.{AreWithin, IsWithin, needs_after, taken_from, waits_by}
@@ -158,7 +158,7 @@ module _ {config : Configuration} {steps : List Step} {i : ℕ} {x : Step} {f : 
   reaches = reach config (record { step = x; at = next.at }) (history config (take i steps)) turn.step.good
       (is_timed, are_timed config (take i steps) turn.step.good)
 
-  same_times : next.at ≡ times_of config (history config (take i steps)) x
+  pub same_times : next.at ≡ times_of config (history config (take i steps)) x
   same_times = times_same config (history config (take i steps)) x next.at
       (times_of config (history config (take i steps)) x) is_timed
       (times_are config (history config (take i steps)) x turn.step.good
@@ -198,28 +198,31 @@ module _ {config : Configuration} {steps : List Step} {i : ℕ} {x : Step} {f : 
         };
       }
 
+  pub turn_waits : {waits : Waits} → waits ≡ waits_by held.latest next.marks next.at
+      → waits ≡ waits_of config (history config (take i steps)) (record { step = x; at = next.at })
+  turn_waits waited = waited ∙ waits_are comes
+
   pub waits_turn : {waits : Waits} → waits ≡ waits_by held.latest next.marks next.at
       → waits_in config (take (i + 1) steps) ≡ waits_in config (take i steps) ++ (waits ∷ [])
-  waits_turn waited = rw (one_more, waited ∙ waits_are comes, same_times) (waits_more config (take i steps) x)
+  waits_turn waited = rw (one_more, turn_waits waited, same_times) (waits_more config (take i steps) x)
 
-  pub waits_small : {facts : List Facts} {waits : Waits} → AreFacts steps facts → length facts < 2 ^ 28
-      → waits ≡ waits_by held.latest next.marks next.at → AreWithin (2 ^ 62) waits
-  waits_small {facts} are few waited =
-      let n : length facts ≡ length steps = length_facts steps facts are in
+  pub waits_small : {waits : Waits} (n : ℕ) → 67 * length steps ≤ n
+      → waits ≡ waits_by held.latest next.marks next.at → AreWithin n waits
+  waits_small n few waited =
       let place : i < length steps = turn.step.place in
       let b : greatest_end (history config (take i steps)) ≤ 67 * length (take i steps) =
       history_bound config (take i steps) turn.step.good in
       let e : length (take i steps) ≡ i = length-take-le i steps (omega arith) in
       let end : next.at.end ≤ greatest_end (history config (take i steps)) + 67 = reaches.end in
-      rw (waited ∙ waits_are comes) (waits_within config (history config (take i steps))
-      (record { step = x; at = next.at }) (2 ^ 62) reaches (omega arith))
+      rw (turn_waits waited) (waits_within config (history config (take i steps))
+      (record { step = x; at = next.at }) n reaches (omega arith))
 
   pub needs_turn : {needs : Needs} {waits : Waits} {takes : Taken} → waits ≡ waits_by held.latest next.marks next.at
       → takes ≡ taken_from held.latest next → AreNeeds config (history config (take i steps)) needs
       → AreNeeds config (history config (take (i + 1) steps)) (needs_after f waits takes next.at needs)
   needs_turn {needs} {waits} {takes} waited took are =
       rw (longer, turn.step.facts) (needs_more config (history config (take i steps))
-      (record { step = x; at = next.at }) needs waits takes are (waited ∙ waits_are comes)
+      (record { step = x; at = next.at }) needs waits takes are (turn_waits waited)
       (λ part. rw took (taken_is comes part)))
 
 -- a step can be timed by what shows the steps before it, and kept

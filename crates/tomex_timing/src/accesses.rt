@@ -8,7 +8,7 @@ use tomex_rvexec::ByteRange;
 
 /// A load or store that may not have finished yet.
 #[derive(Clone, Copy)]
-pub(crate) struct Access {
+pub struct Access {
     pub bytes: ByteRange,
     pub is_store: bool,
     pub finish: u64,

@@ -31,8 +31,10 @@ pub use laws::{
     younger_steps_change_nothing,
 };
 pub use needs::Needs;
+pub use next::end_of;
 pub use part::{Need, Part, Waits};
-pub use recent::Facts;
+pub use recent::{Facts, Latest, Recent};
 pub use run::Run;
 pub use tables::{Busy, Field, Tables, Tag};
 pub use times::{Done, Times};
+pub use turn::{Turn, next_turn};

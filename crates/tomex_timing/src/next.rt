@@ -16,7 +16,7 @@ use tomex_rvdec::PoolId;
 
 /// The cycles from which on a next step waits for one thing less. Without a unit it waits for nothing after its issue.
 #[derive(Clone, Copy)]
-pub(crate) struct Marks {
+pub struct Marks {
     /// With a slot to issue in, and each older branch finished.
     pub from: u64,
     pub operands: u64,
@@ -29,7 +29,7 @@ pub(crate) struct Marks {
 /// The times of a next step, the marks between its waits, and how many units of its kind and how many buses are taken,
 /// including its own: 0 if it takes none.
 #[derive(Clone, Copy)]
-pub(crate) struct Next {
+pub struct Next {
     pub at: Times,
     pub marks: Marks,
     pub units: u64,
@@ -38,7 +38,7 @@ pub(crate) struct Next {
 
 /// The end of the producer of a register's content; 0 without a register.
 // Without a register it reads x0's, so that no jump depends on it.
-pub(crate) fn end_of(latest: &Latest, register: Option<u8>) -> u64
+pub fn end_of(latest: &Latest, register: Option<u8>) -> u64
     requires register { IfSome register (λ r. r < 32) }
     requires zero { slice_index latest.now.ends 0 ≡ 0 }
     ensures { result ≡ end_in latest.now.ends register }

@@ -31,7 +31,7 @@ pub struct Facts {
 
 /// The latest of each kind of cycle so far; 0 if there is none.
 #[derive(Clone, Copy)]
-pub(crate) struct Latest {
+pub struct Latest {
     /// The end of each register's youngest writer.
     pub ends: [u64; 32],
     pub issue: u64,
@@ -46,7 +46,7 @@ pub(crate) struct Latest {
 
 /// All that is kept. There is no list of steps: these fields say of them what a next step depends on.
 #[derive(Drop)]
-pub(crate) struct Recent<A: Allocator> {
+pub struct Recent<A: Allocator> {
     pub latest: Latest,
     /// The units and buses that are taken.
     pub table: ReservationTable<A>,

@@ -13,7 +13,7 @@ use tomex_config::Config;
 
 /// A next step with its times, its waits and what it takes.
 #[derive(Clone, Copy)]
-pub(crate) struct Turn {
+pub struct Turn {
     pub next: Next,
     pub waits: Waits,
     pub taken: Taken,
@@ -22,7 +22,7 @@ pub(crate) struct Turn {
 /// The next step's times, its waits and what it takes.
 // Inlined, so that a loop that ignores the waits doesn't compute them.
 #[inline(always)]
-pub(crate) fn next_turn<A: Allocator>(config: &Config, recent: &Recent<A>, facts: &Facts) -> Turn
+pub fn next_turn<A: Allocator>(config: &Config, recent: &Recent<A>, facts: &Facts) -> Turn
     requires { IsReady config.now (held_by recent.now) facts.now }
     ensures next { IsNextBy config.now (held_by recent.now) facts.now result.next }
     ensures waits { result.waits ≡ waits_by recent.now.latest result.next.marks result.next.at }

@@ -10,7 +10,7 @@ use crate::recent::Latest;
 /// The amount of each part that one step takes, including what others take of it at the same time: the stations up to
 /// its own, the operations that start with it, the results that end with it, the steps that issue with it.
 #[derive(Clone, Copy)]
-pub(crate) struct Taken {
+pub struct Taken {
     pub station: u64,
     pub unit: u64,
     pub bus: u64,

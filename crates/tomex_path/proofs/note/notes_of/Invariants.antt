@@ -1,15 +1,16 @@
--- The ends and the notes of the steps so far.
+-- What is held shows the steps so far, and so do the times and the notes.
 use Rattle.std.proofs.Common.{◌≡◌, List, take}
 use Rattle.tomex_steps.specs.declared.step.Step.{Step}
-use Rattle.tomex_config.specs.Configuration.{Configuration}
+use Rattle.tomex_timing.specs.Ahead.{held_by}
 use Rattle.tomex_timing.specs.Recent.{AreFacts}
 use Rattle.tomex_timing.specs.Search.{history, times_in}
-use Rattle.tomex_path.specs.Seen.{IsEnds, notes_in}
+use Rattle.tomex_timing.proofs.Summary.{IsSummary}
+use Rattle.tomex_path.specs.Seen.{notes_in}
 use Rattle.tomex_path.proofs.note.notes_of.Given as goal
 
-abbrev pub invariant-loop-index : goal.invariant-loop-index
-invariant-loop-index g l =
-    (config : Configuration) (steps : List Step) → AreFacts steps l.facts → l.times ≡ times_in config steps → record {
-      ends : IsEnds (history config (take l.index steps)) l.ends;
-      notes : l.result.items ≡ notes_in config (take l.index steps);
-    }
+abbrev pub invariant-loop-step : goal.invariant-loop-step
+invariant-loop-step g l = (steps : List Step) → AreFacts steps l.facts → record {
+  shown : IsSummary (history l.config (take l.step-index steps)) (held_by l.recent);
+  times : l.times.items ≡ times_in l.config (take l.step-index steps);
+  notes : l.notes.items ≡ notes_in l.config (take l.step-index steps);
+}

@@ -16,7 +16,7 @@ use Rattle.tomex_path.proofs.walk.links_of.Goals.{then-is+in_ok-push, else-is}
 
 pub loop-passed-init : goal.loop-passed-init
 loop-passed-init g c = λ config steps ev.
-    let many = lengths config steps c.args.facts.now c.args.times.now c.args.waits.now c.args.notes.now ev in
+    let many = lengths config steps c.args.facts.now c.args.times.now c.args.notes.now ev in
     let all : take (length c.args.times.now - 0) steps ≡ steps =
     take_all (length c.args.times.now - 0) steps (omega (arith, many.many_times)) in
     rw (c.new-result.ensures.items, all) refl
@@ -25,7 +25,7 @@ pub loop-passed-preserved : goal.loop-passed-preserved
 loop-passed-preserved g c = λ config steps ev.
     let n : ℕ = length c.args.times.now in
     let place : ℕ = length c.args.times.now - 1 - c.loop-passed.passed in
-    let many = lengths config steps c.args.facts.now c.args.times.now c.args.waits.now c.args.notes.now ev in
+    let many = lengths config steps c.args.facts.now c.args.times.now c.args.notes.now ev in
     let l : length c.args.times.now - 1 - c.loop-passed.passed < length steps =
     omega (arith, many.many_times, c.loop-passed-test.true) in
     let x = step_there steps (length c.args.times.now - 1 - c.loop-passed.passed) l in

@@ -10,6 +10,6 @@ use Rattle.tomex_path.proofs.walk.links_of.Given as goal
 
 abbrev pub invariant-loop-passed : goal.invariant-loop-passed
 invariant-loop-passed g l =
-    (config : Configuration) (steps : List Step) → IsEvaluated config steps l.facts l.times l.waits l.notes
+    (config : Configuration) (steps : List Step) → IsEvaluated config steps l.facts l.times l.notes
     → links config Last (history config steps)
     ≡ l.result.items ++ links config l.by (history config (take (l.count - l.passed) steps))

@@ -1,19 +1,26 @@
--- The links add up.
-use Rattle.std.proofs.Common.{rules, ◌≡◌, sym, subst, List}
-use Rattle.tomex_timing.specs.Search.{history, times_in, total_of}
-use Rattle.tomex_timing.proofs.Histories.{are_timed, total_is}
-use Rattle.tomex_path.specs.declared.link.Link.{Link}
-use Rattle.tomex_path.specs.Laws.{IsChain}
+-- The links add up, and are within the run.
+use Rattle.std.proofs.Common.{rules, ◌≡◌, ◌∙◌, ap, length}
+use Rattle.tomex_timing.specs.Search.{history, times_in}
+use Rattle.tomex_timing.proofs.Histories.{length-times_in, times_bound}
 use Rattle.tomex_path.specs.Path.{path_of}
-use Rattle.tomex_path.proofs.Turned.{path_adds_up}
+use Rattle.tomex_path.proofs.LinkBounds.{links_chain, links_few, links_within}
 use Rattle.tomex_path.proofs.walk.path.Goals as goal
 
-pub returns-clause-cycles : goal.returns-clause-cycles
-returns-clause-cycles g c =
-    let e : c.reverse.new.self.items ≡ path_of c.args.config.now (history c.args.config.now c.args.run.now) =
+pub returns : goal.returns
+returns g c =
+    let config = c.args.config.now in
+    let steps = c.args.run.now in
+    let good = c.keeps_limits.ensures in
+    let timed : c.in_ok-noted.noted.times.items ≡ times_in c.args.config.now c.args.run.now =
+    c.in_ok-noted.ensures.times c.args.run.now c.facts.ensures in
+    let are : c.reverse.new.self.items ≡ path_of c.args.config.now (history c.args.config.now c.args.run.now) =
     search rules in
-    let whole = path_adds_up c.args.config.now (history c.args.config.now c.args.run.now) c.keeps_limits.ensures
-    (are_timed c.args.config.now c.args.run.now c.keeps_limits.ensures) in
-    subst (λ (ls : List Link). IsChain 1 (total_of (times_in c.args.config.now c.args.run.now)) ls) (sym e)
-    (subst (λ n. IsChain 1 n (path_of c.args.config.now (history c.args.config.now c.args.run.now)))
-    (total_is c.args.config.now c.args.run.now) whole.0)
+    record {
+      times = timed;
+      pairs = ap length timed ∙ length-times_in config steps;
+      bound = rw timed (times_bound config steps good);
+      exact = are;
+      cycles = links_chain config steps c.in_ok-noted.noted.times.items c.reverse.new.self.items good timed are;
+      within = links_within config steps c.in_ok-noted.noted.times.items c.reverse.new.self.items good timed are;
+      few = links_few config steps c.in_ok-noted.noted.times.items c.reverse.new.self.items good timed are;
+    }

@@ -1,8 +1,9 @@
 -- Each turn of the loop keeps what is held, and adds the step's needs.
-use Rattle.std.proofs.Common.{arith}
+use Rattle.std.proofs.Common.{◌^◌, arith}
 use Rattle.tomex_timing.proofs.Needed.{needs_none}
 use Rattle.tomex_timing.proofs.Summary.{empty_summary}
-use Rattle.tomex_timing.proofs.Turns.{held_turn, needs_small, needs_turn, ready, step_of, turn_of, waits_small}
+use Rattle.tomex_timing.proofs.Turns.{held_turn, length_facts, needs_small, needs_turn, ready, step_of, turn_of}
+use Rattle.tomex_timing.proofs.Turns.{waits_small}
 use Rattle.tomex_timing.proofs.evaluate.needs_of.Goals as goal
 
 pub loop-step-init : goal.loop-step-init
@@ -27,8 +28,9 @@ pub note-requires-clause-waits : goal.note-requires-clause-waits
 note-requires-clause-waits g c =
     let at = step_of c.args.config.now c.requires.run.0 c.args.facts.now c.loop-step.step-index _ c.keeps_limits.ensures
     c.requires.run.1 c.loop-step-test.true (omega arith) in
+    let many = length_facts c.requires.run.0 c.args.facts.now c.requires.run.1 in
     waits_small (turn_of at.1 (c.loop-step.invariant c.requires.run.0 c.requires.run.1).shown
-    c.next_turn-turn.ensures.next) c.requires.run.1 c.requires.few c.next_turn-turn.ensures.waits
+    c.next_turn-turn.ensures.next) (2 ^ 62) (omega (arith, many, c.requires.few)) c.next_turn-turn.ensures.waits
 
 pub loop-step-preserved : goal.loop-step-preserved
 loop-step-preserved g c = λ steps are.
