@@ -49,7 +49,7 @@ of_group P (v ∷ vs) group is all =
     first_or s None = s
     first_or s (Some group) = group.first
 
-of_groups : (P : Step → Type 0) (key : Step → ℕ) (visits : List Visit) (es : List (ℕ × Group))
+pub of_groups : (P : Step → Type 0) (key : Step → ℕ) (visits : List Visit) (es : List (ℕ × Group))
     → All (λ e. group_of (visits_of key e.0 visits) ≡ Some e.1) es → All (λ v. P v.step) visits
     → All (λ group. P group.first) (values_of es)
 of_groups P key visits [] kept all = All-nil (λ (group : Group). P group.first)

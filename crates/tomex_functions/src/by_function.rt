@@ -24,8 +24,8 @@ use tomex_run_views::{push_sum, put_columns, put_sum};
 use tomex_study::Program;
 use tomex_symbols::{Symbol, has_symbols, symbols};
 
-/// Adds the address of a function.
-fn push_address(
+/// Adds the address of a function, or `-` of none.
+pub fn push_address(
     fields: &mut ByteRecord,
     scratch: &mut String,
     function: &Option<Symbol>,

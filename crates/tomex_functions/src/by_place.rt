@@ -19,9 +19,9 @@ use tomex_symbols::{has_symbols, symbols};
 
 /// The column of the functions of a file's program.
 #[derive(Clone, Copy, Drop)]
-struct FunctionColumn<'a, A: Allocator> {
-    file: &'a [u8],
-    index: &'a Index<A>,
+pub struct FunctionColumn<'a, A: Allocator> {
+    pub file: &'a [u8],
+    pub index: &'a Index<A>,
 }
 
 impl<'a, A: Allocator> StepColumns for FunctionColumn<'a, A> {

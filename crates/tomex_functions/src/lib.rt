@@ -11,8 +11,10 @@ mod laws;
 mod rows;
 mod shown_names;
 
-pub use by_function::stalls_by_function;
-pub use by_place::stalls_by_pc_and_function;
+pub use by_function::{push_address, stalls_by_function};
+pub use by_place::{FunctionColumn, stalls_by_pc_and_function};
 pub use functions_error::FunctionsError;
+pub use index::{Index, key_of, keys_of};
 pub use laws::functions_add_up;
-pub use shown_names::shown_function;
+pub use rows::{Row, sort_rows};
+pub use shown_names::{push_function, shown_function};

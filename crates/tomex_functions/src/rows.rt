@@ -86,7 +86,7 @@ fn sort_key(row: &Row) -> (u8, Reverse<u64>, u32, u32)
 
 /// Puts rows in the order of a report: those with the most cycles first, then by address and by number in the table,
 /// and last that of steps without a function.
-fn sort_rows<A: Allocator>(rows: &mut Vec<Row, A>)
+pub fn sort_rows<A: Allocator>(rows: &mut Vec<Row, A>)
     ensures moved { IsPermutation rows.old.items rows.new.items }
     ensures order { InOrder rows.new.items }
 {

@@ -21,7 +21,8 @@ use Rattle.tomex_timing.specs.declared.part.Waits.{Waits}
 use Rattle.tomex_run_views.specs.ByPlace.{Visit, visits_of}
 use Rattle.tomex_run_views.specs.declared.tally.Group.{Group}
 use Rattle.tomex_run_views.specs.declared.tally.Sum.{Sum}
-use Rattle.tomex_run_views.specs.Tally.{cycles_by, group_of, more_at, no_sum, sum_after, sum_of, visits_by}
+use Rattle.tomex_run_views.specs.Tally.{IsSmall, cycles_by, group_of, more_at, no_sum, sum_after, sum_of, visit}
+use Rattle.tomex_run_views.specs.Tally.{visits_by}
 
 pub sum_more : (vs : List Visit) (v : Visit) → sum_of (vs ++ v ∷ []) ≡ sum_after (sum_of vs) v.cycles v.waits
 sum_more vs v =
@@ -62,28 +63,28 @@ group_more_at key k vs v =
     go false e = rw (e, append-nil (visits_of key k vs)) refl
 
 -- the visit of a step, whose index is known
-abbrev pub visit : ℕ → Step → Waits → Visit
-visit more s w = record { step = s; cycles = cycles_by more w; waits = w }
+abbrev pub visit_by : ℕ → Step → Waits → Visit
+visit_by more s w = visit s (cycles_by more w) w
 
 -- the visits of a loop's next turn
 later_visits : (ss : List Step) (ws : List Waits) (i : ℕ) (s : Step) (w none : Waits) → i < length ss
     → length ws ≡ length ss → s ≡ get_or ss i s → w ≡ get_or ws i none
-    → take (i + 1) (visits_by 0 ss ws) ≡ take i (visits_by 0 ss ws) ++ visit 0 s w ∷ []
+    → take (i + 1) (visits_by 0 ss ws) ≡ take i (visits_by 0 ss ws) ++ visit_by 0 s w ∷ []
 later_visits [] ws i s w none within pairs step waits = absurd (omega arith)
 later_visits (x ∷ ss) [] i s w none within pairs step waits = absurd (cc)
 later_visits (x ∷ ss) (y ∷ ws) zero s w none within pairs step waits = rw (step, waits) refl
 later_visits (x ∷ ss) (y ∷ ws) (suc i) s w none within pairs step waits =
-    rw (add-one (suc i)) (ap (λ (vs : List Visit). visit 0 x y ∷ vs)
+    rw (add-one (suc i)) (ap (λ (vs : List Visit). visit_by 0 x y ∷ vs)
     (rw (add-one i) at (later_visits ss ws i s w none (omega arith) (omega (arith, pairs)) step waits)))
 
 pub visits_more : (ss : List Step) (ws : List Waits) (i : ℕ) (s : Step) (w none : Waits) → i < length ss
     → length ws ≡ length ss → s ≡ get_or ss i s → w ≡ get_or ws i none
-    → take (i + 1) (visits_by 1 ss ws) ≡ take i (visits_by 1 ss ws) ++ visit (more_at i) s w ∷ []
+    → take (i + 1) (visits_by 1 ss ws) ≡ take i (visits_by 1 ss ws) ++ visit_by (more_at i) s w ∷ []
 visits_more [] ws i s w none within pairs step waits = absurd (omega arith)
 visits_more (x ∷ ss) [] i s w none within pairs step waits = absurd (cc)
 visits_more (x ∷ ss) (y ∷ ws) zero s w none within pairs step waits = rw (step, waits) refl
 visits_more (x ∷ ss) (y ∷ ws) (suc i) s w none within pairs step waits =
-    rw (add-one (suc i)) (ap (λ (vs : List Visit). visit 1 x y ∷ vs)
+    rw (add-one (suc i)) (ap (λ (vs : List Visit). visit_by 1 x y ∷ vs)
     (rw (add-one i) at (later_visits ss ws i s w none (omega arith) (omega (arith, pairs)) step waits)))
 
 length_visits : (more : ℕ) (ss : List Step) (ws : List Waits) → length (visits_by more ss ws) ≤ length ss
@@ -110,32 +111,26 @@ same_key a b = go (eqb_tells a b)
         subst (λ (x : ℕ). is_eq (nat_cmp x b) ≡ true) (sym same.1) (ap is_eq (tied_itself nat_cmp_total b)) ∙ sym same.0
     go (inr other) = apart (nat_cmp a b) refl other.1 ∙ sym other.0
 
--- the sum of all after a turn
-pub all_more : (visits : List Visit) {later : List Visit} (more : ℕ) (s : Step) (w : Waits) {old new : Sum} {n : ℕ}
-    → later ≡ visits ++ visit more s w ∷ [] → n ≡ cycles_by more w → old ≡ sum_of visits → new ≡ sum_after old n w
-    → new ≡ sum_of later
-all_more visits more s w grown count was is = rw (is, was, count, grown) (sym (sum_more visits (visit more s w)))
+-- the sum of all with one visit more
+pub all_more : (visits : List Visit) (v : Visit) {old new : Sum} → old ≡ sum_of visits
+    → new ≡ sum_after old v.cycles v.waits → new ≡ sum_of (visits ++ v ∷ [])
+all_more visits v was is = rw (is, was) (sym (sum_more visits v))
 
 -- and what is kept of each key
-pub at_more : (key : Step → ℕ) (visits : List Visit) {later : List Visit} (more : ℕ) (s : Step) (w : Waits) (k : ℕ)
-    {got had : Option Group} {now new : Group} {at n : ℕ}
-    → later ≡ visits ++ visit more s w ∷ [] → n ≡ cycles_by more w → at ≡ key s
-    → got ≡ cond (is_eq (nat_cmp at k)) (Some new) had → had ≡ group_of (visits_of key k visits)
-    → now ≡ before (group_of (visits_of key at visits)) s → new ≡ record now { sum = sum_after now.sum n w }
-    → got ≡ group_of (visits_of key k later)
-at_more key visits more s w k {had} {now} {new} {at} {n} grown count key_is is was kept made =
+pub at_more : (key : Step → ℕ) (visits : List Visit) (v : Visit) (k : ℕ) {got had : Option Group} {now new : Group}
+    {at : ℕ} → at ≡ key v.step → got ≡ cond (is_eq (nat_cmp at k)) (Some new) had
+    → had ≡ group_of (visits_of key k visits) → now ≡ before (group_of (visits_of key at visits)) v.step
+    → new ≡ record now { sum = sum_after now.sum v.cycles v.waits } → got ≡ group_of (visits_of key k (visits ++ v ∷ []))
+at_more key visits v k {had = had} {new = new} {at = at} key_is is was kept made =
     is ∙ (ap (λ (b : Bool). cond b (Some new) had) (same_key at k)
     ∙ (go (at == k) refl ∙ (ap (λ (n : ℕ). cond (n == k)
-    (Some (group_after (group_of (visits_of key k visits)) (visit more s w)))
-    (group_of (visits_of key k visits))) key_is
-    ∙ (sym (group_more_at key k visits (visit more s w))
-    ∙ ap (λ (vs : List Visit). group_of (visits_of key k vs)) (sym grown)))))
+    (Some (group_after (group_of (visits_of key k visits)) v)) (group_of (visits_of key k visits))) key_is
+    ∙ sym (group_more_at key k visits v))))
   where
     go : (b : Bool) → (at == k) ≡ b
         → cond (at == k) (Some new) had
-        ≡ cond (at == k) (Some (group_after (group_of (visits_of key k visits)) (visit more s w)))
-        (group_of (visits_of key k visits))
-    go true e = rw (e, made, count, kept, eqb-true at k e) refl
+        ≡ cond (at == k) (Some (group_after (group_of (visits_of key k visits)) v)) (group_of (visits_of key k visits))
+    go true e = rw (e, made, kept, eqb-true at k e) refl
     go false e = rw (e, was) refl
 
 -- the key of a step, among those of all steps
@@ -148,12 +143,7 @@ key_there key ks ss i s are within is = ap (λ (ns : List ℕ). get_or ns i 0) a
     go (x ∷ xs) zero l = refl
     go (x ∷ xs) (suc j) l = go xs j (omega arith)
 
--- a visit that takes and waits for a small number of cycles
-pub record IsSmall (v : Visit) : Type 0 where
-  pub cycles : v.cycles ≤ 2 ^ 37
-  pub waits : AreWithin (2 ^ 35) v.waits
-
-all_small : (more : ℕ) (ss : List Step) (ws : List Waits) → more ≤ 1 → All (AreWithin (2 ^ 35)) ws
+pub all_small : (more : ℕ) (ss : List Step) (ws : List Waits) → more ≤ 1 → All (AreWithin (2 ^ 35)) ws
     → All IsSmall (visits_by more ss ws)
 all_small more [] ws m small = All-nil IsSmall
 all_small more (s ∷ ss) [] m small = All-nil IsSmall
@@ -162,7 +152,7 @@ all_small more (s ∷ ss) (w ∷ ws) m small =
     let b : w.branch ≤ 2 ^ 35 = h.branch in
     let i : w.width ≤ 2 ^ 35 = h.width in
     let t : w.station ≤ 2 ^ 35 = h.station in
-    All-cons IsSmall (visit more s w) (visits_by 0 ss ws) (record { cycles = omega arith; waits = h })
+    All-cons IsSmall (visit_by more s w) (visits_by 0 ss ws) (record { cycles = omega arith; waits = h })
     (all_small 0 ss ws (omega arith) (All-tail (AreWithin (2 ^ 35)) w ws small))
 
 -- if each number is small, so are the sums of not too many
@@ -176,7 +166,7 @@ pub record AreSmall (sum : Sum) : Type 0 where
   pub cycles : sum.cycles ≤ 2 ^ 62
   pub waits : AreWithin (2 ^ 63) sum.waits
 
-small_sum : (vs : List Visit) → length vs ≤ 262144 → All IsSmall vs → AreSmall (sum_of vs)
+pub small_sum : (vs : List Visit) → length vs ≤ 262144 → All IsSmall vs → AreSmall (sum_of vs)
 small_sum vs few small = record {
   steps = omega (arith, few);
   cycles = omega (arith, few, summed (λ v. v.cycles) (2 ^ 37) vs (λ v h. h.cycles) small);
@@ -192,37 +182,36 @@ small_sum vs few small = record {
   };
 }
 
--- the sum of the visits so far
-pub small_so_far : (ss : List Step) (ws : List Waits) (i : ℕ) → length ss ≤ 262144 → All (AreWithin (2 ^ 35)) ws
-    → AreSmall (sum_of (take i (visits_by 1 ss ws)))
-small_so_far ss ws i few small =
-    small_sum (take i (visits_by 1 ss ws))
-    (let k = length_visits 1 ss ws in let l = length-take i (visits_by 1 ss ws) in omega arith)
-    (All-take IsSmall i (visits_by 1 ss ws) (all_small 1 ss ws (omega arith) small))
-
-pub weaker : (n : ℕ) → n ≤ 2 ^ 62 → n ≤ 2 ^ 63
-weaker n l = omega (arith, l)
-
 sum_before : (xs : List Visit) (s : Step) → (before (group_of xs) s).sum ≡ sum_of xs
 sum_before [] s = refl
 sum_before (x ∷ xs) s = refl
 
 -- and of those with one key
-pub small_group : (key : Step → ℕ) (ss : List Step) (ws : List Waits) (i k : ℕ) (s : Step) → length ss ≤ 262144
-    → All (AreWithin (2 ^ 35)) ws
-    → AreSmall (before (group_of (visits_of key k (take i (visits_by 1 ss ws)))) s).sum
-small_group key ss ws i k s few small =
-    let visits = take i (visits_by 1 ss ws) in
+pub small_group : (key : Step → ℕ) (visits : List Visit) (k : ℕ) (s : Step) → length visits ≤ 262144
+    → All IsSmall visits → AreSmall (before (group_of (visits_of key k visits)) s).sum
+small_group key visits k s few small =
     rw (sum_before (visits_of key k visits) s)
     (small_sum (visits_of key k visits)
-    (let m = length_visits 1 ss ws in
-    omega (
+    (omega (
       arith,
       few,
-      m,
       length-filter (λ (v : Visit). key v.step == k) visits,
       count_by-le-length (λ (v : Visit). key v.step == k) visits,
-      length-take i (visits_by 1 ss ws),
     ))
-    (All-filter (λ (v : Visit). key v.step == k) IsSmall visits
-    (All-take IsSmall i (visits_by 1 ss ws) (all_small 1 ss ws (omega arith) small))))
+    (All-filter (λ (v : Visit). key v.step == k) IsSmall visits small))
+
+-- the visits so far of a run's steps
+pub few_so_far : (ss : List Step) (ws : List Waits) (i : ℕ) → i < length ss → length ss ≤ 262144
+    → length (take i (visits_by 1 ss ws)) < 262144
+few_so_far ss ws i within few = omega (arith, within, few, length-take i (visits_by 1 ss ws))
+
+pub small_so_far : (ss : List Step) (ws : List Waits) (i : ℕ) → All (AreWithin (2 ^ 35)) ws
+    → All IsSmall (take i (visits_by 1 ss ws))
+small_so_far ss ws i small =
+    All-take IsSmall i (visits_by 1 ss ws) (all_small 1 ss ws (omega arith) small)
+
+-- and of all of them
+pub small_whole : (ss : List Step) (ws : List Waits) → length ss ≤ 262144 → All (AreWithin (2 ^ 35)) ws
+    → AreSmall (sum_of (visits_by 1 ss ws))
+small_whole ss ws few small =
+    small_sum (visits_by 1 ss ws) (omega (arith, few, length_visits 1 ss ws)) (all_small 1 ss ws (omega arith) small)

@@ -1,15 +1,17 @@
 -- What is kept of the steps with each key while they are counted.
-use Rattle.std.specs.Prelude.{◌≡◌, ℕ, zero, suc, ◌+◌, List, [], ◌∷◌, ◌++◌, Option, Some, None, codes, length}
+use Rattle.std.specs.Prelude.{◌≡◌, ℕ, zero, suc, ◌+◌, ◌^◌, ◌<◌, ◌≤◌, All, List, [], ◌∷◌, ◌++◌, Option, Some, None, codes, length}
 use Rattle.std.specs.List.{flat_map}
 use Rattle.std.specs.BTreeMap.{get, values}
 use Rattle.std.specs.Ordering.{nat_cmp}
 use Rattle.tomex_rvdec.specs.Text.{instr_text}
+use Rattle.tomex_rvexec.specs.Run.{most_steps}
 use Rattle.tomex_rvexec.specs.Texts.{hex8}
 use Rattle.tomex_steps.specs.declared.step.Step.{Step}
 use Rattle.tomex_timing.specs.declared.part.Waits.{Waits}
 use Rattle.tomex_config.specs.Configuration.{Configuration}
 use Rattle.tomex_timing.specs.Needs.{drain}
 use Rattle.tomex_timing.specs.Search.{history}
+use Rattle.tomex_timing.specs.Waiting.{AreWithin}
 use Rattle.tomex_csv_text.specs.Csv.{record_text}
 use Rattle.tomex_run_views.specs.declared.counted.Counted.{Counted}
 use Rattle.tomex_run_views.specs.declared.tally.Group.{Group}
@@ -28,10 +30,12 @@ abbrev pub more_at : ℕ → ℕ
 more_at zero = 1
 more_at (suc index) = 0
 
+abbrev pub visit : Step → ℕ → Waits → Visit
+visit step cycles waits = record { step = step; cycles = cycles; waits = waits }
+
 -- the visits of steps with these waits, the first of which takes `first` cycles more
 abbrev pub visits_by : ℕ → List Step → List Waits → List Visit
-visits_by first (s ∷ steps) (w ∷ waits) =
-    record { step = s; cycles = cycles_by first w; waits = w } ∷ visits_by 0 steps waits
+visits_by first (s ∷ steps) (w ∷ waits) = visit s (cycles_by first w) w ∷ visits_by 0 steps waits
 visits_by first _ _ = []
 
 abbrev pub sum_of : List Visit → Sum
@@ -66,6 +70,19 @@ group_of (v ∷ visits) = Some (record { first = v.step; sum = sum_of (v ∷ vis
 pub record IsTally {A : Type 0} (key : Step → ℕ) (visits : List Visit) (tally : Tally A) : Type 0 where
   pub groups : (k : ℕ) → get nat_cmp tally.groups k ≡ group_of (visits_of key k visits)
   pub all : tally.all ≡ sum_of visits
+
+-- a visit that takes and waits for a small number of cycles
+pub record IsSmall (v : Visit) : Type 0 where
+  pub cycles : v.cycles ≤ 2 ^ 37
+  pub waits : AreWithin (2 ^ 35) v.waits
+
+-- one visit more may be counted: those so far are fewer than the steps of the longest run, and small
+pub record HasRoom {A : Type 0} (tally : Tally A) : Type 0 where
+  pub key : Step → ℕ
+  pub visits : List Visit
+  pub counted : IsTally key visits tally
+  pub few : length visits < most_steps
+  pub small : All IsSmall visits
 
 -- the steps of a run on a configuration are counted
 pub record IsCounted {A : Type 0} (key : Step → ℕ) (config : Configuration) (steps : List Step) (counted : Counted A)

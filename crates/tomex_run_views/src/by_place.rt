@@ -101,7 +101,7 @@ fn put_header<A: Allocator>(
 }
 
 /// Adds a dash for each of these columns.
-fn push_dashes(fields: &mut ByteRecord, names: &[&str]) -> Result<(), AllocError>
+pub fn push_dashes(fields: &mut ByteRecord, names: &[&str]) -> Result<(), AllocError>
     requires { partial_of fields.old ≡ [] }
     ensures fields { OnOk result (fields_of fields.new
         ≡ fields_of fields.old ++ dashes (map (λ n. n.now) names.now)) }

@@ -36,7 +36,7 @@ pub fn put_columns<A: Allocator>(
 }
 
 /// Adds a field of decimal digits for each of these numbers.
-fn push_decimals(
+pub fn push_decimals(
     fields: &mut ByteRecord,
     scratch: &mut String,
     numbers: &[u64],

@@ -1,9 +1,11 @@
 //! The steps of each key, such as an address, counted with their cycles and waits.
 
-ghost use Rattle.std.specs.Prelude.{◌≡◌, ◌+◌, ◌*◌, ◌^◌, ◌<◌, ◌≤◌, ℕ, IfOk, All, length, map};
+ghost use Rattle.std.specs.Prelude.{◌≡◌, ◌^◌, ◌<◌, ◌≤◌, ◌++◌, ◌∷◌, [], ℕ, IfOk, List, OnOk, All, length, map};
 ghost use Rattle.tomex_steps.specs.declared.step.Step.{Step};
 ghost use Rattle.tomex_timing.specs.Waiting.{AreWithin};
-ghost use Rattle.tomex_run_views.specs.Tally.{IsTally, cycles_by, more_at, no_sum, sum_after, visits_by, with_drain};
+ghost use Rattle.tomex_run_views.specs.ByPlace.{Visit};
+ghost use Rattle.tomex_run_views.specs.Tally.{HasRoom, IsTally, cycles_by, more_at, no_sum, sum_after, visit};
+ghost use Rattle.tomex_run_views.specs.Tally.{visits_by, with_drain};
 ghost use Rattle.tomex_rvexec.specs.Run.{most_steps};
 
 use std::alloc::{AllocError, Allocator};
@@ -121,6 +123,38 @@ impl Group {
     }
 }
 
+impl<A: Allocator + Clone> Tally<A> {
+    /// Of no steps.
+    pub fn new(alloc: A) -> Tally<A>
+        ensures { (key : Step → ℕ) → IsTally key [] result }
+    {
+        Tally {
+            groups: BTreeMap::new(alloc),
+            all: Sum::none(),
+        }
+    }
+
+    /// Counts a step with its key, its cycles and its waits.
+    pub fn add(
+        &mut self,
+        key: u64,
+        step: &Step,
+        cycles: u64,
+        waits: &Waits,
+    ) -> Result<(), AllocError>
+        requires room { HasRoom self.old }
+        requires cycles { cycles ≤ 2 ^ 37 }
+        requires waits { AreWithin (2 ^ 35) waits.now }
+        ensures { OnOk result ((of : Step → ℕ) (visits : List Visit) → IsTally of visits self.old → key ≡ of step.now
+            → IsTally of (visits ++ visit step.now cycles waits.now ∷ []) self.new) }
+    {
+        self.all.add(cycles, waits);
+        let group = self.groups.entry(key)?.or_insert(Group::new(*step));
+        group.add(cycles, waits);
+        Ok(())
+    }
+}
+
 /// Counts steps with their cycles and waits, by key and all together. There is a key and there are waits for each step.
 pub fn count_by_key<A: Allocator + Clone>(
     alloc: A,
@@ -136,16 +170,10 @@ pub fn count_by_key<A: Allocator + Clone>(
         → IsTally key (visits_by 1 steps.now waits.now) tally) }
     ensures bound { IfOk result (λ tally. tally.all.cycles ≤ 2 ^ 62) }
 {
-    let mut groups = BTreeMap::new(alloc);
-    let mut all = Sum::none();
+    let mut tally = Tally::new(alloc);
     for (index, step) in steps.iter().enumerate() {
         let waits = &waits[index];
-        let cycles = cycles_of(index, waits);
-        all.add(cycles, waits);
-        groups
-            .entry(keys[index])?
-            .or_insert(Group::new(*step))
-            .add(cycles, waits);
+        tally.add(keys[index], step, cycles_of(index, waits), waits)?;
     }
-    Ok(Tally { groups, all })
+    Ok(tally)
 }

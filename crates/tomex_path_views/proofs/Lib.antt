@@ -1,0 +1,6 @@
+-- What the proofs of the crate share.
+pub mod Sums
+mod Bounds
+mod Signs
+mod Visits
+mod Reports

@@ -1,0 +1,13 @@
+-- The records of the rows so far are written.
+use Rattle.std.proofs.Common.{take}
+use Rattle.std.specs.List.{flat_map}
+use Rattle.tomex_csv_text.specs.Csv.{IsReady, record_text}
+use Rattle.tomex_csv_text.specs.Growth.{Writes}
+use Rattle.tomex_path_views.specs.ByFunction.{row_fields}
+use Rattle.tomex_path_views.proofs.by_function.put_rows.Given as goal
+
+abbrev pub invariant-loop-row : goal.invariant-loop-row
+invariant-loop-row g l = record {
+  ready : IsReady l.writer;
+  text : Writes (flat_map (λ row. record_text (row_fields l.file row)) (take l.row-index l.rows)) l.fn.writer l.writer;
+}

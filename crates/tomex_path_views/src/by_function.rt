@@ -1,0 +1,197 @@
+//! A run's path by function.
+
+ghost use Rattle.std.specs.Prelude.{◌≡◌, ◌++◌, ◌∷◌, [], All, IfOk, List, OnOk, codes, map};
+ghost use Rattle.std.specs.BTreeMap.{IsOrdered, values};
+ghost use Rattle.std.specs.List.{flat_map};
+ghost use Rattle.std.specs.Ordering.{nat_cmp};
+ghost use Rattle.csv.specs.Records.{fields_of};
+ghost use Rattle.tomex_rvexec.specs.Run.{start_of};
+ghost use Rattle.tomex_rvexec.specs.Trace.{steps_from};
+ghost use Rattle.tomex_steps.specs.declared.step.Step.{Step};
+ghost use Rattle.tomex_csv_text.specs.Csv.{IsReady, record_text};
+ghost use Rattle.tomex_csv_text.specs.Growth.{Writes};
+ghost use Rattle.tomex_functions.specs.Kept.{HasAddress, IsIndexOf, row_of_group};
+ghost use Rattle.tomex_functions.specs.WithFunctions.{IsWithFunctions};
+ghost use Rattle.tomex_path_views.specs.ByFunction.{IsPathByFunction, report_of_sums, row_fields};
+ghost use Rattle.tomex_path_views.specs.Charges.{charge_columns, charge_fields};
+ghost use Rattle.tomex_symbols.specs.declared.symbol.Symbol.{Symbol};
+
+use crate::charges::{CHARGE_COLUMNS, count_links, push_charges};
+use csv::{ByteRecord, Writer};
+use std::alloc::{AllocError, Allocator, Global};
+use tomex_config::Config;
+use tomex_csv_text::{into_text, push_names, put_record};
+use tomex_functions::{
+    FunctionsError, Index, Row, keys_of, push_address, push_function, sort_rows,
+};
+use tomex_path::path;
+use tomex_run_views::{Sum, Tally};
+use tomex_study::Program;
+use tomex_symbols::{has_symbols, symbols};
+
+/// The rows of the functions, by their keys. No calls are counted.
+fn rows_of<A: Allocator + Clone>(
+    alloc: A,
+    tally: &Tally<A>,
+    index: &Index<A>,
+) -> Result<Vec<Row, A>, AllocError>
+    ensures rows { IfOk result (λ rows. (symbols : List Symbol) (steps : List Step) → IsIndexOf symbols steps index.now
+        → All (λ group. HasAddress group.first.pc steps) (values tally.now.groups)
+        → rows.items ≡ map (row_of_group symbols []) (values tally.now.groups)) }
+    ensures order { OnOk result (IsOrdered nat_cmp tally.now.groups) }
+{
+    let mut rows = Vec::new(alloc);
+    for group in tally.groups.values() {
+        rows.push(Row {
+            function: index.function_at(group.first.pc),
+            calls: 0,
+            sum: group.sum,
+        })?;
+    }
+    Ok(rows)
+}
+
+/// Makes a record the one of a function.
+fn fill_row(
+    fields: &mut ByteRecord,
+    scratch: &mut String,
+    heap: Global,
+    file: &[u8],
+    row: &Row,
+) -> Result<(), AllocError>
+    ensures { OnOk result (fields_of fields.new ≡ row_fields file.now row.now) }
+{
+    fields.clear();
+    push_address(fields, scratch, &row.function)?;
+    push_function(fields, heap, file, &row.function)?;
+    push_charges(fields, scratch, &row.sum)
+}
+
+/// Writes the record of a function.
+fn put_row<A: Allocator>(
+    writer: &mut Writer<Vec<u8, A>>,
+    record: &mut ByteRecord,
+    scratch: &mut String,
+    heap: Global,
+    file: &[u8],
+    row: &Row,
+) -> Result<(), AllocError>
+    requires ready { IsReady writer.old }
+    ensures ready { OnOk result (IsReady writer.new) }
+    ensures text { OnOk result (Writes (record_text (row_fields file.now row.now)) writer.old writer.new) }
+{
+    fill_row(record, scratch, heap, file, row)?;
+    put_record(writer, record)
+}
+
+/// Writes the records of the functions.
+fn put_rows<A: Allocator>(
+    writer: &mut Writer<Vec<u8, A>>,
+    heap: Global,
+    file: &[u8],
+    rows: &[Row],
+) -> Result<(), AllocError>
+    requires ready { IsReady writer.old }
+    ensures ready { OnOk result (IsReady writer.new) }
+    ensures text { OnOk result (
+        Writes (flat_map (λ row. record_text (row_fields file.now row)) rows.now) writer.old writer.new) }
+{
+    let mut record = ByteRecord::new(heap);
+    let mut scratch = String::new(heap);
+    for row in rows {
+        put_row(writer, &mut record, &mut scratch, heap, file, row)?;
+    }
+    Ok(())
+}
+
+/// Writes the names of the columns.
+fn put_header<A: Allocator>(writer: &mut Writer<Vec<u8, A>>, heap: Global) -> Result<(), AllocError>
+    requires ready { IsReady writer.old }
+    ensures ready { OnOk result (IsReady writer.new) }
+    ensures text { OnOk result (Writes
+        (record_text (codes "pc" ∷ codes "function" ∷ charge_columns)) writer.old writer.new) }
+{
+    let mut record = ByteRecord::new(heap);
+    push_names(&mut record, &["pc", "function"])?;
+    push_names(&mut record, &CHARGE_COLUMNS)?;
+    put_record(writer, &record)
+}
+
+/// Writes the record of all links.
+fn put_total<A: Allocator>(
+    writer: &mut Writer<Vec<u8, A>>,
+    heap: Global,
+    all: &Sum,
+) -> Result<(), AllocError>
+    requires { IsReady writer.old }
+    ensures { OnOk result (Writes
+        (record_text (codes "total" ∷ codes "-" ∷ charge_fields all.now)) writer.old writer.new) }
+{
+    let mut record = ByteRecord::new(heap);
+    push_names(&mut record, &["total", "-"])?;
+    push_charges(&mut record, &mut String::new(heap), all)?;
+    put_record(writer, &record)
+}
+
+/// Writes the report of these rows.
+fn put_report<A: Allocator>(
+    writer: &mut Writer<Vec<u8, A>>,
+    heap: Global,
+    file: &[u8],
+    rows: &[Row],
+    all: &Sum,
+) -> Result<(), AllocError>
+    requires { IsReady writer.old }
+    ensures { OnOk result (Writes (report_of_sums file.now rows.now all.now) writer.old writer.new) }
+{
+    put_header(writer, heap)?;
+    put_rows(writer, heap, file, rows)?;
+    put_total(writer, heap, all)
+}
+
+/// The report of these rows.
+fn text_of_rows<A: Allocator>(
+    alloc: A,
+    heap: Global,
+    file: &[u8],
+    rows: &[Row],
+    all: &Sum,
+) -> Result<Vec<u8, A>, AllocError>
+    ensures { IfOk result (λ text. text.items ≡ report_of_sums file.now rows.now all.now) }
+{
+    let mut writer = Writer::from_writer(Vec::new(alloc));
+    put_report(&mut writer, heap, file, rows, all)?;
+    into_text(writer)
+}
+
+/// A run's critical path by function: CSV with a header, a record for each function of the program's file that has a
+/// link, with how many links it has, how many cycles are theirs, and how many of these are charged to what their steps
+/// had waited for. Those with the most cycles come first, then those at lower addresses; a record without a name
+/// follows if links have no function, and last the sums.
+///
+/// `file` is the whole file of the program. `csv` allocates its records in `heap`.
+pub fn path_by_function<A: Allocator + Clone>(
+    alloc: A,
+    heap: Global,
+    program: &Program<A>,
+    config: &Config,
+    file: &[u8],
+) -> Result<Vec<u8, A>, FunctionsError>
+    ensures { IsWithFunctions
+        (IsPathByFunction file.now config.now (steps_from program.now.limit (start_of program.now.image)))
+        file.now result }
+{
+    if !has_symbols(file) {
+        return Err(FunctionsError::NoSymbols);
+    }
+    let symbols = symbols(alloc.clone()?, file)?;
+    let steps = program.steps();
+    let run = path(alloc.clone()?, program.run(), config)?;
+    let index = Index::new(alloc.clone()?, symbols, steps)?;
+    let functions = index.functions_of(alloc.clone()?, steps)?;
+    let keys = keys_of(alloc.clone()?, functions.as_slice())?;
+    let tally = count_links(alloc.clone()?, keys.as_slice(), steps, run.links.as_slice())?;
+    let mut rows = rows_of(alloc.clone()?, &tally, &index)?;
+    sort_rows(&mut rows);
+    Ok(text_of_rows(alloc, heap, file, rows.as_slice(), &tally.all)?)
+}

@@ -1,0 +1,112 @@
+//! A path's links, counted by a key of their steps, such as an address.
+
+ghost use Rattle.std.specs.Prelude.{◌≡◌, ◌≤◌, ◌++◌, [], ℕ, IfOk, List, OnOk, length, map};
+ghost use Rattle.csv.specs.Records.{fields_of, partial_of};
+ghost use Rattle.tomex_steps.specs.declared.step.Step.{Step};
+ghost use Rattle.tomex_path.specs.Laws.{cycles_of};
+ghost use Rattle.tomex_path_views.specs.Charges.{AreOfSteps, charge_fields, charged, order_of, visits_along};
+ghost use Rattle.tomex_path_views.specs.Shares.{AreShort, IsShort};
+ghost use Rattle.tomex_run_views.specs.Tally.{IsTally};
+
+use crate::shares::cycles_of;
+use csv::ByteRecord;
+use std::alloc::{AllocError, Allocator};
+use tomex_path::{Link, Reason};
+use tomex_run_views::{Sum, Tally, push_decimals};
+use tomex_rvexec::Step;
+use tomex_timing::{Part, Waits};
+
+/// The names of the columns of sums.
+pub const CHARGE_COLUMNS: [&str; 11] = [
+    "links", "cycles", "order", "branch", "width", "station", "operand", "address", "memory",
+    "unit", "bus",
+];
+
+/// These cycles, charged to a reason; those that begin in turn are charged to nothing.
+fn charged(cycles: u64, reason: Reason) -> Waits
+    ensures { result ≡ charged cycles reason }
+{
+    let mut waits = Sum::none().waits;
+    match reason {
+        Reason::For(Part::Stations(_)) => waits.station = cycles,
+        Reason::For(Part::Units(_)) => waits.unit = cycles,
+        Reason::For(Part::Buses) => waits.bus = cycles,
+        Reason::For(Part::Width) => waits.width = cycles,
+        Reason::Branch => waits.branch = cycles,
+        Reason::Operand => waits.operand = cycles,
+        Reason::Address => waits.address = cycles,
+        Reason::Memory => waits.memory = cycles,
+        Reason::Order => {}
+    }
+    waits
+}
+
+/// Counts the links of a path by a key of their steps. There is a key for each step of the run.
+pub fn count_links<A: Allocator + Clone>(
+    alloc: A,
+    keys: &[u64],
+    steps: &[Step],
+    path: &[Link],
+) -> Result<Tally<A>, AllocError>
+    requires keys { (key : Step → ℕ) × (keys.now ≡ map key steps.now) }
+    requires short { AreShort path.now }
+    requires steps { AreOfSteps (length steps.now) path.now }
+    ensures { IfOk result (λ tally. (key : Step → ℕ) → keys.now ≡ map key steps.now
+        → IsTally key (visits_along steps.now path.now) tally) }
+{
+    let mut tally = Tally::new(alloc);
+    for link in path {
+        let place = link.step as usize - 1;
+        let cycles = cycles_of(link);
+        tally.add(
+            keys[place],
+            &steps[place],
+            cycles,
+            &charged(cycles, link.reason),
+        )?;
+    }
+    Ok(tally)
+}
+
+/// The cycles that are charged to nothing.
+fn order_of(sum: &Sum) -> u64
+    ensures { result ≡ order_of sum.now }
+{
+    let waits = &sum.waits;
+    sum.cycles
+        .saturating_sub(waits.branch)
+        .saturating_sub(waits.width)
+        .saturating_sub(waits.station)
+        .saturating_sub(waits.operand)
+        .saturating_sub(waits.address)
+        .saturating_sub(waits.memory)
+        .saturating_sub(waits.unit)
+        .saturating_sub(waits.bus)
+}
+
+/// Adds how many links there are, how many cycles are theirs, and to what these are charged.
+pub fn push_charges(
+    fields: &mut ByteRecord,
+    scratch: &mut String,
+    sum: &Sum,
+) -> Result<(), AllocError>
+    requires { partial_of fields.old ≡ [] }
+    ensures fields { OnOk result (fields_of fields.new ≡ fields_of fields.old ++ charge_fields sum.now) }
+    ensures whole { OnOk result (partial_of fields.new ≡ []) }
+{
+    let waits = &sum.waits;
+    let numbers = [
+        sum.steps,
+        sum.cycles,
+        order_of(sum),
+        waits.branch,
+        waits.width,
+        waits.station,
+        waits.operand,
+        waits.address,
+        waits.memory,
+        waits.unit,
+        waits.bus,
+    ];
+    push_decimals(fields, scratch, &numbers)
+}
