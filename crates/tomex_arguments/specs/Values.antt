@@ -1,5 +1,6 @@
 -- The values of a line, by the rows of what `clap` is specified to find in its words.
-use Rattle.std.specs.Prelude.{◌≡◌, ◌≤◌, ℕ, Bool, true, false, List, codes, Option, Some, None, Ok, option_map}
+use Rattle.std.specs.Prelude.{◌≡◌, ◌≤◌, ℕ, Bool, true, false, List, [], codes, Option, Some, None, Ok, option_map}
+use Rattle.std.specs.Prelude.{unwrap_or}
 use Rattle.std.specs.List.{join_by}
 use Rattle.std.specs.Str.Parse.{ParsesUnsigned}
 use Rattle.std.specs.declared.num.ParseIntError.{ParseIntError}
@@ -16,6 +17,10 @@ words_text = join_by (λ (word : Text). word) (codes " ")
 -- all words that were found for an argument
 abbrev pub AreWords : List Row → Text → Option Text → Type 0
 AreWords rows name words = words ≡ option_map words_text (all_of name rows)
+
+-- these words were found for an argument, or there are none
+abbrev pub AreEach : List Row → Text → List Text → Type 0
+AreEach rows name words = words ≡ unwrap_or (all_of name rows) []
 
 -- the number that was found for an argument, or its default: in decimal, and within these bounds
 abbrev pub IsNumber : List Row → Text → ℕ → ℕ → ℕ → Type 0

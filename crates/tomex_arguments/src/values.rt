@@ -1,9 +1,9 @@
 //! The values of a line, as `clap` read them.
-ghost use Rattle.std.specs.Prelude.{ℕ, List, IfOk, IfErr, option_map, string_bytes};
+ghost use Rattle.std.specs.Prelude.{◌≡◌, ℕ, List, IfOk, IfErr, map, option_map, string_bytes};
 ghost use Rattle.tomex_arguments.specs.Faults.{IsRefusedIf};
 ghost use Rattle.clap.specs.Words.{found_of};
 ghost use Rattle.clap.specs.Walk.{rows_of};
-ghost use Rattle.tomex_arguments.specs.Values.{AreWords, IsFlag, IsNumber, IsWord};
+ghost use Rattle.tomex_arguments.specs.Values.{AreEach, AreWords, IsFlag, IsNumber, IsWord};
 
 use crate::fault::{LineFault, refusal_of};
 use clap::ArgMatches;
@@ -63,6 +63,32 @@ pub fn words_of(
     match matches.get_strs(name) {
         Some(words) => Ok(Some(words.join(alloc, " ")?)),
         None => Ok(None),
+    }
+}
+
+/// Copies of words.
+fn copies_of(alloc: Global, words: &[&str]) -> Result<Vec<String>, AllocError>
+    ensures { IfOk result (λ copies. map string_bytes copies.items ≡ map (λ word. word.now) words.now) }
+{
+    let mut copies = Vec::new(alloc);
+    for word in words {
+        copies.push(String::from_str(alloc, *word)?)?;
+    }
+    Ok(copies)
+}
+
+/// All words that were given, each by itself.
+pub fn each_of(
+    alloc: Global,
+    matches: &ArgMatches<'_>,
+    name: &str,
+) -> Result<Vec<String>, AllocError>
+    ensures { IfOk result (λ words.
+        AreEach (rows_of (found_of matches.now)) name.now (map string_bytes words.items)) }
+{
+    match matches.get_strs(name) {
+        Some(words) => copies_of(alloc, words),
+        None => Ok(Vec::new(alloc)),
     }
 }
 

@@ -6,6 +6,7 @@ use Rattle.tomex_refusals.specs.declared.commands.CommandRefusal.TheVariants as 
 -- the words that all such refusals have
 abbrev pub words_of : CommandRefusal → List ℕ
 words_of those.CannotRead = codes "cannot read"
+words_of those.NoSuchChoice = codes "no such choice"
 words_of those.BadWindow = codes "bad window"
 words_of those.TooLong = codes "too long"
 words_of those.NoSuchRow = codes "no such row"
@@ -23,6 +24,7 @@ words_of those.NoSuchRefusal = codes "no such refusal"
 -- their forms, with names in place of the parts that vary
 abbrev pub form_of : CommandRefusal → List ℕ
 form_of those.CannotRead = codes "cannot read NAME"
+form_of those.NoSuchChoice = codes "no such choice: CHOICE"
 form_of other = words_of other
 
 abbrev pub cannot_read : List ℕ
@@ -31,6 +33,13 @@ cannot_read =
     ++ (codes "or it has more than 256 MiB. Names, those in a study too, are taken from the\n"
     ++ (codes "folder in which tomex is started, and not from the study's: `cd` to the folder\n"
     ++ codes "of the study, or write the names as they are seen from where you are.\n"))
+
+abbrev pub no_such_choice : List ℕ
+no_such_choice =
+    codes "No configuration of the study has CHOICE. A choice is NAME=NUMBER, as alu=4: a\n"
+    ++ (codes "name of a column of `tomex find STUDY` or `tomex explore STUDY`, and a number\n"
+    ++ (codes "that some configuration has there, as it is printed. Each choice is a word of\n"
+    ++ codes "its own, without commas. A unit's option is two: mul_units=1 mul_latency=3.\n"))
 
 abbrev pub bad_window : List ℕ
 bad_window =
@@ -46,9 +55,9 @@ too_long =
 
 abbrev pub no_such_row : List ℕ
 no_such_row =
-    codes "CONFIG is no configuration of the study. They are numbered from 0, and are the\n"
-    ++ (codes "product of all lists; docs/STUDIES.md says in which order. The first column of\n"
-    ++ codes "`tomex front STUDY` has the numbers of those on the front.\n")
+    codes "CONFIG is no configuration of the study. They are numbered from 0: `tomex find\n"
+    ++ (codes "STUDY` lists them all, and `tomex front STUDY` those on the front. If `tomex\n"
+    ++ codes "find` itself says so, no configuration has all of the choices at once.\n")
 
 abbrev pub no_such_program : List ℕ
 no_such_program =
@@ -107,6 +116,7 @@ no_such_refusal =
 -- the advice on each: its meaning, the usual causes, and what to do
 abbrev pub advice_of : CommandRefusal → List ℕ
 advice_of those.CannotRead = cannot_read
+advice_of those.NoSuchChoice = no_such_choice
 advice_of those.BadWindow = bad_window
 advice_of those.TooLong = too_long
 advice_of those.NoSuchRow = no_such_row

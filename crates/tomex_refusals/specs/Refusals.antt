@@ -18,7 +18,7 @@ use Rattle.tomex_refusals.specs.Studies as of_studies
 -- in the order in which they are looked for: those with a name in them first
 abbrev pub all_refusals : List Refusal
 all_refusals =
-    Command commands.CannotRead ∷ Command commands.BadWindow ∷ Command commands.TooLong
+    Command commands.CannotRead ∷ Command commands.NoSuchChoice ∷ Command commands.BadWindow ∷ Command commands.TooLong
     ∷ Command commands.NoSuchRow ∷ Command commands.NoSuchProgram ∷ Command commands.NoSymbols
     ∷ Command commands.NoSuchStep ∷ Command commands.PictureTooLarge ∷ Command commands.TableTooLarge
     ∷ Command commands.CyclePastEnd ∷ Command commands.CannotWrite ∷ Command commands.ThreadRefused

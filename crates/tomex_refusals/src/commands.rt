@@ -8,6 +8,8 @@ ghost use Rattle.tomex_refusals.specs.Commands.{advice_of, form_of, words_of};
 pub enum CommandRefusal {
     /// A file can't be read.
     CannotRead,
+    /// No configuration of the study has that choice.
+    NoSuchChoice,
     /// Base and size don't make a window.
     BadWindow,
     /// A run has more instructions than it may have.
@@ -43,6 +45,13 @@ folder in which tomex is started, and not from the study's: `cd` to the folder
 of the study, or write the names as they are seen from where you are.
 ";
 
+const NO_SUCH_CHOICE: &str =
+    "No configuration of the study has CHOICE. A choice is NAME=NUMBER, as alu=4: a
+name of a column of `tomex find STUDY` or `tomex explore STUDY`, and a number
+that some configuration has there, as it is printed. Each choice is a word of
+its own, without commas. A unit's option is two: mul_units=1 mul_latency=3.
+";
+
 const BAD_WINDOW: &str = "The address of memory, `--base`, or its number of bytes, `--size`, is no
 multiple of 4, or memory would end after address 2^32.
 ";
@@ -55,9 +64,9 @@ ever.
 ";
 
 const NO_SUCH_ROW: &str =
-    "CONFIG is no configuration of the study. They are numbered from 0, and are the
-product of all lists; docs/STUDIES.md says in which order. The first column of
-`tomex front STUDY` has the numbers of those on the front.
+    "CONFIG is no configuration of the study. They are numbered from 0: `tomex find
+STUDY` lists them all, and `tomex front STUDY` those on the front. If `tomex
+find` itself says so, no configuration has all of the choices at once.
 ";
 
 const NO_SUCH_PROGRAM: &str =
@@ -121,6 +130,7 @@ impl CommandRefusal {
     {
         match self {
             CommandRefusal::CannotRead => "cannot read",
+            CommandRefusal::NoSuchChoice => "no such choice",
             CommandRefusal::BadWindow => "bad window",
             CommandRefusal::TooLong => "too long",
             CommandRefusal::NoSuchRow => "no such row",
@@ -143,6 +153,7 @@ impl CommandRefusal {
     {
         match self {
             CommandRefusal::CannotRead => "cannot read NAME",
+            CommandRefusal::NoSuchChoice => "no such choice: CHOICE",
             other => other.words(),
         }
     }
@@ -153,6 +164,7 @@ impl CommandRefusal {
     {
         match self {
             CommandRefusal::CannotRead => CANNOT_READ,
+            CommandRefusal::NoSuchChoice => NO_SUCH_CHOICE,
             CommandRefusal::BadWindow => BAD_WINDOW,
             CommandRefusal::TooLong => TOO_LONG,
             CommandRefusal::NoSuchRow => NO_SUCH_ROW,

@@ -23,8 +23,9 @@ pub enum Refusal {
 
 impl Refusal {
     /// All refusals, in the order in which they are looked for: those with a name in them first.
-    pub const ALL: [Refusal; 36] = [
+    pub const ALL: [Refusal; 37] = [
         Refusal::Command(CommandRefusal::CannotRead),
+        Refusal::Command(CommandRefusal::NoSuchChoice),
         Refusal::Command(CommandRefusal::BadWindow),
         Refusal::Command(CommandRefusal::TooLong),
         Refusal::Command(CommandRefusal::NoSuchRow),

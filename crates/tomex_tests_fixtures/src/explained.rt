@@ -2,6 +2,7 @@
 
 /// All refusals of the program, each on a line, in the order in which they are looked for.
 pub const ALL_REFUSALS: &str = "cannot read NAME
+no such choice: CHOICE
 bad window
 too long
 no such row

@@ -127,7 +127,10 @@ fn studies(rt: HostRuntime) -> Result<(), Fail> {
 }
 
 /// Refusals by commands themselves, as the definition of reports has them.
-static COMMANDS: [(&str, &str); 17] = [
+static COMMANDS: [(&str, &str); 20] = [
+    ("tomex: no such choice: alu=3", "no such choice: CHOICE"),
+    ("no such choice", "no such choice: CHOICE"),
+    ("no such choice: too long", "no such choice: CHOICE"),
     ("tomex: bad window", "bad window"),
     ("too long", "too long"),
     ("tomex: program a: too long", "too long"),
@@ -158,7 +161,7 @@ fn commands(rt: HostRuntime) -> Result<(), Fail> {
 
 /// Parts of lines of the list, and what is printed of the first lines that have them, and how many lines there are.
 static PARTS: [(&str, &str, usize); 8] = [
-    ("", "cannot read NAME\nbad window\n", 36),
+    ("", "cannot read NAME\nno such choice: CHOICE\n", 37),
     ("segment", "image: too many segments\nimage: segment\n", 2),
     ("fault", "fault: fetch at PC\nfault: illegal at PC\n", 4),
     (" at PC", "fault: fetch at PC\nfault: illegal at PC\n", 4),
