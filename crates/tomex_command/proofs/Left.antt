@@ -1,9 +1,9 @@
 -- A text that isn't made leaves the output as it was: none of its failures is that the output failed.
 use Rattle.std.proofs.Common.{◌≡◌, List, ℕ, Bool, true, false, refl, sym, subst}
 use Rattle.tomex_command_line.specs.declared.line.Line.{Line}
-use Rattle.tomex_command_line.specs.declared.line.Line.TheVariants.{Run, Times, Stalls, Pipeline, Tables, Animate}
-use Rattle.tomex_command_line.specs.declared.line.Line.TheVariants.{All, Explore, Front, Plot, Rows, Worth, Prices}
-use Rattle.tomex_command_line.specs.declared.line.Line.TheVariants.{Page, Explain}
+use Rattle.tomex_command_line.specs.declared.line.Line.TheVariants.{Run, Times, Stalls, Path, Pipeline, Tables}
+use Rattle.tomex_command_line.specs.declared.line.Line.TheVariants.{Animate, All, Explore, Front, Plot, Rows}
+use Rattle.tomex_command_line.specs.declared.line.Line.TheVariants.{Worth, Prices, Page, Find, Explain}
 use Rattle.tomex_streams.specs.Files.{Known}
 use Rattle.tomex_streams.specs.Sinks.{Seen}
 use Rattle.tomex_command.specs.Commands.{IsFailure, IsLeft}
@@ -19,6 +19,7 @@ not_written : (file : List ℕ → Known) (line : Line) → IsFailure file line 
 not_written file (Run line) is = is
 not_written file (Times line) is = is
 not_written file (Stalls line) is = is
+not_written file (Path line) is = is
 not_written file (Pipeline line) is = is
 not_written file (Tables line) is = is
 not_written file (Animate line) is = is
@@ -30,6 +31,7 @@ not_written file (Rows line) is = is
 not_written file (Worth line) is = is
 not_written file (Prices line) is = is
 not_written file (Page line) is = is
+not_written file (Find line) is = is
 not_written file (Explain line) is = is
 
 left : (file : List ℕ → Known) (line : Line) (failure : Failure) (seen : Seen) → IsFailure file line failure
@@ -44,6 +46,7 @@ left file line failures.CyclePastEnd seen is = (is, refl)
 left file line failures.NoSuchStep seen is = (is, refl)
 left file line failures.PictureTooLarge seen is = (is, refl)
 left file line failures.TableTooLarge seen is = (is, refl)
+left file line (failures.NoSuchChoice choice) seen is = (is, refl)
 left file line failures.NoSuchRefusal seen is = (is, refl)
 left file line (failures.CannotRead name) seen is = (is, refl)
 left file line failures.CannotWrite seen is = absurd (not_written file line is)

@@ -1,5 +1,6 @@
 -- What the proofs of the crate share.
 mod Drawn
+mod Found
 mod Fronts
 mod Surveys
 mod Left

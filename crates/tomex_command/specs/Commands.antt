@@ -3,9 +3,9 @@ use Rattle.std.specs.Prelude.{◌≡◌, ◌⊎◌, ℕ, List, option_map, strin
 use Rattle.tomex_command.specs.declared.failure.Failure.{Failure}
 use Rattle.tomex_command.specs.declared.failure.Failure.TheVariants.{CannotWrite}
 use Rattle.tomex_command_line.specs.declared.line.Line.{Line}
-use Rattle.tomex_command_line.specs.declared.line.Line.TheVariants.{Run, Times, Stalls, Pipeline, Tables, Animate}
-use Rattle.tomex_command_line.specs.declared.line.Line.TheVariants.{All, Explore, Front, Plot, Rows, Worth}
-use Rattle.tomex_command_line.specs.declared.line.Line.TheVariants.{Prices, Page, Explain}
+use Rattle.tomex_command_line.specs.declared.line.Line.TheVariants.{Run, Times, Stalls, Path, Pipeline, Tables}
+use Rattle.tomex_command_line.specs.declared.line.Line.TheVariants.{Animate, All, Explore, Front, Plot, Rows}
+use Rattle.tomex_command_line.specs.declared.line.Line.TheVariants.{Worth, Prices, Page, Find, Explain}
 use Rattle.tomex_arguments.specs.declared.fault.LineFault.{LineFault}
 use Rattle.tomex_command_line.specs.Asked.{IsAsked, IsNoCommand}
 use Rattle.tomex_report.specs.declared.front_view.FrontView.TheVariants.{Report}
@@ -13,8 +13,10 @@ use Rattle.tomex_report.specs.declared.surveying.SurveyView.TheVariants as views
 use Rattle.tomex_streams.specs.Files.{Known}
 use Rattle.tomex_command.specs.AnimateLines.{IsAnimateOf, IsAnimateFailure}
 use Rattle.tomex_command.specs.ExplainLines.{IsExplanation, IsExplainFailure}
+use Rattle.tomex_command.specs.FindLines.{IsFindOf, IsFindFailure}
 use Rattle.tomex_command.specs.FrontLines.{IsFrontOf, IsAllFailure, IsExploreFailure, table_view}
 use Rattle.tomex_streams.specs.Sinks.{Seen, IsWhole, IsCut}
+use Rattle.tomex_command.specs.PathLines.{IsPathOf, IsPathFailure}
 use Rattle.tomex_command.specs.PipelineLines.{IsPipelineOf, IsPipelineFailure}
 use Rattle.tomex_command.specs.RunLines.{IsRunOf, IsRunFailure}
 use Rattle.tomex_command.specs.SurveyLines.{IsPlotFailure, IsPlotOf, IsSurveyFailure, IsSurveyTextOf}
@@ -28,6 +30,7 @@ abbrev pub IsDone : (List ℕ → Known) → Line → List ℕ → Type 0
 IsDone file (Run line) text = IsRunOf file line text
 IsDone file (Times line) text = IsTimesOf file line text
 IsDone file (Stalls line) text = IsStallsOf file line text
+IsDone file (Path line) text = IsPathOf file line text
 IsDone file (Pipeline line) text = IsPipelineOf file line text
 IsDone file (Tables line) text = IsTablesOf file line text
 IsDone file (Animate line) text = IsAnimateOf file line text
@@ -39,6 +42,7 @@ IsDone file (Rows line) text = IsSurveyTextOf views.Rows file line.study.now tex
 IsDone file (Worth line) text = IsSurveyTextOf (views.Worth line.config) file line.explore.study.now text
 IsDone file (Prices line) text = IsSurveyTextOf views.Prices file line.study.now text
 IsDone file (Page line) text = IsSurveyTextOf (views.Page line.study) file line.study.now text
+IsDone file (Find line) text = IsFindOf file line text
 IsDone file (Explain line) text = IsExplanation (option_map string_bytes line.refusal) text
 
 -- the line has no text, for this reason
@@ -46,6 +50,7 @@ abbrev pub IsFailure : (List ℕ → Known) → Line → Failure → Type 0
 IsFailure file (Run line) failure = IsRunFailure file line failure
 IsFailure file (Times line) failure = IsTimesFailure file line failure
 IsFailure file (Stalls line) failure = IsStallsFailure file line failure
+IsFailure file (Path line) failure = IsPathFailure file line failure
 IsFailure file (Pipeline line) failure = IsPipelineFailure file line failure
 IsFailure file (Tables line) failure = IsTablesFailure file line failure
 IsFailure file (Animate line) failure = IsAnimateFailure file line failure
@@ -57,6 +62,7 @@ IsFailure file (Rows line) failure = IsSurveyFailure views.Rows file line.study.
 IsFailure file (Worth line) failure = IsSurveyFailure (views.Worth line.config) file line.explore.study.now failure
 IsFailure file (Prices line) failure = IsSurveyFailure views.Prices file line.study.now failure
 IsFailure file (Page line) failure = IsSurveyFailure (views.Page line.study) file line.study.now failure
+IsFailure file (Find line) failure = IsFindFailure file line failure
 IsFailure file (Explain line) failure = IsExplainFailure (option_map string_bytes line.refusal) failure
 
 -- a line was carried out: its text is on the output

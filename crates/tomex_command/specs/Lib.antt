@@ -2,6 +2,7 @@ pub mod AnimateLines
 pub mod Chosen
 pub mod Commands
 pub mod ExplainLines
+pub mod FindLines
 pub mod FrontLines
 pub mod PipelineLines
 pub mod Reading
@@ -10,7 +11,9 @@ pub mod RunText
 pub mod Statuses
 pub mod StudyFiles
 pub mod SurveyLines
+pub mod Symbols
 pub mod StallsLines
+pub mod PathLines
 pub mod TablesLines
 pub mod Reporting
 pub mod TimesLines

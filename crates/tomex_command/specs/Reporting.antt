@@ -4,7 +4,7 @@ use Rattle.tomex_command.specs.declared.failure.Failure.{Failure}
 use Rattle.tomex_command.specs.declared.failure.Failure.TheVariants.{BadWindow, Run, Study, NoSuchRow}
 use Rattle.tomex_command.specs.declared.failure.Failure.TheVariants.{NoSuchProgram, NoSymbols, CyclePastEnd, NoSuchStep}
 use Rattle.tomex_command.specs.declared.failure.Failure.TheVariants.{PictureTooLarge, TableTooLarge, CannotRead}
-use Rattle.tomex_command.specs.declared.failure.Failure.TheVariants.{CannotWrite}
+use Rattle.tomex_command.specs.declared.failure.Failure.TheVariants.{CannotWrite, NoSuchChoice}
 use Rattle.tomex_command.specs.declared.failure.Failure.TheVariants.{NoSuchRefusal, Memory, Worker}
 use Rattle.tomex_arguments.specs.declared.fault.LineFault.{LineFault}
 use Rattle.tomex_arguments.specs.declared.fault.LineFault.TheVariants.{Help, Usage}
@@ -25,6 +25,7 @@ IsTextOf CyclePastEnd text = text ≡ codes "cycle past the end"
 IsTextOf NoSuchStep text = text ≡ codes "no such step"
 IsTextOf PictureTooLarge text = text ≡ codes "picture too large"
 IsTextOf TableTooLarge text = text ≡ codes "table too large"
+IsTextOf (NoSuchChoice choice) text = text ≡ codes "no such choice: " ++ shown_name (string_bytes choice)
 IsTextOf NoSuchRefusal text = text ≡ codes "no such refusal"
 IsTextOf (CannotRead name) text = text ≡ codes "cannot read " ++ shown_name (string_bytes name)
 IsTextOf CannotWrite text = text ≡ codes "cannot write"

@@ -7,6 +7,8 @@ use Rattle.tomex_report.specs.declared.survey_error.SurveyError.{SurveyError}
 use Rattle.tomex_report.specs.declared.survey_error.SurveyError.TheVariants as surveys
 use Rattle.tomex_animate.specs.declared.animation_error.AnimationError.{AnimationError}
 use Rattle.tomex_animate.specs.declared.animation_error.AnimationError.TheVariants as animations
+use Rattle.tomex_find.specs.declared.finding.FindError.{FindError}
+use Rattle.tomex_find.specs.declared.finding.FindError.TheVariants as searches
 use Rattle.tomex_functions.specs.declared.functions_error.FunctionsError.{FunctionsError}
 use Rattle.tomex_functions.specs.declared.functions_error.FunctionsError.TheVariants as functions
 use Rattle.tomex_refusals.specs.declared.explaining.ExplainError.{ExplainError}
@@ -21,7 +23,7 @@ use Rattle.tomex_command.specs.declared.failure.Failure.{Failure}
 use Rattle.tomex_command.specs.declared.failure.Failure.TheVariants.{BadWindow, Run, Study, NoSuchRow}
 use Rattle.tomex_command.specs.declared.failure.Failure.TheVariants.{NoSuchProgram, NoSymbols, CyclePastEnd, NoSuchStep}
 use Rattle.tomex_command.specs.declared.failure.Failure.TheVariants.{PictureTooLarge, TableTooLarge, CannotRead}
-use Rattle.tomex_command.specs.declared.failure.Failure.TheVariants.{CannotWrite}
+use Rattle.tomex_command.specs.declared.failure.Failure.TheVariants.{CannotWrite, NoSuchChoice}
 use Rattle.tomex_command.specs.declared.failure.Failure.TheVariants.{NoSuchRefusal, Memory, Worker}
 
 -- 1 for input that is refused, 3 if memory, a thread, a file or a device is refused
@@ -38,6 +40,7 @@ status_of_failure CyclePastEnd = 1
 status_of_failure NoSuchStep = 1
 status_of_failure PictureTooLarge = 1
 status_of_failure TableTooLarge = 1
+status_of_failure (NoSuchChoice choice) = 1
 status_of_failure NoSuchRefusal = 1
 status_of_failure (CannotRead name) = 3
 status_of_failure CannotWrite = 3
@@ -72,6 +75,12 @@ failure_of_excerpt excerpts.Memory = Memory
 abbrev pub failure_of_functions : FunctionsError → Failure
 failure_of_functions functions.NoSymbols = NoSymbols
 failure_of_functions functions.Memory = Memory
+
+-- the failure if no configuration has the choices
+abbrev pub failure_of_search : FindError → Failure
+failure_of_search (searches.NoSuchChoice choice) = NoSuchChoice choice
+failure_of_search searches.NoSuchRow = NoSuchRow
+failure_of_search searches.Memory = Memory
 
 -- the failure that a refused page of a run becomes
 abbrev pub failure_of_animation : AnimationError → Failure

@@ -10,6 +10,8 @@ pub mod animate;
 pub mod chosen;
 pub mod explain;
 pub mod explore;
+pub mod find;
+pub mod path;
 pub mod pipeline;
 pub mod plot;
 pub mod reading;
@@ -27,6 +29,8 @@ use all::text_of_all;
 use animate::text_of_animate;
 use explain::text_of_explain;
 use explore::{table_view, text_of_front};
+use find::text_of_find;
+use path::text_of_path;
 use pipeline::text_of_pipeline;
 use plot::text_of_plot;
 use run::text_of_run;
@@ -62,6 +66,7 @@ fn text_of<
         Line::Run(line) => text_of_run(alloc, heap, line, files),
         Line::Times(line) => text_of_times(alloc, heap, line, files),
         Line::Stalls(line) => text_of_stalls(alloc, heap, line, files),
+        Line::Path(line) => text_of_path(alloc, heap, line, files),
         Line::Pipeline(line) => text_of_pipeline(alloc, heap, line, files),
         Line::Tables(line) => text_of_tables(alloc, heap, line, files),
         Line::Animate(line) => text_of_animate(alloc, heap, line, files),
@@ -98,6 +103,7 @@ fn text_of<
             let view = SurveyView::Page(line.study);
             text_of_survey(rt, alloc, heap, line, files, meter, view)
         }
+        Line::Find(line) => text_of_find(alloc, heap, line, files),
         Line::Explain(line) => text_of_explain(alloc, heap, &line),
     }
 }
@@ -133,8 +139,8 @@ fn carry_out<
 /// Runs the program on a command line, the program's own name first, and returns its exit status: 0
 /// done, 1 refused input, 2 a refused command line, 3 memory, a thread, a file or a device.
 ///
-/// While a study's rows are explored, their progress is reported to `meter`. Results and help go to
-/// `out`. Error messages go to `err`: one line `tomex: ..` with 1 and 3, the parser's text with 2.
+/// While a study's rows are explored, their progress is reported to `meter`, and a refusal is too, after its line.
+/// Results and help go to `out`. Error messages go to `err`: one line `tomex: ..` with 1 and 3, the parser's text with 2.
 pub fn command<
     R: Threads + Wait + Sync,
     F: Files,
@@ -158,7 +164,11 @@ pub fn command<
     match read_line(texts, words) {
         Ok(line) => match carry_out(rt, images, texts, line, files, meter, out) {
             Ok(()) => 0,
-            Err(failure) => report_failure(texts, &failure, err),
+            Err(failure) => {
+                let status = report_failure(texts, &failure, err);
+                meter.hint();
+                status
+            }
         },
         Err(fault) => report_line_fault(&fault, out, err),
     }

@@ -3,12 +3,13 @@ ghost use Rattle.std.specs.Prelude.{◌≡◌};
 ghost use Rattle.tomex_command.specs.declared.failure.Failure.TheVariants as failures;
 ghost use Rattle.tomex_command.specs.Statuses.{failure_of_animation, failure_of_answer, failure_of_explanation};
 ghost use Rattle.tomex_command.specs.Statuses.{failure_of_excerpt, failure_of_functions, failure_of_picture};
-ghost use Rattle.tomex_command.specs.Statuses.{failure_of_survey};
+ghost use Rattle.tomex_command.specs.Statuses.{failure_of_search, failure_of_survey};
 ghost use Rattle.tomex_command.specs.Statuses.{status_of_failure};
 
 use crate::run::RunRefusal;
 use std::alloc::{AllocError, AllocFailed};
 use tomex_animate::AnimationError;
+use tomex_find::FindError;
 use tomex_functions::FunctionsError;
 use tomex_refusals::ExplainError;
 use tomex_report::{AnswerError, StudyError, SurveyError};
@@ -38,6 +39,8 @@ pub enum Failure {
     PictureTooLarge,
     /// The table would have too many intervals.
     TableTooLarge,
+    /// No configuration of the study has that choice. Carries it as written.
+    NoSuchChoice(String),
     /// The words to be explained are those of no refusal.
     NoSuchRefusal,
     /// A file was not read. Carries its name as written.
@@ -64,7 +67,7 @@ impl Failure {
             Failure::NoSuchRow | Failure::NoSuchProgram | Failure::NoSymbols => 1,
             Failure::CyclePastEnd => 1,
             Failure::NoSuchStep | Failure::PictureTooLarge | Failure::TableTooLarge => 1,
-            Failure::NoSuchRefusal => 1,
+            Failure::NoSuchChoice(_) | Failure::NoSuchRefusal => 1,
             Failure::CannotRead(_) | Failure::CannotWrite | Failure::Memory | Failure::Worker => 3,
         }
     }
@@ -168,6 +171,18 @@ impl From<AnimationError> for Failure {
         match error {
             AnimationError::PastEnd => Failure::CyclePastEnd,
             AnimationError::Memory => Failure::Memory,
+        }
+    }
+}
+
+impl From<FindError> for Failure {
+    ghost from_gives = { λ error failure. failure ≡ failure_of_search error };
+
+    fn from(error: FindError) -> Failure {
+        match error {
+            FindError::NoSuchChoice(choice) => Failure::NoSuchChoice(choice),
+            FindError::NoSuchRow => Failure::NoSuchRow,
+            FindError::Memory => Failure::Memory,
         }
     }
 }

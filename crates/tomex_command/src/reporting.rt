@@ -66,6 +66,10 @@ fn text_of(heap: Global, failure: &Failure) -> Result<String, AllocError>
         Failure::NoSuchStep => String::from_str(heap, "no such step"),
         Failure::PictureTooLarge => String::from_str(heap, "picture too large"),
         Failure::TableTooLarge => String::from_str(heap, "table too large"),
+        Failure::NoSuchChoice(choice) => {
+            let choice = shown_name(heap, choice.as_str())?;
+            format!(in heap; "no such choice: {choice}")
+        }
         Failure::NoSuchRefusal => String::from_str(heap, "no such refusal"),
         Failure::CannotRead(name) => {
             let name = shown_name(heap, name.as_str())?;

@@ -1,21 +1,21 @@
 -- What a command line asks for, by the values that `clap` is specified to find in its words.
-use Rattle.std.specs.Prelude.{◌≡◌, ◌≢◌, ◌⊎◌, List, codes, option_map, Option, Some, None, string_bytes}
+use Rattle.std.specs.Prelude.{◌≡◌, ◌≢◌, ◌⊎◌, List, codes, map, option_map, Option, Some, None, string_bytes}
 use Rattle.std.specs.List.{All as Each}
 use Rattle.clap.specs.Words.{IsAmong, Row, Shape, Text, fault_of, subcommand_of}
 use Rattle.clap.specs.declared.error.kind.ErrorKind.{ErrorKind}
 use Rattle.clap.specs.declared.error.kind.ErrorKind.TheVariants.{DisplayHelp, DisplayVersion}
 use Rattle.tomex_command_line.specs.declared.line.Line.{Line}
-use Rattle.tomex_command_line.specs.declared.line.Line.TheVariants.{Run, Times, Stalls, Pipeline, Tables, Animate}
-use Rattle.tomex_command_line.specs.declared.line.Line.TheVariants.{All, Explore, Front, Plot, Rows, Worth, Prices}
-use Rattle.tomex_command_line.specs.declared.line.Line.TheVariants.{Page, Explain}
+use Rattle.tomex_command_line.specs.declared.line.Line.TheVariants.{Run, Times, Stalls, Path, Pipeline, Tables}
+use Rattle.tomex_command_line.specs.declared.line.Line.TheVariants.{Animate, All, Explore, Front, Plot, Rows}
+use Rattle.tomex_command_line.specs.declared.line.Line.TheVariants.{Worth, Prices, Page, Find, Explain}
 use Rattle.tomex_arguments.specs.declared.fault.LineFault.{LineFault}
 use Rattle.tomex_arguments.specs.declared.fault.LineFault.TheVariants.{Help, Usage, Memory}
 use Rattle.tomex_command_line.specs.Grammar.{tomex_app}
-use Rattle.tomex_command_line.specs.Values.{IsRunAsked, IsOneRunAsked, IsStallsAsked, IsPipelineAsked, IsTablesAsked}
-use Rattle.tomex_command_line.specs.Values.{IsAnimateAsked, IsAllAsked, IsExploreAsked, IsFrontAsked, IsPlotAsked}
-use Rattle.tomex_command_line.specs.Values.{IsWorthAsked, IsExplainAsked}
-use Rattle.tomex_command_line.specs.Values.{IsNoRun, IsNoOneRun, IsNoStalls, IsNoPipeline, IsNoTables, IsNoAll}
-use Rattle.tomex_command_line.specs.Values.{IsNoAnimate, IsNoExplore, IsNoFront, IsNoPlot, IsNoWorth}
+use Rattle.tomex_command_line.specs.Values.{IsRunAsked, IsOneRunAsked, IsStallsAsked, IsPathAsked, IsPipelineAsked}
+use Rattle.tomex_command_line.specs.Values.{IsTablesAsked, IsAnimateAsked, IsAllAsked, IsExploreAsked, IsFrontAsked}
+use Rattle.tomex_command_line.specs.Values.{IsPlotAsked, IsWorthAsked, IsFindAsked, IsExplainAsked}
+use Rattle.tomex_command_line.specs.Values.{IsNoRun, IsNoOneRun, IsNoStalls, IsNoPath, IsNoPipeline, IsNoTables, IsNoAll}
+use Rattle.tomex_command_line.specs.Values.{IsNoAnimate, IsNoExplore, IsNoFront, IsNoPlot, IsNoWorth, IsNoFind}
 
 -- the command of that name with these values
 abbrev pub IsCommand : Option (Text × List Row) → Line → Type 0
@@ -28,6 +28,9 @@ IsCommand found (Times line) =
 IsCommand found (Stalls line) =
     (rows : List Row) × (found ≡ Some (codes "stalls", rows))
     × IsStallsAsked rows line.run.study.now line.run.config line.run.program.now line.by_pc line.by_function
+IsCommand found (Path line) =
+    (rows : List Row) × (found ≡ Some (codes "path", rows))
+    × IsPathAsked rows line.run.study.now line.run.config line.run.program.now line.links line.by_pc line.by_function
 IsCommand found (Pipeline line) =
     (rows : List Row) × (found ≡ Some (codes "pipeline", rows))
     × IsPipelineAsked rows line.run.study.now line.run.config line.run.program.now line.from line.steps line.konata
@@ -55,6 +58,9 @@ IsCommand found (Prices line) =
     (rows : List Row) × (found ≡ Some (codes "prices", rows)) × IsExploreAsked rows line.study.now line.workers
 IsCommand found (Page line) =
     (rows : List Row) × (found ≡ Some (codes "page", rows)) × IsExploreAsked rows line.study.now line.workers
+IsCommand found (Find line) =
+    (rows : List Row) × (found ≡ Some (codes "find", rows))
+    × IsFindAsked rows line.study.now (map string_bytes line.choices.items)
 IsCommand found (Explain line) =
     (rows : List Row) × (found ≡ Some (codes "explain", rows))
     × IsExplainAsked rows (option_map string_bytes line.refusal)
@@ -77,6 +83,7 @@ pub data IsNoLineAsked (found : Option (Text × List Row)) : Type 0 where
   no_run : (rows : List Row) → found ≡ Some (codes "run", rows) → IsNoRun rows → IsNoLineAsked found
   no_times : (rows : List Row) → found ≡ Some (codes "times", rows) → IsNoOneRun rows → IsNoLineAsked found
   no_stalls : (rows : List Row) → found ≡ Some (codes "stalls", rows) → IsNoStalls rows → IsNoLineAsked found
+  no_path : (rows : List Row) → found ≡ Some (codes "path", rows) → IsNoPath rows → IsNoLineAsked found
   no_pipeline : (rows : List Row) → found ≡ Some (codes "pipeline", rows) → IsNoPipeline rows → IsNoLineAsked found
   no_tables : (rows : List Row) → found ≡ Some (codes "tables", rows) → IsNoTables rows → IsNoLineAsked found
   no_animate : (rows : List Row) → found ≡ Some (codes "animate", rows) → IsNoAnimate rows → IsNoLineAsked found
@@ -88,6 +95,7 @@ pub data IsNoLineAsked (found : Option (Text × List Row)) : Type 0 where
   no_worth : (rows : List Row) → found ≡ Some (codes "worth", rows) → IsNoWorth rows → IsNoLineAsked found
   no_prices : (rows : List Row) → found ≡ Some (codes "prices", rows) → IsNoExplore rows → IsNoLineAsked found
   no_page : (rows : List Row) → found ≡ Some (codes "page", rows) → IsNoExplore rows → IsNoLineAsked found
+  no_find : (rows : List Row) → found ≡ Some (codes "find", rows) → IsNoFind rows → IsNoLineAsked found
   nothing : found ≡ None → IsNoLineAsked found
   no_command : (name : Text) (rows : List Row) → found ≡ Some (name, rows)
       → Each (λ (command : Shape). name ≢ command.name) tomex_app.subs → IsNoLineAsked found

@@ -67,6 +67,13 @@ stalls_shape = record (new_shape (codes "stalls")) {
       ∷ flag_rule (codes "by-pc") ∷ flag_rule (codes "by-function") ∷ [];
 }
 
+-- `path STUDY CONFIG PROGRAM [--links] [--by-pc] [--by-function]`
+abbrev pub path_shape : Shape
+path_shape = record (new_shape (codes "path")) {
+  rules = word_rule (codes "STUDY") ∷ numeral_rule (codes "CONFIG") 0 last_row ∷ word_rule (codes "PROGRAM")
+      ∷ flag_rule (codes "links") ∷ flag_rule (codes "by-pc") ∷ flag_rule (codes "by-function") ∷ [];
+}
+
 -- `pipeline STUDY CONFIG PROGRAM [--from N] [--steps N] [--konata]`
 abbrev pub pipeline_shape : Shape
 pipeline_shape = record (new_shape (codes "pipeline")) {
@@ -132,6 +139,12 @@ prices_shape = exploring_shape (codes "prices")
 abbrev pub page_shape : Shape
 page_shape = exploring_shape (codes "page")
 
+-- `find STUDY [CHOICE]..`
+abbrev pub find_shape : Shape
+find_shape = record (new_shape (codes "find")) {
+  rules = word_rule (codes "STUDY") ∷ words_rule (codes "CHOICE") ∷ [];
+}
+
 -- `explain [REFUSAL]..`
 abbrev pub explain_shape : Shape
 explain_shape = record (new_shape (codes "explain")) { rules = words_rule (codes "REFUSAL") ∷ [] }
@@ -144,7 +157,7 @@ bare_app = on_top (λ s. record s { has_version = true; subcommand_required = tr
 abbrev pub tomex_app : App
 tomex_app = record {
   top = record (new_shape (codes "tomex")) { has_version = true; is_leaf = false; subcommand_required = true };
-  subs = run_shape ∷ times_shape ∷ stalls_shape ∷ pipeline_shape ∷ tables_shape ∷ animate_shape ∷ all_shape
-      ∷ explore_shape ∷ front_shape ∷ plot_shape ∷ rows_shape ∷ worth_shape ∷ prices_shape ∷ page_shape
-      ∷ explain_shape ∷ [];
+  subs = run_shape ∷ times_shape ∷ stalls_shape ∷ path_shape ∷ pipeline_shape ∷ tables_shape ∷ animate_shape
+      ∷ all_shape ∷ explore_shape ∷ front_shape ∷ plot_shape ∷ rows_shape ∷ worth_shape ∷ prices_shape ∷ page_shape
+      ∷ find_shape ∷ explain_shape ∷ [];
 }

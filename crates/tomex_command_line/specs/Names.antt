@@ -2,16 +2,17 @@
 use Rattle.std.specs.Prelude.{codes}
 use Rattle.clap.specs.Words.{Text}
 use Rattle.tomex_command_line.specs.declared.line.command_name.CommandName.{CommandName}
-use Rattle.tomex_command_line.specs.declared.line.command_name.CommandName.TheVariants.{Run, Times, Stalls, Pipeline}
+use Rattle.tomex_command_line.specs.declared.line.command_name.CommandName.TheVariants.{Run, Times, Stalls, Path, Pipeline}
 use Rattle.tomex_command_line.specs.declared.line.command_name.CommandName.TheVariants.{Tables, Animate, All, Explore}
 use Rattle.tomex_command_line.specs.declared.line.command_name.CommandName.TheVariants.{Front, Plot, Rows, Worth}
-use Rattle.tomex_command_line.specs.declared.line.command_name.CommandName.TheVariants.{Prices, Page, Explain}
+use Rattle.tomex_command_line.specs.declared.line.command_name.CommandName.TheVariants.{Prices, Page, Find, Explain}
 
 -- the command's name, as it is written
 abbrev pub name_of : CommandName → Text
 name_of Run = codes "run"
 name_of Times = codes "times"
 name_of Stalls = codes "stalls"
+name_of Path = codes "path"
 name_of Pipeline = codes "pipeline"
 name_of Tables = codes "tables"
 name_of Animate = codes "animate"
@@ -23,4 +24,5 @@ name_of Rows = codes "rows"
 name_of Worth = codes "worth"
 name_of Prices = codes "prices"
 name_of Page = codes "page"
+name_of Find = codes "find"
 name_of Explain = codes "explain"

@@ -2,7 +2,7 @@
 -- the rows ask for none.
 use Rattle.std.specs.Prelude.{ℕ, Bool, List, codes, Option}
 use Rattle.clap.specs.Words.{Row}
-use Rattle.tomex_arguments.specs.Values.{AreWords, IsFlag, IsNumber, IsWord}
+use Rattle.tomex_arguments.specs.Values.{AreEach, AreWords, IsFlag, IsNumber, IsWord}
 use Rattle.tomex_command_line.specs.Limits.{last_cycle, last_row, most_steps}
 
 -- the values of `run`
@@ -34,6 +34,18 @@ pub record IsStallsAsked (rows : List Row) (study : List ℕ) (config : ℕ) (pr
 abbrev pub IsNoStalls : List Row → Type 0
 IsNoStalls rows = (study : List ℕ) (config : ℕ) (program : List ℕ) (by_pc by_function : Bool)
     → IsStallsAsked rows study config program by_pc by_function → ⊥
+
+-- the values of `path`
+pub record IsPathAsked (rows : List Row) (study : List ℕ) (config : ℕ) (program : List ℕ)
+    (links by_pc by_function : Bool) : Type 0 where
+  pub of_run : IsOneRunAsked rows study config program
+  pub is_links : IsFlag rows (codes "links") links
+  pub is_by_pc : IsFlag rows (codes "by-pc") by_pc
+  pub is_by_function : IsFlag rows (codes "by-function") by_function
+
+abbrev pub IsNoPath : List Row → Type 0
+IsNoPath rows = (study : List ℕ) (config : ℕ) (program : List ℕ) (links by_pc by_function : Bool)
+    → IsPathAsked rows study config program links by_pc by_function → ⊥
 
 -- the values of `pipeline`
 pub record IsPipelineAsked (rows : List Row) (study : List ℕ) (config : ℕ) (program : List ℕ) (from steps : ℕ)
@@ -105,6 +117,14 @@ pub record IsWorthAsked (rows : List Row) (study : List ℕ) (config workers : �
 
 abbrev pub IsNoWorth : List Row → Type 0
 IsNoWorth rows = (study : List ℕ) (config workers : ℕ) → IsWorthAsked rows study config workers → ⊥
+
+-- the values of `find`
+pub record IsFindAsked (rows : List Row) (study : List ℕ) (choices : List (List ℕ)) : Type 0 where
+  pub is_study : IsWord rows (codes "STUDY") study
+  pub are_choices : AreEach rows (codes "CHOICE") choices
+
+abbrev pub IsNoFind : List Row → Type 0
+IsNoFind rows = (study : List ℕ) (choices : List (List ℕ)) → IsFindAsked rows study choices → ⊥
 
 -- the value of `explain`
 abbrev pub IsExplainAsked : List Row → Option (List ℕ) → Type 0

@@ -16,9 +16,11 @@ pub mod animate;
 mod command_name;
 pub mod explain;
 pub mod explore;
+pub mod find;
 pub mod front;
 pub mod one_run;
 mod page;
+pub mod path;
 pub mod pipeline;
 pub mod plot;
 mod prices;
@@ -37,8 +39,10 @@ use clap::{ArgMatches, Command};
 use command_name::{CommandName, command_named};
 use explain::ExplainLine;
 use explore::ExploreLine;
+use find::FindLine;
 use front::FrontLine;
 use one_run::{OneRun, one_run_of};
+use path::PathLine;
 use pipeline::PipelineLine;
 use plot::PlotLine;
 use run::RunLine;
@@ -55,6 +59,7 @@ pub enum Line<'a> {
     Run(RunLine<'a>),
     Times(OneRun<'a>),
     Stalls(StallsLine<'a>),
+    Path(PathLine<'a>),
     Pipeline(PipelineLine<'a>),
     Tables(TablesLine<'a>),
     Animate(AnimateLine<'a>),
@@ -66,6 +71,7 @@ pub enum Line<'a> {
     Worth(WorthLine<'a>),
     Prices(ExploreLine<'a>),
     Page(ExploreLine<'a>),
+    Find(FindLine<'a>),
     Explain(ExplainLine),
 }
 
@@ -87,6 +93,7 @@ Examples, in the folder `examples`:
   tomex run mul.bin --size 4096
   tomex times study.toml 4 mul
   tomex stalls study.toml 4 mul
+  tomex path study.toml 4 mul
   tomex pipeline study.toml 4 mul
   tomex tables study.toml 4 mul 3
   tomex animate study.toml 4 mul > mul.html
@@ -98,6 +105,7 @@ Examples, in the folder `examples`:
   tomex worth explore.toml 132
   tomex prices explore.toml
   tomex page explore.toml > explore.html
+  tomex find explore.toml alu=2 mul=2
   tomex explain image: segment
 
 Numbers on the command line are decimal; in a study's TOML they may be
@@ -122,6 +130,7 @@ fn grammar<'a>(alloc: Global) -> Result<Command<'a>, AllocError>
     let program = with_command(program, run::grammar(alloc));
     let program = with_command(program, times::grammar(alloc));
     let program = with_command(program, stalls::grammar(alloc));
+    let program = with_command(program, path::grammar(alloc));
     let program = with_command(program, pipeline::grammar(alloc));
     let program = with_command(program, tables::grammar(alloc));
     let program = with_command(program, animate::grammar(alloc));
@@ -133,6 +142,7 @@ fn grammar<'a>(alloc: Global) -> Result<Command<'a>, AllocError>
     let program = with_command(program, worth::grammar(alloc));
     let program = with_command(program, prices::grammar(alloc));
     let program = with_command(program, page::grammar(alloc));
+    let program = with_command(program, find::grammar(alloc));
     with_command(program, explain::grammar(alloc))
 }
 
@@ -149,6 +159,7 @@ fn line_with<'a>(
         CommandName::Run => Ok(Line::Run(run::line_of(alloc, args)?)),
         CommandName::Times => Ok(Line::Times(one_run_of(alloc, args)?)),
         CommandName::Stalls => Ok(Line::Stalls(stalls::line_of(alloc, args)?)),
+        CommandName::Path => Ok(Line::Path(path::line_of(alloc, args)?)),
         CommandName::Pipeline => Ok(Line::Pipeline(pipeline::line_of(alloc, args)?)),
         CommandName::Tables => Ok(Line::Tables(tables::line_of(alloc, args)?)),
         CommandName::Animate => Ok(Line::Animate(animate::line_of(alloc, args)?)),
@@ -160,6 +171,7 @@ fn line_with<'a>(
         CommandName::Worth => Ok(Line::Worth(worth::line_of(alloc, args)?)),
         CommandName::Prices => Ok(Line::Prices(explore::line_of(alloc, args)?)),
         CommandName::Page => Ok(Line::Page(explore::line_of(alloc, args)?)),
+        CommandName::Find => Ok(Line::Find(find::line_of(alloc, args)?)),
         CommandName::Explain => Ok(Line::Explain(explain::line_of(alloc, args)?)),
     }
 }

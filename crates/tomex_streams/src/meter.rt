@@ -1,4 +1,5 @@
-//! Progress meters for long work.
+//! What a person at a terminal sees beside a command's output: the progress of long work, and after a refusal where it
+//! is explained.
 
 ghost use Rattle.std.specs.Prelude.{◌≡◌, IfSome};
 
@@ -16,6 +17,9 @@ pub trait Meter {
 
     /// Removes what is shown; the work is finished.
     fn clear(&self);
+
+    /// Says, after a refusal, where it is explained.
+    fn hint(&self);
 }
 
 /// A meter that shows nothing.
@@ -26,6 +30,8 @@ impl Meter for NoMeter {
     fn show(&self, _done: u64, _of: u64) {}
 
     fn clear(&self) {}
+
+    fn hint(&self) {}
 }
 
 /// A line on the terminal of standard error, overwritten at most ten times a second. If standard
@@ -100,6 +106,16 @@ impl<'a, R: Clock> Meter for TerminalMeter<'a, R> {
                 let mut writer = terminal;
                 let _ = write!(writer, "\r\x1b[K");
             }
+        }
+    }
+
+    fn hint(&self) {
+        if let Some(terminal) = &self.terminal {
+            let mut writer = terminal;
+            let _ = write!(
+                writer,
+                "tomex: `tomex explain` and these words say what it means\n"
+            );
         }
     }
 }

@@ -41,6 +41,8 @@ impl Meter for LastTold {
     fn clear(&self) {
         self.clears.fetch_add(1, Ordering::SeqCst);
     }
+
+    fn hint(&self) {}
 }
 
 impl LastTold {

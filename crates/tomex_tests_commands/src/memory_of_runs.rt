@@ -39,7 +39,7 @@ fn of_the_text_of_a_run(rt: HostRuntime) -> Result<(), Fail> {
 const CALLS_STUDY: &str = "[[program]]\nname = \"p\"\nfile = \"calls.elf\"\n";
 
 /// Lines on one program, and the least number of blocks that they need.
-static ON_ONE_PROGRAM: [(&str, u64); 9] = [
+static ON_ONE_PROGRAM: [(&str, u64); 15] = [
     // The file's bytes, the window's, those that the run changes, and the text.
     ("tomex run image --base 65536", 4),
     // The study's bytes and its file's, names, the program, rows, costs, steps, times and the text.
@@ -59,6 +59,15 @@ static ON_ONE_PROGRAM: [(&str, u64); 9] = [
     ("tomex stalls calls 0 p --by-function", 15),
     // The same without calls and rows.
     ("tomex stalls calls 0 p --by-pc --by-function", 14),
+    // As `times`, with what is noted of each step, and the links.
+    ("tomex path study 1 mul", 13),
+    ("tomex path study 1 mul --links", 13),
+    // With the addresses, and the places.
+    ("tomex path study 1 mul --by-pc", 15),
+    // With the symbols, and functions of the steps in place of times.
+    ("tomex path calls 0 p --links --by-function", 15),
+    ("tomex path calls 0 p --by-pc --by-function", 17),
+    ("tomex path calls 0 p --by-function", 17),
 ];
 
 #[test]

@@ -10,7 +10,7 @@ use tomex_tests_fixtures::studies::{DROPPED, DROPPED_REPORT};
 use tomex_tests_whole_runs::{each_is_granted, granted, words_of};
 
 /// Lines on a whole study, and the least number of blocks that they need.
-static OF_DROPPED: [(&str, u64); 6] = [
+static OF_DROPPED: [(&str, u64); 7] = [
     // The study's bytes and its file's, names, the program, rows, costs and the text; marks, machines, the
     // front and its ends.
     ("tomex all study", 16),
@@ -19,6 +19,8 @@ static OF_DROPPED: [(&str, u64); 6] = [
     // All of that, with columns of numbers and their names in place of the records.
     ("tomex front study", 14),
     ("tomex front study --hull", 14),
+    // No marks, front or ends: the columns.
+    ("tomex find study row=0", 10),
     // The front is enough.
     ("tomex plot study", 14),
 ];

@@ -21,6 +21,8 @@ impl Meter for Counting {
     }
 
     fn clear(&self) {}
+
+    fn hint(&self) {}
 }
 
 /// The outcome of a line over the study of two rows, and the number of rows that it begins.

@@ -42,6 +42,8 @@ impl Meter for FirstWaits {
     }
 
     fn clear(&self) {}
+
+    fn hint(&self) {}
 }
 
 /// True if a second thread took one configuration of the study of two while the first was held at

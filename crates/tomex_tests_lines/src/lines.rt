@@ -69,6 +69,17 @@ fn line_on_a_program(alloc: Global, line: &Line) -> Result<String, AllocError> {
                 stalls.by_pc, stalls.by_function
             )
         }
+        Line::Path(path) => {
+            let OneRun {
+                study,
+                config,
+                program,
+            } = path.run;
+            format!(in alloc;
+                "path {study} {config} {program} {} {} {}",
+                path.links, path.by_pc, path.by_function
+            )
+        }
         Line::Pipeline(pipeline) => {
             let OneRun {
                 study,
@@ -99,6 +110,7 @@ fn line_on_a_program(alloc: Global, line: &Line) -> Result<String, AllocError> {
                 animate.from, animate.cycles
             )
         }
+        Line::Find(find) => format!(in alloc; "find {} {:?}", find.study, find.choices),
         Line::Explain(explain) => match &explain.refusal {
             Some(words) => format!(in alloc; "explain [{words}]"),
             None => String::from_str(alloc, "explain all"),
@@ -128,7 +140,7 @@ fn text_of(alloc: Global, line: &str) -> Result<String, AllocError> {
 }
 
 /// Lines, and the beginnings of their results.
-static READ: [(&str, &str); 73] = [
+static READ: [(&str, &str); 80] = [
     ("run mul.bin", "run mul.bin 0 65536 262144"),
     (
         "run a --base 4294967292 --size 4 --limit 1",
@@ -152,7 +164,15 @@ static READ: [(&str, &str); 73] = [
     ),
     ("times --help", "help Prints, for each instruction"),
     ("stalls --help", "help Prints, for each part"),
-    ("stalls -h", "help Prints which parts"),
+    ("stalls -h", "help Prints how long"),
+    ("path study 0 a", "path study 0 a false false false"),
+    ("path study 0 a --links", "path study 0 a true false false"),
+    (
+        "path --by-function study 16383 --by-pc -- -a",
+        "path study 16383 -a false true true",
+    ),
+    ("path --help", "help Prints why a program"),
+    ("path -h", "help Prints a run's"),
     ("pipeline study 0 a", "pipeline study 0 a 1 32 false"),
     (
         "pipeline study 0 a --konata",
@@ -199,6 +219,8 @@ static READ: [(&str, &str); 73] = [
     ("all --help", "help Runs every program"),
     ("explore study.toml", "explore study.toml 1"),
     ("explore --workers 32 a", "explore a 32"),
+    ("find a", "find a []"),
+    ("find a alu=2 -- -b", "find a [\"alu=2\", \"-b\"]"),
     ("explore --help", "help Runs the programs"),
     ("front a", "front a 1 false"),
     ("front a --workers 2", "front a 2 false"),
@@ -303,7 +325,7 @@ fn help_is_whole(rt: HostRuntime) -> Result<(), Fail> {
     Ok(())
 }
 
-static REFUSED: [&str; 39] = [
+static REFUSED: [&str; 41] = [
     "run a --base 4294967293",
     "run a --base -4",
     "run a --base 0x10",
@@ -323,6 +345,8 @@ static REFUSED: [&str; 39] = [
     "stalls study 0 a --by-pc --by-pc",
     "stalls study 0 a --by-function=1",
     "stalls study 0 a --by-function --by-function",
+    "path study 16384 a",
+    "path study 0 a --links --links",
     "pipeline study 16384 a",
     "pipeline study 0",
     "pipeline study 0 a --from 0",

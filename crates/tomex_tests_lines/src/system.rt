@@ -91,6 +91,7 @@ fn a_pipe_gets_no_line(rt: HostRuntime) -> Result<(), Fail> {
     let before = written(&rt)?;
     meter.show(1, 2);
     meter.clear();
+    meter.hint();
     let after = written(&rt)?;
     assert!(rt; before.as_str() == after.as_str());
     Ok(())

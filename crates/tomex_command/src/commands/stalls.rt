@@ -2,7 +2,8 @@
 ghost use Rattle.std.specs.Prelude.{IfOk, IfErr};
 ghost use Rattle.tomex_rvexec.specs.Run.{start_of};
 ghost use Rattle.tomex_rvexec.specs.Trace.{steps_from};
-ghost use Rattle.tomex_command.specs.StallsLines.{IsReportAsked, IsStallsOf, IsStallsFailure, IsUnreported};
+ghost use Rattle.tomex_command.specs.StallsLines.{IsReportAsked, IsStallsOf, IsStallsFailure};
+ghost use Rattle.tomex_command.specs.Symbols.{IsUnreported};
 
 use super::chosen::{ChosenFile, choose_with_file};
 use super::study::study_with_files;

@@ -11,6 +11,7 @@ pub enum CommandName {
     Run,
     Times,
     Stalls,
+    Path,
     Pipeline,
     Tables,
     Animate,
@@ -22,6 +23,7 @@ pub enum CommandName {
     Worth,
     Prices,
     Page,
+    Find,
     Explain,
 }
 
@@ -34,6 +36,7 @@ pub(super) fn command_named(name: &str) -> Option<CommandName>
         "run" => Some(CommandName::Run),
         "times" => Some(CommandName::Times),
         "stalls" => Some(CommandName::Stalls),
+        "path" => Some(CommandName::Path),
         "pipeline" => Some(CommandName::Pipeline),
         "tables" => Some(CommandName::Tables),
         "animate" => Some(CommandName::Animate),
@@ -45,6 +48,7 @@ pub(super) fn command_named(name: &str) -> Option<CommandName>
         "worth" => Some(CommandName::Worth),
         "prices" => Some(CommandName::Prices),
         "page" => Some(CommandName::Page),
+        "find" => Some(CommandName::Find),
         "explain" => Some(CommandName::Explain),
         _ => None,
     }

@@ -24,7 +24,7 @@ pub struct StallsLine<'a> {
     pub by_function: bool,
 }
 
-const ABOUT: &str = "Prints which parts of one configuration hold a program back";
+const ABOUT: &str = "Prints how long a program waits for each part of one configuration";
 
 const LONG_ABOUT: &str = "Prints, for each part of one of the study's configurations, how many there
 are, how many of them a program ever uses at once, and for how many cycles
@@ -73,7 +73,7 @@ Examples, in the folder `examples`:
 
 prints a line for each part, such as
   mul,1,1,10944
-of which there is one, which holds the program back; and
+of which there is one, for which instructions wait 10,944 cycles; and
 
   tomex stalls explore.toml 132 matrix --by-pc
 

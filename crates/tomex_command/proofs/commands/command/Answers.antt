@@ -19,5 +19,5 @@ returns-in-Err-carry_out-clause-end g c =
       asked = c.in-Ok.ensures.asked;
       failure = c.in-Err-carry_out.failure;
       left = c.in-Err-carry_out.ensures.left;
-      reported = c.report_failure.ensures;
+      reported = c.report_failure-status.ensures;
     }))

@@ -3,6 +3,7 @@ use Rattle.std.proofs.Common.{◌≡◌, ap, List, Option, Some}
 use Rattle.clap.specs.Words.{Row, Text}
 use Rattle.tomex_command_line.specs.Asked.{no_run, no_times, no_stalls, no_pipeline, no_tables, no_all, no_explore}
 use Rattle.tomex_command_line.specs.Asked.{no_animate, no_front, no_plot, no_rows, no_worth, no_prices, no_page}
+use Rattle.tomex_command_line.specs.Asked.{no_find, no_path}
 use Rattle.tomex_command_line.specs.Names.{name_of}
 use Rattle.tomex_command_line.specs.declared.line.command_name.CommandName.{CommandName}
 use Rattle.tomex_command_line.proofs.PassedOn.{passed_on}
@@ -85,3 +86,13 @@ pub returns-in_err-line_of-in-Page-clause-refused : goal.returns-in_err-line_of-
 returns-in_err-line_of-in-Page-clause-refused c =
     passed_on _ _ _ c.from_residual-in_err-line_of-in-Page.result c.from_residual-in_err-line_of-in-Page.ensures.1
     c.in_err-line_of-in-Page.ensures.refused (no_page _ (as_named _ c.in-Page.is))
+
+pub returns-in_err-line_of-in-Find-clause-refused : goal.returns-in_err-line_of-in-Find-clause-refused
+returns-in_err-line_of-in-Find-clause-refused c =
+    passed_on _ _ _ c.from_residual-in_err-line_of-in-Find.result c.from_residual-in_err-line_of-in-Find.ensures.1
+    c.in_err-line_of-in-Find.ensures.refused (no_find _ (as_named _ c.in-Find.is))
+
+pub returns-in_err-line_of-in-Path-clause-refused : goal.returns-in_err-line_of-in-Path-clause-refused
+returns-in_err-line_of-in-Path-clause-refused c =
+    passed_on _ _ _ c.from_residual-in_err-line_of-in-Path.result c.from_residual-in_err-line_of-in-Path.ensures.1
+    c.in_err-line_of-in-Path.ensures.refused (no_path _ (as_named _ c.in-Path.is))
