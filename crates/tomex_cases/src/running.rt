@@ -11,9 +11,9 @@ use tomex_streams::NoMeter;
 use tomex_tests_whole_runs::{Outcome, outcome_of};
 
 /// The archives, one a command.
-const COMMANDS: [&str; 16] = [
-    "all", "animate", "explore", "front", "help", "hull", "page", "pipeline", "plot", "prices",
-    "rows", "run", "stalls", "tables", "times", "worth",
+const COMMANDS: [&str; 18] = [
+    "all", "animate", "explore", "find", "front", "help", "hull", "page", "path", "pipeline",
+    "plot", "prices", "rows", "run", "stalls", "tables", "times", "worth",
 ];
 
 /// The most bytes of standard output.
