@@ -31,7 +31,7 @@ else
   find . -name out -prune -o -type f -print
 fi | tar -c -T - | tar -x -C "$work/top"
 PATH="$work/bin:$PATH" TOP=$top python3 - "$work/top" "$@" <<'PYTHON'
-import glob, os, re, shutil, subprocess, sys
+import glob, os, pty, re, shutil, subprocess, sys
 
 copy, words = sys.argv[1], sys.argv[2:]
 slow = "--slow" in words
@@ -149,6 +149,15 @@ for command in [""] + [name for name in re.findall(r"^  (\w+)", listed, re.M) if
         if not line.startswith("tomex "):
             begins = line[:-2] if line.endswith("..") else line + "\n"
             report("passed" if "\n" + begins in "\n" + printed else "failed", f"help {command}: {line}")
+
+# A refused command: on a terminal a second line names `tomex explain`, a pipe gets one line.
+piped = subprocess.run(["tomex", "run", "none"], cwd=copy, stderr=subprocess.PIPE, text=True).stderr
+above, terminal = pty.openpty()
+subprocess.run(["tomex", "run", "none"], cwd=copy, stderr=terminal)
+os.close(terminal)
+shown = os.read(above, 4096).decode().replace("\r\n", "\n")
+right = piped == "tomex: cannot read none\n" and shown.startswith(piped) and "tomex explain" in shown[len(piped):]
+report("passed" if right else "failed", "a refusal on a terminal", "" if right else f"\n{shown}")
 
 # The pages that the program printed, in a browser: TOMEX_BROWSER names a script that opens a file and says what is wrong.
 browser = os.environ.get("TOMEX_BROWSER", os.path.join(os.environ["TOP"], "..", "shared", "tools", "browser"))
