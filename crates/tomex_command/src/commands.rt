@@ -140,7 +140,8 @@ fn carry_out<
 /// done, 1 refused input, 2 a refused command line, 3 memory, a thread, a file or a device.
 ///
 /// While a study's rows are explored, their progress is reported to `meter`, and a refusal is too, after its line.
-/// Results and help go to `out`. Error messages go to `err`: one line `tomex: ..` with 1 and 3, the parser's text with 2.
+/// Results and help go to `out`. Error messages go to `err`: one line `tomex: ..` with 1 and 3, the parser's text with
+/// 2.
 pub fn command<
     R: Threads + Wait + Sync,
     F: Files,

@@ -14,7 +14,8 @@ use Rattle.tomex_command_line.specs.Grammar.{tomex_app}
 use Rattle.tomex_command_line.specs.Values.{IsRunAsked, IsOneRunAsked, IsStallsAsked, IsPathAsked, IsPipelineAsked}
 use Rattle.tomex_command_line.specs.Values.{IsTablesAsked, IsAnimateAsked, IsAllAsked, IsExploreAsked, IsFrontAsked}
 use Rattle.tomex_command_line.specs.Values.{IsPlotAsked, IsWorthAsked, IsFindAsked, IsExplainAsked}
-use Rattle.tomex_command_line.specs.Values.{IsNoRun, IsNoOneRun, IsNoStalls, IsNoPath, IsNoPipeline, IsNoTables, IsNoAll}
+use Rattle.tomex_command_line.specs.Values.{IsNoRun, IsNoOneRun, IsNoStalls, IsNoPath, IsNoPipeline, IsNoTables}
+use Rattle.tomex_command_line.specs.Values.{IsNoAll}
 use Rattle.tomex_command_line.specs.Values.{IsNoAnimate, IsNoExplore, IsNoFront, IsNoPlot, IsNoWorth, IsNoFind}
 
 -- the command of that name with these values

@@ -2,10 +2,11 @@
 use Rattle.std.specs.Prelude.{codes}
 use Rattle.clap.specs.Words.{Text}
 use Rattle.tomex_command_line.specs.declared.line.command_name.CommandName.{CommandName}
-use Rattle.tomex_command_line.specs.declared.line.command_name.CommandName.TheVariants.{Run, Times, Stalls, Path, Pipeline}
-use Rattle.tomex_command_line.specs.declared.line.command_name.CommandName.TheVariants.{Tables, Animate, All, Explore}
-use Rattle.tomex_command_line.specs.declared.line.command_name.CommandName.TheVariants.{Front, Plot, Rows, Worth}
-use Rattle.tomex_command_line.specs.declared.line.command_name.CommandName.TheVariants.{Prices, Page, Find, Explain}
+use Rattle.tomex_command_line.specs.declared.line.command_name.CommandName.TheVariants.{Run, Times, Stalls, Path}
+use Rattle.tomex_command_line.specs.declared.line.command_name.CommandName.TheVariants.{Pipeline, Tables, Animate, All}
+use Rattle.tomex_command_line.specs.declared.line.command_name.CommandName.TheVariants.{Explore, Front, Plot, Rows}
+use Rattle.tomex_command_line.specs.declared.line.command_name.CommandName.TheVariants.{Worth, Prices, Page, Find}
+use Rattle.tomex_command_line.specs.declared.line.command_name.CommandName.TheVariants.{Explain}
 
 -- the command's name, as it is written
 abbrev pub name_of : CommandName → Text

@@ -1,5 +1,6 @@
 -- The report of what was counted is that of the visits along the path.
-use Rattle.std.proofs.Common.{◌≡◌, ◌∙◌, Ok, Err, Vec, ap, ap₂, refl, subst, sym, ℕ, List, [], ◌∷◌, ◌++◌, Option, Some, map, codes}
+use Rattle.std.proofs.Common.{◌≡◌, ◌∙◌, Ok, Err, Vec, ap, ap₂, refl, subst, sym, ℕ, List, [], ◌∷◌, ◌++◌}
+use Rattle.std.proofs.Common.{Option, Some, map, codes}
 use Rattle.std.specs.Prelude.{All, IfOk, IsPermutation, OnOk, Result}
 use Rattle.std.specs.BTreeMap.{IsOrdered, keys, values}
 use Rattle.std.specs.Option.{option_map_or}
@@ -104,7 +105,8 @@ pub by_function : {A : Type 0} (file : List ℕ) (symbols : List Symbol) (config
 by_function file symbols config steps tally made sorted text same is ordered are moved written =
     rows_of_file file config steps tally made sorted text
     (subst (λ (ss : List Symbol). IsTally (function_key ss) (path_visits config steps) tally) same is) ordered
-    (subst (λ (ss : List Symbol). made ≡ map (row_of_group ss []) (values tally.groups)) same are) moved.0 moved.1 written
+    (subst (λ (ss : List Symbol). made ≡ map (row_of_group ss []) (values tally.groups)) same are) moved.0 moved.1
+    written
 
 -- the links with the functions of a file's symbols
 pub links_with : (file : List ℕ) (symbols : List Symbol) (config : Configuration) (steps run whole : List Step)

@@ -45,7 +45,7 @@ visits_along steps path = flat_map (λ l. visit_at l (slice_get steps (l.step - 
 abbrev pub path_visits : Configuration → List Step → List Visit
 path_visits config steps = visits_along steps (path_of config (history config steps))
 
--- each link's step is one of so many
+-- each link's step is one of this many
 abbrev pub AreOfSteps : ℕ → List Link → Type 0
 AreOfSteps count path = All (λ l. l.step ≤ count) path
 

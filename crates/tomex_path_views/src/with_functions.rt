@@ -16,8 +16,8 @@ use tomex_run_views::addresses_of;
 use tomex_study::Program;
 use tomex_symbols::{has_symbols, symbols};
 
-/// The links of a run's critical path with the function of each: the records of [`path_links`](crate::path_links) with a
-/// column more.
+/// The links of a run's critical path with the function of each: the records of
+/// [`path_links`](crate::path_links) with a column more.
 ///
 /// `file` is the whole file of the program. `csv` allocates its records in `heap`.
 pub fn path_links_and_functions<A: Allocator + Clone>(

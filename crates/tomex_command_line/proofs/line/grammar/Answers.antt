@@ -45,8 +45,8 @@ returns c =
     c.grammar-12.ensures in
     let thirteen = offered c.with_command-program-13.result _ _ _ worth_shape c.with_command-program-13.ensures twelve
     c.grammar-13.ensures in
-    let fourteen = offered c.with_command-program-14.result _ _ _ prices_shape c.with_command-program-14.ensures thirteen
-    c.grammar-14.ensures in
+    let fourteen = offered c.with_command-program-14.result _ _ _ prices_shape c.with_command-program-14.ensures
+    thirteen c.grammar-14.ensures in
     let fifteen = offered c.with_command-program-15.result _ _ _ page_shape c.with_command-program-15.ensures fourteen
     c.grammar-15.ensures in
     let sixteen = offered c.with_command-program-16.result _ _ _ find_shape c.with_command-program-16.ensures fifteen

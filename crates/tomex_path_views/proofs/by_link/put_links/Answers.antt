@@ -11,7 +11,8 @@ loop-link-preserved g c = record {
   ready = c.in_ok-put_link.ensures.ready;
   text = λ own shows.
       next_piece (link_record own c.args.steps.now c.args.times.now) c.args.path.now c.loop-link.link-index _ _ _
-      (text_written (λ v. v.items) c.loop-link.writer) _ c.loop-link-test.true refl (c.loop-link.invariant.text own shows)
+      (text_written (λ v. v.items) c.loop-link.writer) _ c.loop-link-test.true refl
+      (c.loop-link.invariant.text own shows)
       (c.in_ok-put_link.ensures.text own shows);
 }
 

@@ -20,4 +20,5 @@ returns g c =
     let written = IfOk-weaker c.text_of_places.result _ _ (λ t made. made (λ step. []) (λ k d within. refl))
     c.text_of_places.ensures.text in
     places_if_made [] (λ step. []) config
-    (steps_from c.args.program.now.limit (start_of c.args.program.now.image)) tally is c.text_of_places.result written c.text_of_places.ensures.order
+    (steps_from c.args.program.now.limit (start_of c.args.program.now.image)) tally is c.text_of_places.result written
+    c.text_of_places.ensures.order

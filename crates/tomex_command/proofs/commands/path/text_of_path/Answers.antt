@@ -11,7 +11,8 @@ choose_with_file-requires g c = as_many_in _ _ _ (λ bytes. bytes.items) _ c.in_
 pub returns-in_err-chosen-clause-failure : goal.returns-in_err-chosen-clause-failure
 returns-in_err-chosen-clause-failure g c =
     let p = err_from_is_err_and c.from_residual-in_err-chosen.result c.from_residual-in_err-chosen.ensures.1 in
-    rw (p.1) (unchosen _ c.args.line.run c.args.line.by_function c.in_ok-studied.studied.study _ c.in_ok-studied.ensures.study _ p.0
+    rw (p.1) (unchosen _ c.args.line.run c.args.line.by_function c.in_ok-studied.studied.study _
+    c.in_ok-studied.ensures.study _ p.0
     c.in_err-chosen.ensures.unchosen p.2)
 
 pub returns-clause-text : goal.returns-clause-text
@@ -30,7 +31,8 @@ returns-clause-text g c =
 
 pub returns-clause-failure : goal.returns-clause-failure
 returns-clause-failure g c =
-    IfErr-weaker c.path_of.result _ _ (λ failure why. unreported _ c.args.line.run c.args.line.by_function failure (record {
+    IfErr-weaker c.path_of.result _ _
+    (λ failure why. unreported _ c.args.line.run c.args.line.by_function failure (record {
       space = c.in_ok-studied.studied.study;
       contents = map (λ bytes. bytes.items) c.in_ok-studied.studied.files.items;
       of_files = c.in_ok-studied.ensures.study;
