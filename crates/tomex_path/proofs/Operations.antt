@@ -37,7 +37,7 @@ pub some_within : (d : Done) (from to : ℕ) (unit : UnitId) → step_unit d.ste
     → d.at.finish ≤ to → operation_in d from to ≡ Some unit
 some_within d from to unit e l m = rw (le-leb from d.at.start l, le-leb d.at.finish to m) e
 
--- what one link takes of a machine
+-- the cycles that a machine needs for one link's operation
 
 -- the latency of its operation
 abbrev pub spent : Configuration → Link → ℕ

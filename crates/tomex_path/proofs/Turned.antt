@@ -76,9 +76,9 @@ rise_turned [] n low c = low
 rise_turned (l ∷ ls) n low c =
     rw (turn_more l ls) (rise_more (reverse ls) 0 n l (rise_turned ls l.step c.0 c.2) c.1)
 
-rising : (ls : List Link) (m n : ℕ) → RiseTo m n ls → StepsRise m ls
-rising [] m n c = tt
-rising (l ∷ ls) m n c = (c.0, rising ls l.step n c.1)
+steps_rise : (ls : List Link) (m n : ℕ) → RiseTo m n ls → StepsRise m ls
+steps_rise [] m n c = tt
+steps_rise (l ∷ ls) m n c = (c.0, steps_rise ls l.step n c.1)
 
 pub path_rises_to : (config : Configuration) (h : List Done) → RiseTo 0 (length h + 1) (path_of config h)
 path_rises_to config h =
@@ -86,7 +86,7 @@ path_rises_to config h =
     (steps_fall config Last h (length h + 1) (omega arith))
 
 pub path_rises : PathRises
-path_rises config h = rising (path_of config h) 0 (length h + 1) (path_rises_to config h)
+path_rises config h = steps_rise (path_of config h) 0 (length h + 1) (path_rises_to config h)
 
 -- what holds of each link from the first one on holds of each from the last one back
 pub all_turned : (p : Link → Bool) (ls : List Link) → list_all p (reverse ls) ≡ true → list_all p ls ≡ true
