@@ -9,6 +9,7 @@ pub mod Pareto
 pub mod Passes
 pub mod Rates
 pub mod Rows
+pub mod SortedRows
 pub mod Sums
 mod Worked
 pub mod Worths

@@ -138,7 +138,7 @@ put_moves r (q ∷ qs) = elim (cases_Bool (comes_before r q)) [
       (IsPermutation-middle (r ∷ []) q qs) (IsPermutation-cons q (r ∷ qs) (put r qs) (put_moves r qs)))
 ]
 
-ordered_moves : (rs : List FrontRow) → IsPermutation rs (by_cost rs)
+pub ordered_moves : (rs : List FrontRow) → IsPermutation rs (by_cost rs)
 ordered_moves [] = IsPermutation-refl []
 ordered_moves (r ∷ rs) = IsPermutation-trans (r ∷ rs) (r ∷ by_cost rs) (by_cost (r ∷ rs))
     (IsPermutation-cons r rs (by_cost rs) (ordered_moves rs)) (put_moves r (by_cost rs))
@@ -155,7 +155,7 @@ rises_put r (q ∷ qs) up apart = elim (cases_Bool (comes_before r q)) [
       rw e (moved, rises_put r qs up.1 apart.1)
 ]
 
-rises_ordered : (rs : List FrontRow) → AreApart rs → Rises ComesBefore (by_cost rs)
+pub rises_ordered : (rs : List FrontRow) → AreApart rs → Rises ComesBefore (by_cost rs)
 rises_ordered [] apart = tt
 rises_ordered (r ∷ rs) apart = rises_put r (by_cost rs) (rises_ordered rs apart.1)
     (all_moved (λ q. r.row ≢ q.row) rs (by_cost rs) (ordered_moves rs) apart.0)
@@ -173,7 +173,7 @@ same_tail x xs ys up f r h = ⊎_elim
     (λ (i : x ≡ r). let b = subst (ComesBefore x) (sym i) (all_has (ComesBefore x) xs r up h) in
     absurd (grind (arith, nat_tests))) (λ (t : Has ys r). t) (f r (inr h))
 
-same_rows : (xs ys : List FrontRow) → Rises ComesBefore xs → Rises ComesBefore ys
+pub same_rows : (xs ys : List FrontRow) → Rises ComesBefore xs → Rises ComesBefore ys
     → ((r : FrontRow) → Has xs r → Has ys r) → ((r : FrontRow) → Has ys r → Has xs r) → xs ≡ ys
 same_rows [] [] ux uy f g = refl
 same_rows [] (y ∷ ys) ux uy f g = absurd (g y (inl refl))

@@ -2,7 +2,7 @@
 
 ghost use Rattle.std.specs.Prelude.{◌≡◌, IfOk, IsPermutation};
 ghost use Rattle.std.specs.List.{AllPairs};
-ghost use Rattle.tomex_pareto.specs.Front.{front_of};
+ghost use Rattle.tomex_pareto.specs.Front.{by_cost, front_of};
 ghost use Rattle.tomex_pareto.specs.Pareto.{AreNumbered};
 ghost use Rattle.tomex_pareto.specs.Passing.{IsUpTo, stays_after};
 
@@ -15,6 +15,14 @@ fn sort_rows<A: Allocator>(rows: &mut Vec<FrontRow, A>)
     ensures order { AllPairs IsUpTo rows.new.items }
 {
     rows.sort_unstable_by_key(|row| (row.cost, row.cycles, row.row));
+}
+
+/// Sorts numbered rows by cost, then number.
+pub fn sort_by_cost<A: Allocator>(rows: &mut Vec<FrontRow, A>)
+    requires { AreNumbered rows.old.items }
+    ensures { rows.new.items ≡ by_cost rows.old.items }
+{
+    rows.sort_unstable_by_key(|row| (row.cost, row.row));
 }
 
 /// True if a row is on the front, given `last`, the last row of the front before it. Rows come by cost, then

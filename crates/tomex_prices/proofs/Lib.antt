@@ -8,11 +8,9 @@ pub mod RepricedStudy
 pub mod StatedAndEqual
 pub mod FirstOptions
 pub mod Counting
-pub mod LeastPercent
 pub mod Columns
 pub mod AllCosts
 pub mod NewCosts
-pub mod FactorSums
 pub mod Factors
 pub mod Together
 mod Worked

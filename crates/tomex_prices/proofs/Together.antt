@@ -28,7 +28,8 @@ use Rattle.tomex_prices.specs.Studies.{config_of, interval_of, row_with, rows_wi
 use Rattle.tomex_prices.specs.Together.{IsShareOfWay, IsStatedAtStated, StaysByShares, Values, cost_at_values}
 use Rattle.tomex_prices.proofs.AllCosts.{share}
 use Rattle.tomex_study.proofs.Rows.{as_many_rows}
-use Rattle.tomex_prices.proofs.NewCosts.{config_cost, front_free, free_keeps, on_costed, premium, row_shares}
+use Rattle.tomex_spans.proofs.NewCosts.{free_keeps, on_costed, premium}
+use Rattle.tomex_prices.proofs.NewCosts.{config_cost, front_free, on_with_costs, row_shares}
 use Rattle.tomex_prices.proofs.RepricedStudy.{row_at_apart}
 use Rattle.tomex_prices.proofs.Repricing.{rows_stated}
 use Rattle.tomex_prices.proofs.Splitting.{costs_split, stated_costs_stay}
@@ -289,9 +290,10 @@ pub stays_by_shares : StaysByShares
 unfolding cost_at_values
 stays_by_shares s values shares whole r is one some few moves =
     let free = front_free s r one in
-    on_costed (λ x. sum_by (λ price. values price * payments price (config_of s x)) (prices_of s)) s r free.0
-    (λ j there fast. stays_dearer s values shares whole r j is one there fast moves some few
-    (free_keeps r j (free.1 j there) fast))
+    let cost : FrontRow → ℕ = λ x. sum_by (λ price. values price * payments price (config_of s x)) (prices_of s) in
+    on_with_costs cost s r free.0
+    ∙ on_costed cost (all_rows s) r (λ j there fast. stays_dearer s values shares whole r j is one there fast moves some
+    few (free_keeps r j (free.1 j there) fast))
 
 pub stated_at_stated : IsStatedAtStated
 unfolding cost_at_values

@@ -10,12 +10,14 @@ use Rattle.tomex_config.specs.Cost.{PriceList}
 use Rattle.tomex_config.specs.declared.config.UnitOption.{UnitOption}
 use Rattle.tomex_pareto.specs.Front.{rows_from}
 use Rattle.tomex_pareto.specs.declared.front_row.FrontRow.{FrontRow}
+use Rattle.tomex_row_columns.specs.RowColumns.{percent_text}
+use Rattle.tomex_spans.specs.Percent.{least_of}
 use Rattle.tomex_study.specs.Study.{DesignSpace, costs_of}
 use Rattle.tomex_prices.specs.declared.intervals.PriceRange.{PriceRange}
 use Rattle.tomex_prices.specs.declared.price.Price.{Price}
 use Rattle.tomex_prices.specs.declared.price.Price.TheVariants.{Station, Choice, Bus, Width}
 use Rattle.tomex_prices.specs.Interval.{interval, range_text}
-use Rattle.tomex_prices.specs.Percent.{difference, least_percent, percent_text}
+use Rattle.tomex_prices.specs.Percent.{difference, percent_for}
 use Rattle.tomex_prices.specs.Price.{name_of_price}
 use Rattle.tomex_prices.specs.Prices.{choices_of, is_relevant, prices_of, relevant_prices_of}
 use Rattle.tomex_prices.specs.Repriced.{priced_from, with_price_apart}
@@ -84,7 +86,7 @@ front_row n cost y = record { row = n; cost = cost; cycles = y }
 
 abbrev percent_at : ℕ → ℕ → ℕ → List ℕ
 percent_at n cost y =
-    percent_text (least_percent study (front_row n cost y) (rows_from 0 (costs_of list rows) cycles))
+    percent_text (least_of (percent_for study (front_row n cost y)) (rows_from 0 (costs_of list rows) cycles))
 
 percents : percent_at 2 50 13 ∷ percent_at 6 60 11 ∷ percent_at 0 75 10 ∷ percent_at 4 85 8 ∷ []
     ≡ codes "45%" ∷ codes "23%" ∷ codes "99%" ∷ codes "any" ∷ []

@@ -1,11 +1,12 @@
 -- All prices of a study are wrong at once, each by a factor of its own, in hundredths: the costs of rows then, and
 -- which rows of the front stay on it.
-use Rattle.std.specs.Prelude.{◌≡◌, ◌+◌, ◌*◌, ◌<◌, ◌≤◌, ℕ, Bool, true, false, List, map, sum_by}
+use Rattle.std.specs.Prelude.{◌≡◌, ◌+◌, ◌*◌, ◌<◌, ℕ, Bool, true, false, List, map, sum_by}
 use Rattle.std.specs.List.{Contains}
 use Rattle.tomex_config.specs.Configuration.{Configuration}
 use Rattle.tomex_config.specs.Cost.{PriceList}
 use Rattle.tomex_pareto.specs.Front.{front_of, is_on}
 use Rattle.tomex_pareto.specs.declared.front_row.FrontRow.{FrontRow}
+use Rattle.tomex_spans.specs.Percent.{AreWithin}
 use Rattle.tomex_study.specs.Study.{DesignSpace, IsStudy}
 use Rattle.tomex_study.specs.StudyFront.{all_rows, front_of_study}
 use Rattle.tomex_prices.specs.declared.price.Price.{Price}
@@ -34,10 +35,6 @@ row_times factors s r = record {
 -- the row is on the front of all rows at these factors
 abbrev pub is_on_at : Factors → DesignSpace → FrontRow → Bool
 is_on_at factors s r = is_on (front_of (map (row_times factors s) (all_rows s))) r.row
-
--- no price is wrong by more percent than this
-abbrev pub AreWithin : ℕ → Factors → Type 0
-AreWithin percent factors = (price : Price) → (100 ≤ factors price + percent) × (factors price ≤ 100 + percent)
 
 -- if each factor is 100, a row has its stated cost
 abbrev pub IsStatedAtHundred : Type 0

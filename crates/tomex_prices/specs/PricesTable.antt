@@ -1,16 +1,15 @@
 -- The table of a study's prices: the values of each for which a row of the front stays, and the percentage by which
 -- all may be wrong.
-use Rattle.std.specs.Prelude.{ℕ, ◌*◌, nat_lt, suc, Bool, List, ◌∷◌, [], ◌++◌, codes, length, map}
+use Rattle.std.specs.Prelude.{ℕ, ◌*◌, nat_lt, suc, Bool, List, ◌∷◌, ◌++◌, codes, length, map}
 use Rattle.std.specs.Fmt.{decimal}
 use Rattle.tomex_pareto.specs.declared.front_row.FrontRow.{FrontRow}
 use Rattle.tomex_study.specs.Study.{DesignSpace}
 use Rattle.tomex_study.specs.StudyFront.{front_of_study}
+use Rattle.tomex_row_columns.specs.RowColumns.{column_of, percent_text, row_columns}
 use Rattle.tomex_tables.specs.Table.{TableColumn, table_of}
 use Rattle.tomex_prices.specs.declared.price.Price.{Price}
-use Rattle.tomex_prices.specs.declared.table.Heading.{Heading}
-use Rattle.tomex_prices.specs.declared.table.Heading.TheVariants.{Row, Cost, Cycles}
 use Rattle.tomex_prices.specs.Interval.{range_text}
-use Rattle.tomex_prices.specs.Percent.{percent_of, percent_text}
+use Rattle.tomex_prices.specs.Percent.{percent_of}
 use Rattle.tomex_prices.specs.Price.{name_of_price, amount}
 use Rattle.tomex_prices.specs.Prices.{relevant_prices_of}
 use Rattle.tomex_prices.specs.Studies.{interval_of}
@@ -18,29 +17,6 @@ use Rattle.tomex_prices.specs.Studies.{interval_of}
 -- there are more than 262,144 intervals, one for each relevant price of each row of the front
 unfoldable pub is_too_large : DesignSpace → Bool
 is_too_large s = nat_lt 262144 (length (front_of_study s) * length (relevant_prices_of s))
-
--- a column: its name, its text in the line `now`, and its text for each row of the front
-abbrev pub column_of : List ℕ → List ℕ → (FrontRow → List ℕ) → List FrontRow → TableColumn
-column_of name now text front = record { name = name; entries = now ∷ map text front }
-
-abbrev pub name_of_heading : Heading → List ℕ
-name_of_heading Row = codes "row"
-name_of_heading Cost = codes "cost"
-name_of_heading Cycles = codes "cycles"
-
--- the line of the stated prices is called `now`
-abbrev pub now_under : Heading → List ℕ
-now_under Row = codes "now"
-now_under heading = codes "-"
-
-abbrev pub number_under : Heading → FrontRow → ℕ
-number_under Row r = r.row
-number_under Cost r = r.cost
-number_under Cycles r = r.cycles
-
-unfoldable pub heading_column : List FrontRow → Heading → TableColumn
-heading_column front heading =
-    column_of (name_of_heading heading) (now_under heading) (λ r. decimal (number_under heading r)) front
 
 unfoldable pub percent_column : DesignSpace → List FrontRow → TableColumn
 percent_column s front = column_of (codes "all") (codes "-") (λ r. percent_text (percent_of s r)) front
@@ -51,8 +27,7 @@ price_column s front price =
 
 abbrev pub columns_of : DesignSpace → List FrontRow → List TableColumn
 columns_of s front =
-    map (heading_column front) (Row ∷ Cost ∷ Cycles ∷ [])
-    ++ percent_column s front ∷ map (price_column s front) (relevant_prices_of s)
+    row_columns front ++ percent_column s front ∷ map (price_column s front) (relevant_prices_of s)
 
 -- the table of a study's prices
 unfoldable pub prices_table_of : DesignSpace → List ℕ

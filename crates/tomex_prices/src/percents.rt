@@ -8,6 +8,7 @@ use crate::price::Price;
 use std::alloc::Allocator;
 use tomex_config::{Config, Prices};
 use tomex_pareto::FrontRow;
+use tomex_spans::percent_by;
 use tomex_study::Surveyed;
 
 /// The cost of the parts that two configurations don't have in common, at these prices.
@@ -41,12 +42,7 @@ fn percent_for<A: Allocator>(
     }
     let (own, other) = (surveyed.config(row.row), surveyed.config(rival.row));
     let apart = difference(&surveyed.study().prices(), all, own, other);
-    if apart == 0 {
-        return 100;
-    }
-    let premium = if rival.cycles < row.cycles { 1 } else { 0 };
-    let dearer = 100 * u128::from(rival.cost.saturating_sub(row.cost));
-    dearer.saturating_sub(premium) / apart
+    percent_by(apart, row, rival)
 }
 
 /// The greatest whole percentage by which all prices of a study may be wrong at once, each one in

@@ -1,11 +1,10 @@
 //! The table of a study's prices.
 
-ghost use Rattle.std.specs.Prelude.{◌≡◌, ◌↔◌, ◌*◌, ◌++◌, true, length, map, nat_lt, IfOk, IsErrOf, OnOk, string_bytes};
+ghost use Rattle.std.specs.Prelude.{◌≡◌, ◌↔◌, ◌*◌, ◌++◌, true, length, map, nat_lt, IfOk, IsErrOf, OnOk};
 ghost use Rattle.tomex_study.specs.StudyFront.{front_of_study};
-ghost use Rattle.tomex_prices.specs.Percent.{percent_text};
 ghost use Rattle.tomex_prices.specs.Prices.{prices_of, relevant_prices_of};
-ghost use Rattle.tomex_prices.specs.PricesTable.{columns_of, heading_column, is_too_large, name_of_heading, now_under};
-ghost use Rattle.tomex_prices.specs.PricesTable.{number_under, percent_column, price_column, prices_table_of};
+ghost use Rattle.tomex_prices.specs.PricesTable.{columns_of, is_too_large, percent_column, price_column};
+ghost use Rattle.tomex_prices.specs.PricesTable.{prices_table_of};
 
 use crate::counts::count_relevant;
 use crate::intervals::interval_of;
@@ -15,77 +14,12 @@ use crate::priced_row::rows_with;
 use crate::prices_error::PricesError;
 use crate::study_prices::{prices, relevant_prices};
 use std::alloc::{AllocError, Allocator, Global};
-use tomex_pareto::FrontRow;
+use tomex_row_columns::{percent_text, push_row_columns};
 use tomex_study::Surveyed;
 use tomex_tables::{Column, table_of};
 
 /// The most intervals of one table.
 const MOST_INTERVALS: u64 = 262_144;
-
-/// A property of a row of the front.
-#[derive(Clone, Copy)]
-enum Heading {
-    Row,
-    Cost,
-    Cycles,
-}
-
-impl Heading {
-    fn name(self) -> &'static str
-        ensures { result.now ≡ name_of_heading self }
-    {
-        match self {
-            Heading::Row => "row",
-            Heading::Cost => "cost",
-            Heading::Cycles => "cycles",
-        }
-    }
-
-    /// Its text in the line of the stated prices.
-    fn now(self) -> &'static str
-        ensures { result.now ≡ now_under self }
-    {
-        match self {
-            Heading::Row => "now",
-            Heading::Cost | Heading::Cycles => "-",
-        }
-    }
-
-    /// Its value for a row.
-    fn of(self, row: FrontRow) -> u64
-        ensures { result ≡ number_under self row }
-    {
-        match self {
-            Heading::Row => row.row as u64,
-            Heading::Cost => row.cost,
-            Heading::Cycles => row.cycles,
-        }
-    }
-}
-
-#[tactic(auto, unfolding(crate::specs::PricesTable::heading_column))]
-fn heading_column(heap: Global, front: &[FrontRow], heading: Heading) -> Result<Column, AllocError>
-    ensures { IfOk result (λ c. c ≡ heading_column front.now heading) }
-{
-    let (name, now) = (heading.name(), heading.now());
-    let mut column = Column::new(heap, format!(in heap; "{name}")?);
-    column.push(format!(in heap; "{now}")?)?;
-    for row in front {
-        let number = heading.of(*row);
-        column.push(format!(in heap; "{number}")?)?;
-    }
-    Ok(column)
-}
-
-fn percent_text(heap: Global, percent: u64) -> Result<String, AllocError>
-    ensures { IfOk result (λ text. string_bytes text ≡ percent_text percent) }
-{
-    if percent < 100 {
-        format!(in heap; "{percent}%")
-    } else {
-        format!(in heap; "any")
-    }
-}
 
 /// The column of the percentages by which all prices may be wrong at once.
 #[tactic(auto, unfolding(crate::specs::PricesTable::percent_column))]
@@ -150,9 +84,7 @@ fn push_columns<A: Allocator>(
     ensures { OnOk result (columns.new.items
         ≡ columns.old.items ++ columns_of surveyed.now (front_of_study surveyed.now)) }
 {
-    columns.push(heading_column(heap, surveyed.front(), Heading::Row)?)?;
-    columns.push(heading_column(heap, surveyed.front(), Heading::Cost)?)?;
-    columns.push(heading_column(heap, surveyed.front(), Heading::Cycles)?)?;
+    push_row_columns(columns, heap, surveyed.front())?;
     columns.push(percent_column(heap, surveyed)?)?;
     let relevant = relevant_prices(heap, surveyed.study())?;
     push_prices(columns, heap, surveyed, relevant.as_slice())

@@ -10,9 +10,10 @@ use Rattle.tomex_study.specs.Program.{Workload, IsProgram}
 use Rattle.tomex_study.specs.Cycles.{cycles_on, totals_on}
 use Rattle.tomex_row_runs.specs.Looks.{plain_on, weighted_cycles}
 use Rattle.tomex_row_runs.specs.Looks.{last_look, made_at_last_look}
-use Rattle.tomex_row_runs.proofs.Totals.{cycles_bound, plain_bound, plain_sum, total_at, total_bound, weighed_all}
+use Rattle.tomex_study.proofs.Bounds.{cycles_bound, total_bound, weighs_most}
+use Rattle.tomex_row_runs.proofs.Totals.{plain_bound, plain_sum, total_at, weighed_all}
 use Rattle.tomex_row_runs.proofs.Totals.{weighed_past}
-use Rattle.tomex_row_runs.proofs.Totals.{weighed_step, weighed_within, weighs_most}
+use Rattle.tomex_row_runs.proofs.Totals.{weighed_step, weighed_within}
 
 -- the cycles of the programs so far, and the rest
 abbrev pub IsCounting : List Workload → List ℕ → ℕ → ℕ → ℕ → ℕ → Type 0

@@ -8,7 +8,8 @@ use Rattle.tomex_cycle.specs.declared.progress.Progress.TheVariants.{Running, En
 use Rattle.tomex_timing.specs.Run.{total}
 use Rattle.tomex_cycle.specs.Seen.{Seen, seen_after, is_end}
 use Rattle.tomex_study.specs.Program.{Workload, IsProgram}
-use Rattle.tomex_row_runs.proofs.Totals.{total_bound, ends_at_most}
+use Rattle.tomex_study.proofs.Bounds.{total_bound}
+use Rattle.tomex_row_runs.proofs.Totals.{ends_at_most}
 
 -- what the contract of a machine that advances to a cycle says
 abbrev pub Advances : Seen → Seen → ℕ → Type 0

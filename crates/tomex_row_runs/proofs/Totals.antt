@@ -1,61 +1,26 @@
--- The most cycles of a run, and sums of the programs' totals.
-use Rattle.std.proofs.Common.{◌≡◌, ℕ, zero, suc, ◌+◌, ◌-◌, ◌*◌, ◌≤◌, arith, ap, sym, ◌∙◌, List, [], ◌∷◌, length, take}
+-- Sums of the programs' totals.
+use Rattle.std.proofs.Common.{◌≡◌, ℕ, suc, ◌+◌, ◌-◌, ◌*◌, ◌≤◌, arith, ap, sym, ◌∙◌, List, [], ◌∷◌, length, take}
 use Rattle.std.proofs.Common.{get_or, Some, slice_get, refl, All, min, ◌<◌, drop}
 use Rattle.std.specs.Prelude.{sum}
 use Rattle.std.proofs.Math.Seq.{drop-cons}
-use Rattle.std.proofs.Math.Nat.{mul-le-mul, mul-le-mul_left, mul-le-mul_right}
+use Rattle.std.proofs.Math.Nat.{mul-le-mul_left}
 use Rattle.std.proofs.lemmas.List.Sums.{sum-map, sum_by_more, sum_by-cons, sum_by-take-le, sum_by-le}
 use Rattle.std.proofs.lemmas.List.{drop_all, get_or-map, length-map, take_all}
 use Rattle.std.proofs.lemmas.Option.{get_or_from_slice_get, slice_get_read, slice_get_within}
-use Rattle.tomex_image.specs.Image.{Loaded}
-use Rattle.tomex_rvexec.specs.Machine.{State, Outcome, Goes, Ends, Faults, step_of, coming_of}
 use Rattle.tomex_rvexec.specs.Run.{start_of, EndsWithin}
-use Rattle.tomex_rvexec.specs.Trace.{steps_from, onto, steps_after}
+use Rattle.tomex_rvexec.specs.Trace.{steps_from}
 use Rattle.tomex_steps.specs.declared.step.Step.{Step}
 use Rattle.tomex_rvexec.proofs.FlowEnds.{ends_within_more, same_steps}
 use Rattle.tomex_config.specs.Configuration.{Configuration, IsWithinLimits}
 use Rattle.tomex_timing.specs.History.{greatest_end}
 use Rattle.tomex_timing.specs.Search.{history, times_in, total_of}
-use Rattle.tomex_timing.proofs.Histories.{history_bound, total_of-history}
+use Rattle.tomex_timing.proofs.Histories.{total_of-history}
 use Rattle.tomex_timing.specs.Run.{run_of, total}
 use Rattle.tomex_study.specs.Program.{Workload, IsProgram}
 use Rattle.tomex_study.specs.Cycles.{cycles_on, totals_on}
+use Rattle.tomex_study.proofs.Bounds.{cycles_bound, total_bound}
 use Rattle.tomex_row_runs.specs.Looks.{plain_on, weighted_cycles}
 use Rattle.tomex_row_runs.specs.Looks.{LastLookSeesMost, last_look}
-use Rattle.std.specs.Prelude.{Option, None}
-
-length_onto : (x : Option Step) (xs : List Step) → length (onto x xs) ≤ suc (length xs)
-length_onto None xs = omega arith
-length_onto (Some x) xs = omega arith
-
-length_after : (n : ℕ) (o : Outcome) (next : State → List Step) → ((s : State) → length (next s) ≤ n)
-    → length (steps_after o next) ≤ n
-length_after n (Goes s) next h = h s
-length_after n (Ends k) next h = omega arith
-length_after n (Faults k) next h = omega arith
-
-length_steps : (n : ℕ) (s : State) → length (steps_from n s) ≤ n
-length_steps zero s = omega arith
-length_steps (suc n) s =
-    let a = length_onto (coming_of s) (steps_after (step_of s) (steps_from n)) in
-    let b = length_after n (step_of s) (steps_from n) (length_steps n) in
-    omega arith
-
-bounded : (n : ℕ) (config : Configuration) (s : State) → IsWithinLimits config
-    → greatest_end (history config (steps_from n s)) ≤ 67 * n
-bounded n config s lawful =
-    let a : greatest_end (history config (steps_from n s)) ≤ 67 * length (steps_from n s) =
-    history_bound config (steps_from n s) lawful in
-    let b : length (steps_from n s) ≤ n = length_steps n s in
-    omega arith
-
-bounded_on : (config : Configuration) (image : Loaded) → IsWithinLimits config → total config image ≤ 67 * 262144
-unfolding run_of
-bounded_on config image lawful = bounded 262144 config (start_of image) lawful
-
-pub total_bound : (config : Configuration) (image : Loaded) → IsWithinLimits config → total config image ≤ 17563648
-total_bound config image lawful = let a : total config image ≤ 67 * 262144 = bounded_on config image lawful in
-    omega arith
 
 -- one more program, plain and weighted
 
@@ -89,24 +54,6 @@ plain_bound programs config lawful few =
     let a : plain_on programs config ≤ length programs * 17563648 =
     sum_by-le (λ p. total config p.image) 17563648 programs
     (λ k d l. total_bound config (get_or programs k d).image lawful) in
-    omega arith
-
--- a weight is 1 to 1,000
-
-weighs_some : (w n : ℕ) → 1 ≤ w → n ≤ w * n
-weighs_some w n l = let a : 1 * n ≤ w * n = mul-le-mul_right n l in omega (arith, a)
-
-pub weighs_most : (w n most : ℕ) → w ≤ 1000 → n ≤ most → w * n ≤ 1000 * most
-weighs_most w n most l m = mul-le-mul l m
-
-pub cycles_bound : (programs : List Workload) (config : Configuration) → IsWithinLimits config → All IsProgram programs
-    → length programs ≤ 8 → cycles_on programs config ≤ 140509184000
-unfolding cycles_on
-cycles_bound programs config lawful are few =
-    let a : cycles_on programs config ≤ length programs * 17563648000 =
-    sum_by-le (λ p. p.weight * total config p.image) 17563648000 programs
-    (λ k d l. weighs_most (get_or programs k d).weight (total config (get_or programs k d).image) 17563648
-    (are k d l).most_weight (total_bound config (get_or programs k d).image lawful)) in
     omega arith
 
 pub cycles_within : (programs : List Workload) (place : ℕ) (config : Configuration)

@@ -12,8 +12,9 @@ use Rattle.tomex_pareto.proofs.Pareto.{among, apart}
 use Rattle.tomex_spans.specs.declared.line_row.LineRow.{LineRow}
 use Rattle.tomex_spans.specs.declared.spans.ValueSpan.{ValueSpan}
 use Rattle.tomex_spans.specs.Laws.{AreOnFrontWithin, HaveNumbers, StayEitherWay, StayWithin}
-use Rattle.tomex_spans.specs.Spans.{as_cost, as_cycles, holds, narrowed, on_front, stays}
-use Rattle.tomex_spans.proofs.OneRival.{and_true, narrows, swapped}
+use Rattle.tomex_spans.specs.Spans.{as_cost, as_cycles, holds, narrowed, on_front, stays, swapped}
+use Rattle.tomex_spans.proofs.OneRival.{and_true, narrows}
+use Rattle.tomex_spans.proofs.Swapped.{undominated_swapped}
 
 one_more : (a b c : Bool) → ((a && not b) && not c) ≡ (a && not (b || c))
 one_more false b c = refl
@@ -37,14 +38,14 @@ pub stay_within : StayWithin
 stay_within least limit q rows r =
     all_narrow q r rows (record { first = least; end = suc limit }) ∙ all_values least limit q (stays q rows r)
 
-any_swapped : (q : ℕ) (r : LineRow) (rows : List LineRow)
-    → list_any (λ x. dominates x (as_cycles q r)) (map (as_cycles q) rows)
-    ≡ list_any (λ x. dominates x (as_cost q r)) (map (as_cost q) rows)
-any_swapped q r [] = refl
-any_swapped q r (j ∷ js) = rw (swapped q r j, any_swapped q r js) refl
+both_maps : (q : ℕ) (rows : List LineRow) → map (as_cycles q) rows ≡ map swapped (map (as_cost q) rows)
+both_maps q [] = refl
+both_maps q (r ∷ rs) = ap (λ (rows : List FrontRow). as_cycles q r ∷ rows) (both_maps q rs)
 
 pub stay_either_way : StayEitherWay
-stay_either_way q rows r = ap not (any_swapped q r rows)
+stay_either_way q rows r =
+    ap (λ (all : List FrontRow). is_undominated all (as_cycles q r)) (both_maps q rows)
+    ∙ undominated_swapped (map (as_cost q) rows) (as_cost q r)
 
 -- on the front
 

@@ -14,7 +14,7 @@ use Rattle.tomex_spans.proofs.AllRivals.{stay_within}
 
 -- within the limits
 
-in_range : (least limit q : ℕ) (b : Bool) → least ≤ q → q ≤ limit → (nat_le least q && nat_le q limit && b) ≡ b
+pub in_range : (least limit q : ℕ) (b : Bool) → least ≤ q → q ≤ limit → (nat_le least q && nat_le q limit && b) ≡ b
 in_range least limit q b above below = grind (arith, nat_tests)
 
 pub stays_is : (least limit q : ℕ) (rows : List LineRow) (r : LineRow) → least ≤ q → q ≤ limit

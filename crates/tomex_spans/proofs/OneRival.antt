@@ -6,7 +6,7 @@ use Rattle.std.proofs.lemmas.Bool.Decides.{nat_tests}
 use Rattle.tomex_pareto.specs.Front.{dominates}
 use Rattle.tomex_spans.specs.declared.line_row.LineRow.{LineRow}
 use Rattle.tomex_spans.specs.declared.spans.ValueSpan.{ValueSpan}
-use Rattle.tomex_spans.specs.Spans.{as_cost, as_cycles, end_left, first_left, holds, measure_at, narrowed, need}
+use Rattle.tomex_spans.specs.Spans.{as_cost, end_left, first_left, holds, measure_at, narrowed, need}
 use Rattle.tomex_spans.proofs.Lines.{between}
 
 -- a rival that isn't greater in the other measure is too small in this one for the row to stay
@@ -44,20 +44,3 @@ narrows q r j s =
     leaves (nat_le j.other r.other) (is_below q r j) less s q
     (between s.first s.end q (need r j) j.rest r.times j.times)
     ∙ ap (λ (b : Bool). holds s q && not b) (sym (dominates_is q r j))
-
--- the measures in each other's place
-
-exchanged : (a b c d : Bool) → (a && b && (c || d)) ≡ (b && a && (d || c))
-exchanged true true true true = refl
-exchanged true true true false = refl
-exchanged true true false true = refl
-exchanged true true false false = refl
-exchanged true false c d = refl
-exchanged false true c d = refl
-exchanged false false c d = refl
-
-pub swapped : (q : ℕ) (r j : LineRow)
-    → dominates (as_cycles q j) (as_cycles q r) ≡ dominates (as_cost q j) (as_cost q r)
-swapped q r j =
-    exchanged (nat_le j.other r.other) (nat_le (measure_at q j) (measure_at q r)) (nat_lt j.other r.other)
-    (nat_lt (measure_at q j) (measure_at q r))

@@ -17,12 +17,16 @@ HasRoom r = suc r.rest < 2 ^ 64
 abbrev pub measure_at : ℕ → LineRow → ℕ
 measure_at q r = r.rest + q * r.times
 
+-- a row with its cost and cycles in each other's place
+abbrev pub swapped : FrontRow → FrontRow
+swapped r = record { row = r.row; cost = r.cycles; cycles = r.cost }
+
 -- the row at q, if its cost is the line, and if its cycles are
 abbrev pub as_cost : ℕ → LineRow → FrontRow
 as_cost q r = record { row = r.row; cost = measure_at q r; cycles = r.other }
 
 abbrev pub as_cycles : ℕ → LineRow → FrontRow
-as_cycles q r = record { row = r.row; cost = r.other; cycles = measure_at q r }
+as_cycles q r = swapped (as_cost q r)
 
 -- none of the rows dominates this one at q
 abbrev pub stays : ℕ → List LineRow → LineRow → Bool

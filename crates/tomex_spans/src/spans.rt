@@ -28,8 +28,8 @@ fn first_left(row: LineRow, rival: LineRow, first: u64) -> u64
     ensures { result ≡ first_left row rival first }
 {
     if row.times < rival.times {
-        let behind = need(row, rival).saturating_sub(rival.rest);
-        first.max(behind.div_ceil(rival.times - row.times))
+        let missing = need(row, rival).saturating_sub(rival.rest);
+        first.max(missing.div_ceil(rival.times - row.times))
     } else {
         first
     }
@@ -42,8 +42,8 @@ fn end_left(row: LineRow, rival: LineRow, end: u64) -> u64
     ensures { result ≡ end_left row rival end }
 {
     if rival.times < row.times {
-        let ahead = (rival.rest + 1).saturating_sub(need(row, rival));
-        end.min(ahead.div_ceil(row.times - rival.times))
+        let surplus = (rival.rest + 1).saturating_sub(need(row, rival));
+        end.min(surplus.div_ceil(row.times - rival.times))
     } else if row.times == rival.times && rival.rest < need(row, rival) {
         0
     } else {

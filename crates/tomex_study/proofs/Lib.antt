@@ -1,4 +1,5 @@
 -- Lemmas of this crate.
+pub mod Bounds
 pub mod Each
 pub mod Rows
 pub mod StudyFronts

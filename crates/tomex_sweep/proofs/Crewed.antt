@@ -19,7 +19,7 @@ use Rattle.tomex_study.specs.Study.{DesignSpace, IsStudy}
 use Rattle.tomex_study.specs.Cycles.{cycles_on, cycles_of}
 use Rattle.tomex_workers.specs.Plans.{IsPlanOf}
 use Rattle.tomex_sweep.specs.Crews.{CanStart, CanRun, Owed, owed_by, given_by}
-use Rattle.tomex_row_runs.proofs.Totals.{cycles_bound}
+use Rattle.tomex_study.proofs.Bounds.{cycles_bound}
 use Rattle.tomex_sweep.proofs.Verdicts.{as_long}
 
 low_cycles : (s : DesignSpace) → IsStudy s → All (λ c. c < 2 ^ 38) (cycles_of s)

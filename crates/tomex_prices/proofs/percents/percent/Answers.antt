@@ -1,9 +1,10 @@
 -- No percentage is above 100 at first.
 use Rattle.std.proofs.Common.{arith, ◌≤◌}
-use Rattle.tomex_prices.proofs.LeastPercent.{percent_few}
+use Rattle.tomex_spans.proofs.Factors.{least_few}
+use Rattle.tomex_prices.specs.Percent.{percent_for}
 use Rattle.tomex_prices.proofs.percents.percent.Goals as goal
 
 pub loop-rival-init : goal.loop-rival-init
 loop-rival-init g c =
-    let few = percent_few c.args.surveyed.now c.args.row c.rows-rival-items.result.now in
+    let few = least_few (percent_for c.args.surveyed.now c.args.row) c.rows-rival-items.result.now in
     record { least = omega (arith, few); few = (let z : 100 ≤ 100 = omega arith in z) }

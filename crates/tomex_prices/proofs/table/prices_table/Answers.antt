@@ -2,10 +2,11 @@
 use Rattle.std.proofs.Common.{◌≡◌, ◌∙◌, ap, add-one, length, subst, sym, List, ◌+◌, ◌++◌}
 use Rattle.std.specs.Prelude.{All}
 use Rattle.tomex_pareto.specs.declared.front_row.FrontRow.{FrontRow}
+use Rattle.tomex_row_columns.proofs.Lengths.{HasEntries}
 use Rattle.tomex_study.specs.StudyFront.{front_of_study}
 use Rattle.tomex_tables.specs.Table.{TableColumn}
 use Rattle.tomex_prices.specs.PricesTable.{columns_of, prices_table_of}
-use Rattle.tomex_prices.proofs.Columns.{HasEntries, columns_long}
+use Rattle.tomex_prices.proofs.Columns.{all_long}
 use Rattle.tomex_prices.proofs.table.prices_table.Goals as goal
 
 pub table_of-requires : goal.table_of-requires
@@ -16,7 +17,7 @@ table_of-requires g c =
     c.as_slice.ensures.value
     ∙ (c.in_ok-push_columns.ensures
     ∙ ap (λ (cs : List TableColumn). cs ++ columns_of s front) c.new-columns.ensures.items) in
-    let long = subst (All (HasEntries front)) (sym made) (columns_long s front) in
+    let long = subst (All (HasEntries front)) (sym made) (all_long s front) in
     λ k d within. long k d within ∙ (sym (add-one (length front))
     ∙ ap (λ (rs : List FrontRow). length rs + 1) (sym c.front.ensures.value))
 

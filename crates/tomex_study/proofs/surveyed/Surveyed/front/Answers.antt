@@ -11,4 +11,5 @@ returns-clause-within g c =
     let are = c.as_slice.ensures.value ∙ c.self.invariant.front_is in
     let P : DesignSpace → Type 0 = λ t. All (λ r. r.row < length t.rows) c.as_slice.result.now in
     subst P c.self.view_is
-    (subst (λ (rs : List FrontRow). All (λ r. r.row < length s.rows) rs) (sym are) (study_rows s c.keeps_limits.ensures))
+    (subst (λ (rs : List FrontRow). All (λ r. r.row < length s.rows) rs) (sym are)
+    (study_rows s c.keeps_limits.ensures))

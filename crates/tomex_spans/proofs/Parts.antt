@@ -1,21 +1,16 @@
--- What two configurations pay at factors of the prices, compared with how they differ.
+-- What two rows have at factors of the amounts of parts, compared with how they differ.
 use Rattle.std.proofs.Common.{◌≡◌, ◌+◌, ◌-◌, ◌*◌, ◌≤◌, inl, inr, ℕ, ap, arith}
-use Rattle.std.proofs.Common.{sym, subst, cond, List, [], ◌∷◌}
+use Rattle.std.proofs.Common.{refl, sym, subst, cond, List, [], ◌∷◌, ◌∙◌}
 use Rattle.std.specs.Prelude.{nat_lt, sum_by}
 use Rattle.std.specs.Int.{abs_diff}
 use Rattle.std.proofs.lemmas.Bool.{cases_Bool, cases_lt, le-ltb, lt-ltb}
 use Rattle.std.proofs.lemmas.List.Sums.{sum_by-cons}
 use Rattle.std.proofs.Math.Nat.{add-mul, mul-add, mul-le-mul_left, mul-le-mul_right}
-use Rattle.tomex_config.specs.Configuration.{Configuration}
-use Rattle.tomex_config.specs.Cost.{PriceList}
-use Rattle.tomex_prices.specs.declared.price.Price.{Price}
-use Rattle.tomex_prices.specs.AllPrices.{AreWithin, Factors}
-use Rattle.tomex_prices.specs.Price.{payments, amount}
-use Rattle.tomex_prices.proofs.AllCosts.{share}
+use Rattle.tomex_spans.specs.Percent.{AreWithin}
 
--- one price: f is its factor, s its stated value, a and b how often the row and a rival pay it
+-- one part: f is its factor, s its amount, a and b how often the row and a rival have it
 
--- the difference that the price makes changes by at most e percent of it
+-- the difference that the part makes changes by at most e percent of it
 abbrev pub Apart : (f s a b e : ℕ) → Type 0
 Apart f s a b e = f * (s * a) + 100 * (s * b) ≤ f * (s * b) + 100 * (s * a) + e * (s * abs_diff a b)
 
@@ -39,8 +34,8 @@ rival_more f s a d e few =
     let both : (f + e) * (s * d) ≡ f * (s * d) + e * (s * d) = add-mul f e (s * d) in
     rw (x, y, z) (omega (arith, high, both))
 
-price_apart : (f s a b e : ℕ) → 100 ≤ f + e → f ≤ 100 + e → Apart f s a b e
-price_apart f s a b e low high = elim (cases_lt a b) [
+part_apart : (f s a b e : ℕ) → 100 ≤ f + e → f ≤ 100 + e → Apart f s a b e
+part_apart f s a b e low high = elim (cases_lt a b) [
   | inl l ↦
       let is : b ≡ a + (b - a) = omega arith in
       let d : abs_diff a b ≡ b - a = omega arith in
@@ -77,16 +72,6 @@ worst_rival f s a d e is =
     let both : (f + e) * (s * d) ≡ f * (s * d) + e * (s * d) = add-mul f e (s * d) in
     rw (x, y, z) (omega (arith, whole, both))
 
--- the factors that are worst for a row against a rival
-abbrev pub worst : ℕ → Configuration → Configuration → Factors
-worst e a b price = cond (nat_lt (payments price b) (payments price a)) (100 + e) (100 - e)
-
-pub worst_within : (e : ℕ) (a b : Configuration) → e ≤ 100 → AreWithin e (worst e a b)
-worst_within e a b few price = elim (cases_Bool (nat_lt (payments price b) (payments price a))) [
-  | inl holds ↦ rw holds (omega arith, omega arith)
-  | inr fails ↦ rw fails (omega (arith, few), omega arith)
-]
-
 abbrev IsApart : (f s a b e : ℕ) → Type 0
 IsApart f s a b e = f * (s * a) + 100 * (s * b) ≡ f * (s * b) + 100 * (s * a) + e * (s * abs_diff a b)
 
@@ -106,75 +91,97 @@ worst_apart s a b e few = elim (cases_lt b a) [
       ≡ (100 - e) * (s * n) + 100 * (s * a) + e * (s * abs_diff a b)) (sym is) (rw d m))
 ]
 
--- all prices
+-- all parts
 
-module _ (prices : PriceList) (a b : Configuration) where
-  abbrev pub paid_times : Factors → Configuration → Price → ℕ
-  paid_times factors config price = factors price * (amount price prices * payments price config)
+module _ {P R : Type 0} (amount : P → ℕ) (times : P → R → ℕ) (a b : R) where
+  abbrev pub share : R → P → ℕ
+  share r p = amount p * times p r
 
-  abbrev pub differs : Price → ℕ
-  differs price = amount price prices * abs_diff (payments price a) (payments price b)
+  abbrev pub at_factors : (P → ℕ) → R → P → ℕ
+  at_factors factors r p = factors p * (amount p * times p r)
 
-  pub sums_apart : (factors : Factors) (all : List Price) (e : ℕ) → AreWithin e factors
-      → sum_by (paid_times factors a) all + 100 * sum_by (share prices b) all
-      ≤ sum_by (paid_times factors b) all + 100 * sum_by (share prices a) all + e * sum_by differs all
+  abbrev pub differs : P → ℕ
+  differs p = amount p * abs_diff (times p a) (times p b)
+
+  -- the factors that are worst for the row against the rival
+  abbrev pub worst : ℕ → P → ℕ
+  worst e p = cond (nat_lt (times p b) (times p a)) (100 + e) (100 - e)
+
+  pub worst_within : (e : ℕ) → e ≤ 100 → AreWithin e (worst e)
+  worst_within e few p = elim (cases_Bool (nat_lt (times p b) (times p a))) [
+    | inl holds ↦ rw holds (omega arith, omega arith)
+    | inr fails ↦ rw fails (omega (arith, few), omega arith)
+  ]
+
+  pub sums_apart : (factors : P → ℕ) (all : List P) (e : ℕ) → AreWithin e factors
+      → sum_by (at_factors factors a) all + 100 * sum_by (share b) all
+      ≤ sum_by (at_factors factors b) all + 100 * sum_by (share a) all + e * sum_by differs all
   sums_apart factors [] e within = omega arith
   sums_apart factors (p ∷ ps) e within =
-      let one = price_apart (factors p) (amount p prices) (payments p a) (payments p b) e (within p).0 (within p).1 in
+      let one = part_apart (factors p) (amount p) (times p a) (times p b) e (within p).0 (within p).1 in
       let rest = sums_apart factors ps e within in
       let more = mul-add e (differs p) (sum_by differs ps) in
       rw (
-        sum_by-cons (paid_times factors a) p ps,
-        sum_by-cons (paid_times factors b) p ps,
-        sum_by-cons (share prices a) p ps,
-        sum_by-cons (share prices b) p ps,
+        sum_by-cons (at_factors factors a) p ps,
+        sum_by-cons (at_factors factors b) p ps,
+        sum_by-cons (share a) p ps,
+        sum_by-cons (share b) p ps,
         sum_by-cons differs p ps,
       )
       (omega (arith, one, rest, more))
 
-  pub worst_sums : (all : List Price) (e : ℕ) → e ≤ 100
-      → sum_by (paid_times (worst e a b) a) all + 100 * sum_by (share prices b) all
-      ≡ sum_by (paid_times (worst e a b) b) all + 100 * sum_by (share prices a) all + e * sum_by differs all
+  pub worst_sums : (all : List P) (e : ℕ) → e ≤ 100
+      → sum_by (at_factors (worst e) a) all + 100 * sum_by (share b) all
+      ≡ sum_by (at_factors (worst e) b) all + 100 * sum_by (share a) all + e * sum_by differs all
   worst_sums [] e few = omega arith
   worst_sums (p ∷ ps) e few =
-      let one = worst_apart (amount p prices) (payments p a) (payments p b) e few in
+      let one = worst_apart (amount p) (times p a) (times p b) e few in
       let rest = worst_sums ps e few in
       let more = mul-add e (differs p) (sum_by differs ps) in
       rw (
-        sum_by-cons (paid_times (worst e a b) a) p ps,
-        sum_by-cons (paid_times (worst e a b) b) p ps,
-        sum_by-cons (share prices a) p ps,
-        sum_by-cons (share prices b) p ps,
+        sum_by-cons (at_factors (worst e) a) p ps,
+        sum_by-cons (at_factors (worst e) b) p ps,
+        sum_by-cons (share a) p ps,
+        sum_by-cons (share b) p ps,
         sum_by-cons differs p ps,
       )
       (omega (arith, one, rest, more))
 
-  -- the rival pays at most the difference more
-  no_further : (p : Price) → share prices b p ≤ share prices a p + differs p
+  -- the rival has at most the difference more
+  no_further : (p : P) → share b p ≤ share a p + differs p
   no_further p =
-      let s = amount p prices in
-      let low : payments p b ≤ payments p a + abs_diff (payments p a) (payments p b) = omega arith in
-      let more = mul-add s (payments p a) (abs_diff (payments p a) (payments p b)) in
+      let s = amount p in
+      let low : times p b ≤ times p a + abs_diff (times p a) (times p b) = omega arith in
+      let more = mul-add s (times p a) (abs_diff (times p a) (times p b)) in
       let high = mul-le-mul_left s low in
       omega (arith, more, high)
 
-  pub all_no_further : (all : List Price)
-      → sum_by (share prices b) all ≤ sum_by (share prices a) all + sum_by differs all
+  pub all_no_further : (all : List P)
+      → sum_by (share b) all ≤ sum_by (share a) all + sum_by differs all
   all_no_further [] = omega arith
   all_no_further (p ∷ ps) =
-      rw (sum_by-cons (share prices a) p ps, sum_by-cons (share prices b) p ps, sum_by-cons differs p ps)
+      rw (sum_by-cons (share a) p ps, sum_by-cons (share b) p ps, sum_by-cons differs p ps)
       (omega (arith, no_further p, all_no_further ps))
 
-  -- if it pays the whole difference more, it is no cheaper at any factors
-  pub never_cheaper : (factors : Factors) (all : List Price)
-      → sum_by (share prices a) all + sum_by differs all ≤ sum_by (share prices b) all
-      → sum_by (paid_times factors a) all ≤ sum_by (paid_times factors b) all
+  -- if it has the whole difference more, it costs no less at any factors
+  pub never_cheaper : (factors : P → ℕ) (all : List P)
+      → sum_by (share a) all + sum_by differs all ≤ sum_by (share b) all
+      → sum_by (at_factors factors a) all ≤ sum_by (at_factors factors b) all
   never_cheaper factors [] high = omega arith
   never_cheaper factors (p ∷ ps) high =
-      let parts = rw (sum_by-cons (share prices a) p ps, sum_by-cons (share prices b) p ps, sum_by-cons differs p ps)
+      let parts = rw (sum_by-cons (share a) p ps, sum_by-cons (share b) p ps, sum_by-cons differs p ps)
       at high in
-      let one : share prices a p ≤ share prices b p = omega (arith, parts, all_no_further ps) in
-      let rest : sum_by (share prices a) ps + sum_by differs ps ≤ sum_by (share prices b) ps =
+      let one : share a p ≤ share b p = omega (arith, parts, all_no_further ps) in
+      let rest : sum_by (share a) ps + sum_by differs ps ≤ sum_by (share b) ps =
       omega (arith, parts, no_further p) in
-      rw (sum_by-cons (paid_times factors a) p ps, sum_by-cons (paid_times factors b) p ps)
+      rw (sum_by-cons (at_factors factors a) p ps, sum_by-cons (at_factors factors b) p ps)
       (omega (arith, mul-le-mul_left (factors p) one, never_cheaper factors ps rest))
+
+  -- at a factor of 100 each
+  pub hundred_times : (r : R) (all : List P) → sum_by (at_factors (λ p. 100) r) all ≡ 100 * sum_by (share r) all
+  hundred_times r [] = refl
+  hundred_times r (p ∷ ps) =
+      let rest = hundred_times r ps in
+      let more = sum_by-cons (at_factors (λ p. 100) r) p ps in
+      let shares = sum_by-cons (share r) p ps in
+      more ∙ (rw shares (omega (arith, rest)))
