@@ -1,0 +1,14 @@
+-- Lemmas of this crate.
+pub mod Reweighing
+pub mod Within
+pub mod Whole
+pub mod Irrelevant
+pub mod SmallRows
+pub mod Places
+pub mod Listing
+pub mod Coming
+pub mod Percentage
+pub mod Differences
+pub mod AnyMix
+pub mod TableRows
+mod Worked

@@ -1,0 +1,11 @@
+-- The program's weight stands at its place.
+use Rattle.std.proofs.Common.{◌∙◌, ap}
+use Rattle.tomex_study.specs.Study.{DesignSpace}
+use Rattle.tomex_weights.proofs.TableRows.{program_at}
+use Rattle.tomex_weights.proofs.table.weight_at.Goals as goal
+
+pub returns : goal.returns
+returns g c =
+    c.weight.ensures.value
+    ∙ (program_at c.args.surveyed.now c.args.place c.requires
+    (c.programs.ensures.value ∙ ap (λ (s : DesignSpace). s.programs) c.study.ensures) c.index-programs-place.is).weight
