@@ -9,7 +9,9 @@ use Rattle.std.proofs.lemmas.List.Concat.{flat_map-append}
 use Rattle.std.proofs.lemmas.List.Elements.{filter-append, recursion_from_All}
 use Rattle.std.proofs.lemmas.List.Sums.{length-filter}
 use Rattle.tomex_steps.specs.Steps.{is_number}
+use Rattle.tomex_steps.specs.declared.step.Step.{Step}
 use Rattle.tomex_config.specs.Configuration.{Configuration}
+use Rattle.tomex_path.specs.declared.link.Link.{Link}
 use Rattle.tomex_timing.specs.Tables.{all_tags}
 use Rattle.tomex_timing.specs.declared.tables.Busy.{Busy}
 use Rattle.tomex_timing.specs.declared.tables.Tag.{Tag}
@@ -25,6 +27,7 @@ use Rattle.tomex_frames.specs.Events.{all_events, event_text, events, happens, i
 use Rattle.tomex_animate.specs.Machine.{cycles_of}
 use Rattle.tomex_animate.specs.Page.{frame}
 use Rattle.tomex_animate.specs.Stretch.{IsStretch}
+use Rattle.tomex_frames.specs.OnPath.{at_cycle, framed_step}
 use Rattle.tomex_frames.specs.Stations.{pool_rows, register_at, register_cell, register_status, registers_text, row_in}
 use Rattle.tomex_frames.specs.Stations.{station_row, station_table, all_pools}
 use Rattle.tomex_frames.specs.Status.{listed_cycles, row_if, status_table}
@@ -218,30 +221,32 @@ module _ (first last t : ℕ) (front some rest : List Entry) (low : first ≤ t)
   events_same = rw (flat_map_same (event_text t (front ++ (some ++ rest))) (event_text t some) event_same all_events)
       refl
 
-  row_past : (span : Span) (e : Entry) → first ≤ span.from + 2 → Past first e → row_if span t e ≡ []
-  row_past span e l p = rw (gone first span e l p) refl
+  row_past : (framed : Option ℕ) (span : Span) (e : Entry) → first ≤ span.from + 2 → Past first e
+      → row_if framed span t e ≡ []
+  row_past framed span e l p = rw (gone first span e l p) refl
 
-  row_later : (span : Span) (e : Entry) → span.to ≤ last → Later last e → row_if span t e ≡ []
-  row_later span e l q = rw (to_come last span e l q) refl
+  row_later : (framed : Option ℕ) (span : Span) (e : Entry) → span.to ≤ last → Later last e
+      → row_if framed span t e ≡ []
+  row_later framed span e l q = rw (to_come last span e l q) refl
 
-  rows_same : (span : Span) → first ≤ span.from + 2 → span.to ≤ last
-      → flat_map (row_if span t) (front ++ (some ++ rest)) ≡ flat_map (row_if span t) some
-  rows_same span l h = flat_mid (row_if span t) (Past first) (Later last) (λ e p. row_past span e l p)
-      (λ e q. row_later span e h q) front some rest past later
+  rows_same : (framed : Option ℕ) (span : Span) → first ≤ span.from + 2 → span.to ≤ last
+      → flat_map (row_if framed span t) (front ++ (some ++ rest)) ≡ flat_map (row_if framed span t) some
+  rows_same framed span l h = flat_mid (row_if framed span t) (Past first) (Later last)
+      (λ e p. row_past framed span e l p) (λ e q. row_later framed span e h q) front some rest past later
 
-  status_same : (page : Span) → page.from ≡ first → page.to ≡ last
-      → status_table page (front ++ (some ++ rest)) t ≡ status_table page some t
+  status_same : (framed : Option ℕ) (page : Span) → page.from ≡ first → page.to ≡ last
+      → status_table framed page (front ++ (some ++ rest)) t ≡ status_table framed page some t
   unfolding status_table
-  status_same page is_first is_last =
+  status_same framed page is_first is_last =
       let counted : count_by (is_listed_in page) (front ++ (some ++ rest)) ≡ count_by (is_listed_in page) some =
       count_mid (is_listed_in page) (Past first) (Later last) (λ e p. gone first page e (omega (arith, is_first)) p)
       (λ e q. to_come last page e (omega (arith, is_last)) q) front some rest past later in
       let spans : listed_cycles page (front ++ (some ++ rest)) t ≡ listed_cycles page some t = rw counted refl in
-      let within : flat_map (row_if (listed_cycles page some t) t) (front ++ (some ++ rest))
-      ≡ flat_map (row_if (listed_cycles page some t) t) some =
+      let within : flat_map (row_if framed (listed_cycles page some t) t) (front ++ (some ++ rest))
+      ≡ flat_map (row_if framed (listed_cycles page some t) t) some =
       elim (cases_Bool (nat_le (count_by (is_listed_in page) some) 16)) [
-        | inl e ↦ rw e (rows_same page (omega (arith, is_first)) (omega (arith, is_last)))
-        | inr e ↦ rw e (rows_same (record { from = t - 2; to = t }) (omega (arith, low)) high)
+        | inl e ↦ rw e (rows_same framed page (omega (arith, is_first)) (omega (arith, is_last)))
+        | inr e ↦ rw e (rows_same framed (record { from = t - 2; to = t }) (omega (arith, low)) high)
       ] in
       rw (spans, within) refl
 
@@ -279,31 +284,39 @@ module _ (first last t : ℕ) (front some rest : List Entry) (low : first ≤ t)
       (register_at t (history_of some)) register_same (range_with_len 1 31))
 
   -- the view is the same
-  frame_same : (config : Configuration) (page : Span) (total : ℕ) → page.from ≡ first → page.to ≡ last
-      → frame config page total (front ++ (some ++ rest)) t ≡ frame config page total some t
+  frame_same : (config : Configuration) (page : Span) (total : ℕ) (steps : List Step) (path : List Link)
+      → page.from ≡ first → page.to ≡ last
+      → frame config page total steps path (front ++ (some ++ rest)) t ≡ frame config page total steps path some t
   unfolding frame
-  frame_same config page total is_first is_last =
-      rw (events_same, status_same page is_first is_last, stations_same config, registers_same) refl
+  frame_same config page total steps path is_first is_last = rw (
+    events_same,
+    status_same (framed_step (at_cycle t path)) page is_first is_last,
+    stations_same config,
+    registers_same,
+  ) refl
 
 -- all views of the page are the same
-frames_from : (config : Configuration) (page : Span) (total from n : ℕ) (front some rest : List Entry)
-    → page.from ≤ from → from + n ≤ page.to + 1 → AllByRecursion (Past page.from) front
+frames_from : (config : Configuration) (page : Span) (total : ℕ) (steps : List Step) (path : List Link) (from n : ℕ)
+    (front some rest : List Entry) → page.from ≤ from → from + n ≤ page.to + 1 → AllByRecursion (Past page.from) front
     → AllByRecursion (Later page.to) rest
-    → flat_map (frame config page total (front ++ (some ++ rest))) (range_with_len from n)
-    ≡ flat_map (frame config page total some) (range_with_len from n)
-frames_from config page total from zero front some rest low high past later = refl
-frames_from config page total from (suc n) front some rest low high past later =
+    → flat_map (frame config page total steps path (front ++ (some ++ rest))) (range_with_len from n)
+    ≡ flat_map (frame config page total steps path some) (range_with_len from n)
+frames_from config page total steps path from zero front some rest low high past later = refl
+frames_from config page total steps path from (suc n) front some rest low high past later =
     ap₂ (λ (a b : List ℕ). a ++ b)
-    (frame_same page.from page.to from front some rest low (omega (arith, high)) past later config page total refl refl)
-    (frames_from config page total (from + 1) n front some rest (omega (arith, low)) (omega (arith, high)) past later)
+    (frame_same page.from page.to from front some rest low (omega (arith, high)) past later config page total steps path
+    refl refl)
+    (frames_from config page total steps path (from + 1) n front some rest (omega (arith, low)) (omega (arith, high))
+    past later)
 
-pub frames_same : (config : Configuration) (page : Span) (total : ℕ) (all some : List Entry) → page.from ≤ page.to + 1
-    → IsStretch page all some
-    → flat_map (frame config page total all) (cycles_of page) ≡ flat_map (frame config page total some) (cycles_of page)
+pub frames_same : (config : Configuration) (page : Span) (total : ℕ) (steps : List Step) (path : List Link)
+    (all some : List Entry) → page.from ≤ page.to + 1 → IsStretch page all some
+    → flat_map (frame config page total steps path all) (cycles_of page)
+    ≡ flat_map (frame config page total steps path some) (cycles_of page)
 unfolding cycles_of
-frames_same config page total all some low stretch =
-    ap (λ (es : List Entry). flat_map (frame config page total es) (range_with_len page.from (page.to + 1 - page.from)))
-    stretch.is
-    ∙ frames_from config page total page.from (page.to + 1 - page.from) stretch.front some stretch.rest (omega arith)
-    (omega (arith, low)) (recursion_from_All _ stretch.front stretch.past) (recursion_from_All _ stretch.rest
-    stretch.later)
+frames_same config page total steps path all some low stretch =
+    ap (λ (es : List Entry). flat_map (frame config page total steps path es)
+    (range_with_len page.from (page.to + 1 - page.from))) stretch.is
+    ∙ frames_from config page total steps path page.from (page.to + 1 - page.from) stretch.front some stretch.rest
+    (omega arith) (omega (arith, low)) (recursion_from_All _ stretch.front stretch.past)
+    (recursion_from_All _ stretch.rest stretch.later)

@@ -18,6 +18,9 @@ animate_css =
     ++ (codes ".r dt{font-size:.75rem}\n"
     ++ (codes ".f>*,.o>*{color:var(--soft)}\n"
     ++ (codes ".f td:last-child{color:inherit}\n"
+    ++ (codes "header>p{flex:1 1 26rem;margin:0 -.4rem}\n"
+    ++ (codes "header>p>span{padding:.15rem .4rem}\n"
+    ++ (codes ".p{outline:1.5px solid var(--ink);outline-offset:-1px}\n"
     ++ (codes "footer{display:grid;gap:1rem 2.5rem;align-items:start;padding-top:1rem;border-top:1px solid "
     ++ (codes "var(--line)}\n"
     ++ (codes "footer h2{font-size:.95rem}\n"
@@ -34,7 +37,7 @@ animate_css =
     ++ (codes "border-top:1px solid var(--line)}.e dt{width:6rem}.r{grid-template-columns:repeat(auto-fill,"
     ++ (codes "minmax(4rem,1fr))}}\n"
     ++ (codes "@supports selector(:has(*)){@media screen{section,section :target{scroll-margin-top:100vh}}}\n"
-    ++ codes "@media print{footer{break-before:page}}\n")))))))))))))))))))))))))))))
+    ++ codes "@media print{footer{break-before:page}}\n"))))))))))))))))))))))))))))))))
 
 -- the explanation of a page
 unfoldable pub animate_help : List ℕ
@@ -49,7 +52,11 @@ animate_help =
     ++ (codes "that writes it.</p>\n"
     ++ (codes "<p>What an instruction waits for is the first that is wanting: before its issue an older branch,"
     ++ (codes " the issue width, a station; before its start an operand, its address, an older access to its "
-    ++ codes "bytes, a unit; at last a bus.</p></div>\n")))))))))
+    ++ (codes "bytes, a unit; at last a bus.</p>\n"
+    ++ (codes "<p>Each cycle of the run belongs to one instruction, which works in it: its row has a frame. "
+    ++ (codes "These instructions are the critical path, and their cycles add up to the total. Beside the links "
+    ++ (codes "stand the cycles that belong to it, after which instruction it could go on, and what it had waited "
+    ++ codes "for; (order) is no wait but its turn.</p></div>\n")))))))))))))
 
 -- the head of the machine's table
 unfoldable pub machine_head : List ℕ

@@ -5,12 +5,15 @@ use Rattle.std.specs.List.{flat_map}
 use Rattle.std.specs.Fmt.{decimal}
 use Rattle.tomex_steps.specs.declared.step.Step.{Step}
 use Rattle.tomex_config.specs.Configuration.{Configuration}
-use Rattle.tomex_timing.specs.Search.{times_in, total_of}
+use Rattle.tomex_timing.specs.Search.{history, times_in, total_of}
+use Rattle.tomex_path.specs.Path.{path_of}
+use Rattle.tomex_path.specs.declared.link.Link.{Link}
 use Rattle.tomex_html.specs.Html.{html_name, links, page_end, page_start}
 use Rattle.tomex_html.specs.declared.links.Links.{Links}
 use Rattle.tomex_animate.specs.Constants.{animate_css, animate_help}
 use Rattle.tomex_snapshots.specs.Entries.{entries_of, history_of}
 use Rattle.tomex_frames.specs.Events.{events}
+use Rattle.tomex_frames.specs.OnPath.{at_cycle, framed_step, path_line}
 use Rattle.tomex_animate.specs.Machine.{cycles_of, index, machine_table}
 use Rattle.tomex_frames.specs.Stations.{register_status, station_table}
 use Rattle.tomex_frames.specs.Status.{status_table}
@@ -29,16 +32,19 @@ links_at page t = record {
   last = page.to;
 }
 
-unfoldable pub frame_head : Span → ℕ → ℕ → List ℕ
-frame_head page total t =
+-- the head of a view, with the path's line
+unfoldable pub frame_head : Span → ℕ → ℕ → List ℕ → List ℕ
+frame_head page total t line =
     (codes "<section id=\"c" ++ (decimal t ++ (codes "\">\n<header><h2>Cycle " ++ (decimal t
     ++ (codes " <small>of " ++ (decimal total ++ codes "</small></h2>\n"))))))
-    ++ (links (links_at page t) ++ codes "</header>\n")
+    ++ (links (links_at page t) ++ (line ++ codes "</header>\n"))
 
--- the view of a cycle
-unfoldable pub frame : Configuration → Span → ℕ → List Entry → ℕ → List ℕ
-frame config page total es t =
-    frame_head page total t ++ (events t es ++ (status_table page es t ++ (station_table config t (history_of es)
+-- the view of a cycle of a run with these steps and this path
+unfoldable pub frame : Configuration → Span → ℕ → List Step → List Link → List Entry → ℕ → List ℕ
+frame config page total steps path es t =
+    let place = at_cycle t path in
+    frame_head page total t (path_line steps t place)
+    ++ (events t es ++ (status_table (framed_step place) page es t ++ (station_table config t (history_of es)
     ++ (register_status t (history_of es) ++ codes "</section>\n"))))
 
 -- the run that the page shows; a study's name is that of the command line
@@ -61,21 +67,21 @@ page_foot config page =
     codes "</main>\n<footer>\n" ++ (machine_table config ++ (index page ++ (animate_help
     ++ (codes "</footer>\n" ++ page_end))))
 
-abbrev pub animate_page : List ℕ → List ℕ → ℕ → Configuration → Span → ℕ → List Entry → List ℕ
-animate_page study program number config page total es =
+abbrev pub animate_page : List ℕ → List ℕ → ℕ → Configuration → Span → ℕ → List Step → List Link → List Entry → List ℕ
+animate_page study program number config page total steps path es =
     page_head study program number page
-    ++ (flat_map (frame config page total es) (cycles_of page) ++ page_foot config page)
+    ++ (flat_map (frame config page total steps path es) (cycles_of page) ++ page_foot config page)
 
 -- from the first cycle on, as many as are asked for, but none after the total
 abbrev pub page_of : ℕ → ℕ → ℕ → Span
 page_of first count total = record { from = first; to = min (first + count - 1) total }
 
--- the text is the page of the cycles that are asked for
+-- the text is the page of the cycles that are asked for; the path is that of the whole run
 pub record IsAnimationOf (study program : List ℕ) (number : ℕ) (config : Configuration) (steps : List Step)
     (first count : ℕ) (text : List ℕ) : Type 0 where
   pub reached : first ≤ total_of (times_in config steps)
   pub is : text ≡ animate_page study program number config (page_of first count (total_of (times_in config steps)))
-      (total_of (times_in config steps)) (entries_of config steps)
+      (total_of (times_in config steps)) steps (path_of config (history config steps)) (entries_of config steps)
 
 -- why there is no page
 abbrev pub IsUnanimated : Configuration → List Step → ℕ → AnimationError → Type 0

@@ -18,6 +18,9 @@ var(--line);border-radius:.3rem}
 .r dt{font-size:.75rem}
 .f>*,.o>*{color:var(--soft)}
 .f td:last-child{color:inherit}
+header>p{flex:1 1 26rem;margin:0 -.4rem}
+header>p>span{padding:.15rem .4rem}
+.p{outline:1.5px solid var(--ink);outline-offset:-1px}
 footer{display:grid;gap:1rem 2.5rem;align-items:start;padding-top:1rem;border-top:1px solid var(--line)}
 footer h2{font-size:.95rem}
 .i{line-height:2}
@@ -44,7 +47,10 @@ station whose result a register waits for. A result on a bus goes to all that wa
 register waits for the youngest instruction issued so far that writes it.</p>
 <p>What an instruction waits for is the first that is wanting: before its issue an older branch, the issue \
 width, a station; before its start an operand, its address, an older access to its bytes, a unit; at last a \
-bus.</p></div>
+bus.</p>
+<p>Each cycle of the run belongs to one instruction, which works in it: its row has a frame. These instructions \
+are the critical path, and their cycles add up to the total. Beside the links stand the cycles that belong to it, \
+after which instruction it could go on, and what it had waited for; (order) is no wait but its turn.</p></div>
 ";
 
 const MACHINE_HEAD: &str = "\

@@ -1,12 +1,13 @@
 //! The page of some cycles of a run.
 
 ghost use Rattle.std.specs.Prelude.{◌≡◌, ◌+◌, ◌-◌, ◌<◌, ◌≤◌, ◌^◌, length, min};
-ghost use Rattle.std.specs.Prelude.{IfErr, IfOk, OnOk, string_bytes};
+ghost use Rattle.std.specs.Prelude.{All, IfErr, IfOk, OnOk, string_bytes};
 ghost use Rattle.tomex_rvexec.specs.Run.{most_steps, start_of};
 ghost use Rattle.tomex_rvexec.specs.Trace.{steps_from};
 ghost use Rattle.tomex_timing.specs.Search.{times_in};
 ghost use Rattle.tomex_csv_text.specs.Growth.{Appends};
 ghost use Rattle.tomex_snapshots.specs.Entries.{entries_of};
+ghost use Rattle.tomex_frames.specs.OnPath.{IsOfRun};
 ghost use Rattle.tomex_animate.specs.declared.animation_error.AnimationError.TheVariants.{PastEnd};
 ghost use Rattle.tomex_animate.specs.Page.{IsAnimationOf, IsUnanimated, animate_page, page_foot, page_head, page_of};
 ghost use Rattle.tomex_animate.specs.Page.{run_named, title_of};
@@ -20,11 +21,12 @@ use std::alloc::{AllocError, Allocator, Global};
 use std::fmt::Write;
 use tomex_config::Config;
 use tomex_html::{push_name, push_page_end, push_page_start};
+use tomex_path::path;
 use tomex_rvexec::Step;
 use tomex_snapshots::{Entry, Span, entries_of};
 use tomex_study::Program;
 use tomex_timing::Times;
-use tomex_timing::evaluate::{times, total, waits};
+use tomex_timing::evaluate::{total, waits};
 
 /// Adds the run that a page shows, without the study's name.
 #[tactic(auto, unfolding(crate::specs::Page::run_named))]
@@ -106,9 +108,11 @@ fn page_text<A: Allocator>(
     number: usize,
     views: &Views<'_>,
 ) -> Result<Vec<u8, A>, AllocError>
-    requires { views.now.page.to < 2 ^ 63 }
+    requires page { views.now.page.to < 2 ^ 63 }
+    requires steps { All (IsOfRun (length views.now.steps.now)) views.now.path.now }
     ensures { IfOk result (λ text. text.items ≡ animate_page study.now program.now number
-        views.now.config.now views.now.page views.now.total views.now.entries.now) }
+        views.now.config.now views.now.page views.now.total views.now.steps.now views.now.path.now
+        views.now.entries.now) }
 {
     let mut text = String::new(alloc);
     push_page_head(&mut text, heap, study, program, number, views.page)?;
@@ -150,8 +154,9 @@ fn page_in(first: u32, count: u32, total: u64) -> Result<Span, AnimationError>
 }
 
 /// The page of at most `count` cycles of a program's run on a configuration, from cycle `first` on: for each cycle what
-/// happens in it, the instruction status, the reservation stations and the register status, with what has changed. The
-/// study's name may be any text; `number` is the configuration's number in the study.
+/// happens in it, the step that has it on the run's critical path, the instruction status, the reservation stations and
+/// the register status, with what has changed. The study's name may be any text; `number` is the configuration's number
+/// in the study.
 ///
 /// A page has 4 to 6.5 KB a cycle on usual machines. Small temporary data is allocated from `heap`.
 pub fn animation<A: Allocator + Clone>(
@@ -172,14 +177,16 @@ pub fn animation<A: Allocator + Clone>(
         (steps_from program.now.limit (start_of program.now.image)) first error) }
 {
     let steps = program.steps();
-    let times = times(alloc.clone()?, steps, config)?;
-    let total = total(times.as_slice());
+    let run = path(alloc.clone()?, program.run(), config)?;
+    let total = total(run.times.as_slice());
     let page = page_in(first, count, total)?;
-    let entries = entries_in(alloc.clone()?, steps, times.as_slice(), config)?;
+    let entries = entries_in(alloc.clone()?, steps, run.times.as_slice(), config)?;
     let views = Views {
         config,
         page,
         total,
+        steps,
+        path: run.links.as_slice(),
         entries: stretch(entries.as_slice(), page),
     };
     Ok(page_text(alloc, heap, study, program.name(), number, &views)?)

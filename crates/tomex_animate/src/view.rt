@@ -1,8 +1,9 @@
 //! The view of a cycle.
 
-ghost use Rattle.std.specs.Prelude.{◌≡◌, ◌<◌, ◌^◌, ◌++◌, OnOk, string_bytes};
+ghost use Rattle.std.specs.Prelude.{◌≡◌, ◌<◌, ◌^◌, ◌++◌, All, IfSome, OnOk, length, string_bytes};
 ghost use Rattle.std.specs.List.{flat_map};
 ghost use Rattle.tomex_csv_text.specs.Growth.{Appends};
+ghost use Rattle.tomex_frames.specs.OnPath.{IsOfRun, at_cycle, framed_step, path_line};
 ghost use Rattle.tomex_animate.specs.Machine.{cycles_of};
 ghost use Rattle.tomex_animate.specs.Page.{frame, frame_head, links_at};
 
@@ -10,9 +11,12 @@ use std::alloc::{AllocError, Allocator, Global};
 use std::fmt::Write;
 use tomex_config::Config;
 use tomex_frames::{
-    Scratch, push_events, push_register_status, push_station_table, push_status_table,
+    OnPath, Scratch, link_at, place_of, push_events, push_path_line, push_register_status,
+    push_station_table, push_status_table,
 };
 use tomex_html::{Links, push_links};
+use tomex_path::Link;
+use tomex_rvexec::Step;
 use tomex_snapshots::{Entry, Span, View};
 
 /// The links of the view of a cycle.
@@ -40,22 +44,26 @@ fn links_at(page: Span, cycle: u64) -> Links
     }
 }
 
-/// Adds the start of a view: its cycle, and the links to others.
+/// Adds the start of a view: its cycle, the links to others, and the path's line.
 #[tactic(auto, unfolding(crate::specs::Page::frame_head))]
 fn push_head<A: Allocator>(
     text: &mut String<A>,
-    page: Span,
-    total: u64,
+    views: &Views<'_>,
+    place: Option<OnPath>,
     cycle: u64,
 ) -> Result<(), AllocError>
-    requires { cycle < 2 ^ 63 }
-    ensures { OnOk result (Appends (frame_head page total cycle) text.old text.new) }
+    requires cycle { cycle < 2 ^ 63 }
+    requires place { IfSome place (λ place. IfSome place.before (IsOfRun (length views.now.steps.now))) }
+    ensures { OnOk result (Appends (frame_head views.now.page views.now.total cycle
+        (path_line views.now.steps.now cycle place)) text.old text.new) }
 {
+    let total = views.total;
     write!(
         text,
         "<section id=\"c{cycle}\">\n<header><h2>Cycle {cycle} <small>of {total}</small></h2>\n"
     )?;
-    push_links(text, links_at(page, cycle))?;
+    push_links(text, links_at(views.page, cycle))?;
+    push_path_line(text, views.steps, cycle, place)?;
     write!(text, "</header>\n")
 }
 
@@ -66,7 +74,21 @@ pub struct Views<'a> {
     pub page: Span,
     /// The cycles of the run.
     pub total: u64,
+    /// The steps of the run, and its critical path.
+    pub steps: &'a [Step],
+    pub path: &'a [Link],
+    /// The steps that the page shows.
     pub entries: &'a [Entry],
+}
+
+/// The number of the step whose row has the frame.
+fn framed_step(place: Option<OnPath>) -> Option<u64>
+    ensures { result ≡ framed_step place }
+{
+    match place {
+        Some(place) => Some(place.link.step),
+        None => None,
+    }
 }
 
 /// Adds the view of a cycle.
@@ -76,17 +98,20 @@ fn push_view<A: Allocator>(
     heap: Global,
     scratch: &mut Scratch,
     views: &Views<'_>,
+    place: Option<OnPath>,
     cycle: u64,
 ) -> Result<(), AllocError>
-    requires { cycle < 2 ^ 63 }
-    ensures { OnOk result (Appends
-        (frame views.now.config.now views.now.page views.now.total views.now.entries.now cycle)
-        text.old text.new) }
+    requires cycle { cycle < 2 ^ 63 }
+    requires place { place ≡ at_cycle cycle views.now.path.now }
+    requires steps { All (IsOfRun (length views.now.steps.now)) views.now.path.now }
+    ensures { OnOk result (Appends (frame views.now.config.now views.now.page views.now.total views.now.steps.now
+        views.now.path.now views.now.entries.now cycle) text.old text.new) }
 {
     let view = View::new(views.entries, cycle);
-    push_head(text, views.page, views.total, cycle)?;
+    let framed = framed_step(place);
+    push_head(text, views, place, cycle)?;
     push_events(text, heap, &view)?;
-    push_status_table(text, views.page, views.entries, cycle)?;
+    push_status_table(text, framed, views.page, views.entries, cycle)?;
     push_station_table(text, scratch, &view, views.config)?;
     push_register_status(text, &view)?;
     write!(text, "</section>\n")
@@ -99,15 +124,19 @@ pub fn push_views<A: Allocator>(
     heap: Global,
     views: &Views<'_>,
 ) -> Result<(), AllocError>
-    requires { views.now.page.to < 2 ^ 63 }
+    requires page { views.now.page.to < 2 ^ 63 }
+    requires steps { All (IsOfRun (length views.now.steps.now)) views.now.path.now }
     ensures { OnOk result (string_bytes text.new ≡ string_bytes text.old
-        ++ flat_map (frame views.now.config.now views.now.page views.now.total views.now.entries.now)
-        (cycles_of views.now.page)) }
+        ++ flat_map (frame views.now.config.now views.now.page views.now.total views.now.steps.now
+        views.now.path.now views.now.entries.now) (cycles_of views.now.page)) }
 {
     let mut scratch = Scratch::new(heap);
+    let mut place = 0;
     let Span { from, to } = views.page;
     for cycle in from..=to {
-        push_view(text, heap, &mut scratch, views, cycle)?;
+        place = place_of(views.path, place, cycle);
+        let here = link_at(views.path, place);
+        push_view(text, heap, &mut scratch, views, here, cycle)?;
     }
     Ok(())
 }

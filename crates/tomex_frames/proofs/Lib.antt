@@ -1,6 +1,11 @@
--- Lemmas of this crate.
+-- Lemmas of this crate, and a worked run.
 mod Counts
 mod Placed
 mod Sums
 mod Views
 mod Waits
+pub mod AtCycle
+mod PathRows
+mod Framed
+mod PathWords
+mod Rows

@@ -1,6 +1,6 @@
 -- What a run's views list, and how often a word is in them.
 use Rattle.std.proofs.Common.{ℕ, ◌+◌, ◌-◌, ◌<◌, ◌≤◌, ◌≡◌, ◌∙◌, ap, subst, sym, true, false, arith, refl}
-use Rattle.std.proofs.Common.{inl, inr, None, List, [], ◌∷◌, ◌++◌, length, max, reverse}
+use Rattle.std.proofs.Common.{inl, inr, Option, None, List, [], ◌∷◌, ◌++◌, length, max, reverse}
 use Rattle.std.specs.Prelude.{All, codes, count_by, nat_le, sum_by}
 use Rattle.std.specs.List.{Contains, filter, flat_map, range_with_len}
 use Rattle.std.specs.Str.{bytes_eq}
@@ -36,7 +36,7 @@ use Rattle.tomex_frames.proofs.Waits.{IsPlaced, after, before, shown_waits}
 -- which steps are listed
 
 -- a step that is there in a cycle of the page
-is_listed : (page : Span) (es : List Entry) (e : Entry) (t : ℕ) → IsOn page t → e.from ≤ t → t ≤ e.at.end
+pub is_listed : (page : Span) (es : List Entry) (e : Entry) (t : ℕ) → IsOn page t → e.from ≤ t → t ≤ e.at.end
     → is_listed_in (listed_cycles page es t) e ≡ true
 is_listed page es e t on from to = elim (cases_Bool (nat_le (count_by (is_listed_in page) es) 16)) [
   | inl few ↦ rw few (and_from _ _ (le-leb e.from page.to (omega (arith, on)))
@@ -44,18 +44,18 @@ is_listed page es e t on from to = elim (cases_Bool (nat_le (count_by (is_listed
   | inr many ↦ rw many (and_from _ _ (le-leb e.from t from) (le-leb (t - 2) e.at.end (omega arith)))
 ]
 
-rows_kept_of : (span : Span) (t : ℕ) (es : List Entry)
-    → flat_map (row_if span t) es ≡ flat_map (step_row t) (filter (is_listed_in span) es)
-rows_kept_of span t [] = refl
-rows_kept_of span t (e ∷ es) = elim (cases_Bool (is_listed_in span e)) [
-  | inl there ↦ rw there (ap (λ (z : List ℕ). step_row t e ++ z) (rows_kept_of span t es))
-  | inr absent ↦ rw absent (rows_kept_of span t es)
+rows_kept_of : (framed : Option ℕ) (span : Span) (t : ℕ) (es : List Entry)
+    → flat_map (row_if framed span t) es ≡ flat_map (step_row framed t) (filter (is_listed_in span) es)
+rows_kept_of framed span t [] = refl
+rows_kept_of framed span t (e ∷ es) = elim (cases_Bool (is_listed_in span e)) [
+  | inl there ↦ rw there (ap (λ (z : List ℕ). step_row framed t e ++ z) (rows_kept_of framed span t es))
+  | inr absent ↦ rw absent (rows_kept_of framed span t es)
 ]
 
 pub rows_are_of_steps : RowsAreOfSteps
 unfolding status_table
-rows_are_of_steps page es t =
-    ap (λ (z : List ℕ). status_head ++ (z ++ table_end)) (rows_kept_of (listed_cycles page es t) t es)
+rows_are_of_steps framed page es t =
+    ap (λ (z : List ℕ). status_head ++ (z ++ table_end)) (rows_kept_of framed (listed_cycles page es t) t es)
 
 pub nothing_is_lost : NothingIsLost
 nothing_is_lost page es e t on there from to =

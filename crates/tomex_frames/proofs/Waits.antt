@@ -51,11 +51,11 @@ module _ (last : ℕ) (e : Entry) (placed : IsPlaced last e) where
   unfolding doing_in
   to_issue t l m = rw (lt-ltb t e.at.issue m, le-leb e.from t l, lt-ltb t e.at.issue m) refl
 
-  for_branch : (t : ℕ) → e.from ≤ t → t < e.from + e.waits.branch → doing_in t e ≡ waits_for causes.Branch
+  pub for_branch : (t : ℕ) → e.from ≤ t → t < e.from + e.waits.branch → doing_in t e ≡ waits_for causes.Branch
   for_branch t l m = to_issue t l (omega (arith, placed.issue, placed.order))
       ∙ rw (lt-ltb (t - e.from) e.waits.branch (omega arith)) refl
 
-  for_width : (t : ℕ) → e.from + e.waits.branch ≤ t → t < e.from + e.waits.branch + e.waits.width
+  pub for_width : (t : ℕ) → e.from + e.waits.branch ≤ t → t < e.from + e.waits.branch + e.waits.width
       → doing_in t e ≡ waits_for causes.Width
   for_width t l m = to_issue t (omega arith) (omega (arith, placed.issue, placed.order))
       ∙ rw (
@@ -63,7 +63,7 @@ module _ (last : ℕ) (e : Entry) (placed : IsPlaced last e) where
         lt-ltb (t - e.from - e.waits.branch) e.waits.width (omega arith),
       ) refl
 
-  for_station : (t : ℕ) → e.from + e.waits.branch + e.waits.width ≤ t → t < e.at.issue
+  pub for_station : (t : ℕ) → e.from + e.waits.branch + e.waits.width ≤ t → t < e.at.issue
       → doing_in t e ≡ waits_for causes.Station
   for_station t l m = to_issue t (omega arith) m
       ∙ rw (
@@ -71,7 +71,7 @@ module _ (last : ℕ) (e : Entry) (placed : IsPlaced last e) where
         le-ltb (t - e.from - e.waits.branch) e.waits.width (omega arith),
       ) refl
 
-  at_issue : (t : ℕ) → e.at.issue ≤ t → t < e.at.issue + 1 → doing_in t e ≡ Some Issues
+  pub at_issue : (t : ℕ) → e.at.issue ≤ t → t < e.at.issue + 1 → doing_in t e ≡ Some Issues
   unfolding doing_in
   at_issue t l m = rw (
     le-ltb t e.at.issue l,
@@ -81,7 +81,8 @@ module _ (last : ℕ) (e : Entry) (placed : IsPlaced last e) where
 
   -- before the start
 
-  computes : (t : ℕ) → e.at.issue < t → t < e.at.start → is_number e.at.address t ≡ true → doing_in t e ≡ Some Computes
+  pub computes : (t : ℕ) → e.at.issue < t → t < e.at.start → is_number e.at.address t ≡ true
+      → doing_in t e ≡ Some Computes
   unfolding doing_in
   computes t l m here = rw (
     le-ltb t e.at.issue (omega arith),
@@ -90,7 +91,7 @@ module _ (last : ℕ) (e : Entry) (placed : IsPlaced last e) where
     here,
   ) refl
 
-  to_start : (t : ℕ) → e.at.issue < t → t < e.at.start → is_number e.at.address t ≡ false
+  pub to_start : (t : ℕ) → e.at.issue < t → t < e.at.start → is_number e.at.address t ≡ false
       → doing_in t e ≡ Some (WaitsFor (start_cause e.waits (t - (e.at.issue + 1))))
   unfolding doing_in
   to_start t l m other = rw (
@@ -127,7 +128,7 @@ module _ (last : ℕ) (e : Entry) (placed : IsPlaced last e) where
   past_address t l = not_address e.at.address t
       (λ a is here. let bound = placed.address a is in absurd (omega (arith, bound)))
 
-  for_memory : (t : ℕ) → ready ≤ t → t < ready + e.waits.memory → doing_in t e ≡ waits_for causes.Memory
+  pub for_memory : (t : ℕ) → ready ≤ t → t < ready + e.waits.memory → doing_in t e ≡ waits_for causes.Memory
   for_memory t l m = to_start t (omega arith) (omega (arith, placed.start)) (past_address t l)
       ∙ rw (
         le-ltb (t - (e.at.issue + 1)) e.waits.operand (omega arith),
@@ -135,7 +136,7 @@ module _ (last : ℕ) (e : Entry) (placed : IsPlaced last e) where
         lt-ltb (t - (e.at.issue + 1) - e.waits.operand - e.waits.address) e.waits.memory (omega arith),
       ) refl
 
-  for_unit : (t : ℕ) → ready + e.waits.memory ≤ t → t < ready + e.waits.memory + e.waits.unit
+  pub for_unit : (t : ℕ) → ready + e.waits.memory ≤ t → t < ready + e.waits.memory + e.waits.unit
       → doing_in t e ≡ waits_for causes.Unit
   for_unit t l m = to_start t (omega arith) (omega (arith, placed.start)) (past_address t (omega arith))
       ∙ rw (
@@ -150,7 +151,8 @@ module _ (last : ℕ) (e : Entry) (placed : IsPlaced last e) where
   started t l = not_address e.at.address t
       (λ a is here. let bound = placed.address a is in absurd (omega (arith, bound)))
 
-  executes : (t : ℕ) → ready + e.waits.memory + e.waits.unit ≤ t → t < e.at.finish + 1 → doing_in t e ≡ Some Executes
+  pub executes : (t : ℕ) → ready + e.waits.memory + e.waits.unit ≤ t → t < e.at.finish + 1
+      → doing_in t e ≡ Some Executes
   unfolding doing_in
   executes t l m = rw (
     le-ltb t e.at.issue (omega arith),
@@ -161,7 +163,7 @@ module _ (last : ℕ) (e : Entry) (placed : IsPlaced last e) where
     le-leb t e.at.finish (omega arith),
   ) refl
 
-  for_bus : (t : ℕ) → e.at.finish + 1 ≤ t → t < e.at.finish + 1 + e.waits.bus → doing_in t e ≡ waits_for causes.Bus
+  pub for_bus : (t : ℕ) → e.at.finish + 1 ≤ t → t < e.at.finish + 1 + e.waits.bus → doing_in t e ≡ waits_for causes.Bus
   unfolding doing_in
   for_bus t l m = rw (
     le-ltb t e.at.issue (omega (arith, placed.begun, placed.finish)),
@@ -174,7 +176,7 @@ module _ (last : ℕ) (e : Entry) (placed : IsPlaced last e) where
     lt-ltb e.at.finish t (omega arith),
   ) refl
 
-  writes : (t : ℕ) → e.at.finish + 1 + e.waits.bus ≤ t → t < e.at.end + 1 → doing_in t e ≡ Some Writes
+  pub writes : (t : ℕ) → e.at.finish + 1 + e.waits.bus ≤ t → t < e.at.end + 1 → doing_in t e ≡ Some Writes
   unfolding doing_in
   writes t l m = rw (
     le-ltb t e.at.issue (omega (arith, placed.begun, placed.finish)),

@@ -1,5 +1,5 @@
 -- Laws of the table of instructions: which steps a view lists, and how often its rows say that a step waits.
-use Rattle.std.specs.Prelude.{ℕ, ◌+◌, ◌<◌, ◌≤◌, ◌≡◌, Bool, List, ◌++◌, All, codes, count_by, sum_by}
+use Rattle.std.specs.Prelude.{ℕ, ◌+◌, ◌<◌, ◌≤◌, ◌≡◌, Bool, List, ◌++◌, All, Option, codes, count_by, sum_by}
 use Rattle.std.specs.List.{Contains, filter, flat_map, range_with_len}
 use Rattle.std.specs.Str.{bytes_eq}
 use Rattle.tomex_steps.specs.declared.step.Step.{Step}
@@ -23,8 +23,8 @@ rows_of page es t = filter (is_listed_in (listed_cycles page es t)) es
 
 -- it has a row for each of them
 abbrev pub RowsAreOfSteps : Type 0
-RowsAreOfSteps = (page : Span) (es : List Entry) (t : ℕ)
-    → status_table page es t ≡ status_head ++ (flat_map (step_row t) (rows_of page es t) ++ table_end)
+RowsAreOfSteps = (framed : Option ℕ) (page : Span) (es : List Entry) (t : ℕ)
+    → status_table framed page es t ≡ status_head ++ (flat_map (step_row framed t) (rows_of page es t) ++ table_end)
 
 -- a cycle is one of a page's
 abbrev pub IsOn : Span → ℕ → Type 0

@@ -1,7 +1,10 @@
-//! Laws of the table of instructions. These functions do nothing: their contracts are the laws.
+//! Laws of the table of instructions, and of the path in views. These functions do nothing: their contracts are the
+//! laws.
 
 ghost use Rattle.tomex_frames.specs.Laws.{NextIsListed, NothingIsLost, RowsAreOfSteps, StepsShowTheirWaits};
 ghost use Rattle.tomex_frames.specs.Laws.{ViewsShowStalls, WaitsComeBeforeIssues};
+ghost use Rattle.tomex_frames.specs.PathLaws.{EachViewHasOneFrame, FramesAddUp, FramesAreCycles};
+ghost use Rattle.tomex_frames.specs.PathLaws.{LineIsMarkedWhereItChanges};
 
 /// Each step is listed in each view from its issue to its end, and before it while it is the next to issue.
 pub fn no_step_is_lost()
@@ -20,4 +23,17 @@ pub fn steps_show_their_waits()
 /// All views of a run say together as often that a step waits as its stalls are.
 pub fn views_show_stalls()
     ensures { ViewsShowStalls }
+{}
+
+/// Each view of a run has a frame round one row, that of the step of the path's link with the cycle, which works in it.
+/// Over a whole run a step has as many frames as its link has cycles, and all frames are the run's cycles.
+pub fn frames_are_cycles()
+    ensures one { EachViewHasOneFrame }
+    ensures steps { FramesAreCycles }
+    ensures all { FramesAddUp }
+{}
+
+/// The path's line is marked exactly in the views in which it says something else than in the view before.
+pub fn line_is_marked_where_it_changes()
+    ensures { LineIsMarkedWhereItChanges }
 {}

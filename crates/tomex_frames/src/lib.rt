@@ -1,5 +1,5 @@
-//! The pieces of a view: what happens in a cycle, the instruction status, the reservation stations and the register
-//! status after it, as HTML, each with what has changed.
+//! The pieces of a view: what happens in a cycle, whose it is on the critical path, the instruction status, the
+//! reservation stations and the register status after it, as HTML, each with what has changed.
 //! Tests: tomex_cases.
 #![tactic(auto)]
 
@@ -8,12 +8,19 @@ mod constants;
 mod doing;
 mod events;
 mod laws;
+mod on_path;
+mod path_line;
 mod registers;
 mod stations;
 mod status;
 
 pub use events::push_events;
-pub use laws::{no_step_is_lost, steps_show_their_waits, views_show_stalls};
+pub use laws::{
+    frames_are_cycles, line_is_marked_where_it_changes, no_step_is_lost, steps_show_their_waits,
+    views_show_stalls,
+};
+pub use on_path::{OnPath, link_at, place_of};
+pub use path_line::push_path_line;
 pub use registers::push_register_status;
 pub use stations::{Scratch, push_station_table};
 pub use status::push_status_table;

@@ -2,6 +2,7 @@
 
 ghost use Rattle.std.specs.Prelude.{◌≡◌, OnOk, count_by};
 ghost use Rattle.std.specs.List.{flat_map};
+ghost use Rattle.tomex_steps.specs.Steps.{is_number};
 ghost use Rattle.tomex_csv_text.specs.Growth.{Appends};
 ghost use Rattle.tomex_snapshots.specs.Entries.{is_listed_in};
 ghost use Rattle.tomex_frames.specs.Status.{listed_cycles, row_cells, row_class, row_head, row_if};
@@ -18,11 +19,23 @@ use tomex_snapshots::{Entry, Span};
 /// The most steps of a table that keeps its rows from view to view.
 const FEW_STEPS: usize = 16;
 
-/// The class of a row: paler before the step's issue and after its end.
-fn row_class(cycle: u64, entry: &Entry) -> &'static str
-    ensures { result.now ≡ row_class cycle entry.now }
+/// True if the step is the one with the frame, by its number.
+fn is_framed(framed: Option<u64>, entry: &Entry) -> bool
+    ensures { result ≡ is_number framed entry.now.number }
 {
-    if cycle < entry.at.issue {
+    match framed {
+        Some(step) => step == entry.number as u64,
+        None => false,
+    }
+}
+
+/// The class of a row: a frame for the step on the path; paler before a step's issue and after its end.
+fn row_class(framed: Option<u64>, cycle: u64, entry: &Entry) -> &'static str
+    ensures { result.now ≡ row_class framed cycle entry.now }
+{
+    if is_framed(framed, entry) {
+        " class=\"p\""
+    } else if cycle < entry.at.issue {
         " class=\"f\""
     } else if entry.at.end < cycle {
         " class=\"o\""
@@ -35,12 +48,13 @@ fn row_class(cycle: u64, entry: &Entry) -> &'static str
 #[tactic(auto, unfolding(crate::specs::Status::row_head))]
 fn push_row_head<A: Allocator>(
     text: &mut String<A>,
+    framed: Option<u64>,
     cycle: u64,
     entry: &Entry,
 ) -> Result<(), AllocError>
-    ensures { OnOk result (Appends (row_head cycle entry.now) text.old text.new) }
+    ensures { OnOk result (Appends (row_head framed cycle entry.now) text.old text.new) }
 {
-    let class = row_class(cycle, entry);
+    let class = row_class(framed, cycle, entry);
     let (number, instr) = (entry.number, entry.step.instr);
     write!(
         text,
@@ -63,11 +77,16 @@ fn push_row_cells<A: Allocator>(
 }
 
 #[tactic(auto, unfolding(crate::specs::Status::step_row))]
-fn push_row<A: Allocator>(text: &mut String<A>, cycle: u64, entry: &Entry) -> Result<(), AllocError>
-    ensures { OnOk result (Appends (step_row cycle entry.now) text.old text.new) }
+fn push_row<A: Allocator>(
+    text: &mut String<A>,
+    framed: Option<u64>,
+    cycle: u64,
+    entry: &Entry,
+) -> Result<(), AllocError>
+    ensures { OnOk result (Appends (step_row framed cycle entry.now) text.old text.new) }
 {
     let words = Words(doing_in(cycle, entry));
-    push_row_head(text, cycle, entry)?;
+    push_row_head(text, framed, cycle, entry)?;
     push_row_cells(text, cycle, entry)?;
     write!(text, "<td>{words}</td></tr>\n")
 }
@@ -99,32 +118,34 @@ fn listed_cycles(page: Span, entries: &[Entry], cycle: u64) -> Span
 /// Adds the rows of the steps that are listed in some of these cycles.
 fn push_rows<A: Allocator>(
     text: &mut String<A>,
+    framed: Option<u64>,
     span: Span,
     cycle: u64,
     entries: &[Entry],
 ) -> Result<(), AllocError>
-    ensures { OnOk result (Appends (flat_map (row_if span cycle) entries.now) text.old text.new) }
+    ensures { OnOk result (Appends (flat_map (row_if framed span cycle) entries.now) text.old text.new) }
 {
     for entry in entries {
         if entry.is_listed_in(span) {
-            push_row(text, cycle, entry)?;
+            push_row(text, framed, cycle, entry)?;
         }
     }
     Ok(())
 }
 
-/// Adds the table of instructions.
+/// Adds the table of instructions. `framed` is the number of the step with the frame.
 #[tactic(auto, unfolding(crate::specs::Status::status_table))]
 pub fn push_status_table<A: Allocator>(
     text: &mut String<A>,
+    framed: Option<u64>,
     page: Span,
     entries: &[Entry],
     cycle: u64,
 ) -> Result<(), AllocError>
-    ensures { OnOk result (Appends (status_table page entries.now cycle) text.old text.new) }
+    ensures { OnOk result (Appends (status_table framed page entries.now cycle) text.old text.new) }
 {
     let span = listed_cycles(page, entries, cycle);
     text.push_str(status_head())?;
-    push_rows(text, span, cycle, entries)?;
+    push_rows(text, framed, span, cycle, entries)?;
     push_table_end(text)
 }

@@ -8,5 +8,6 @@ pub returns : goal.returns
 unfolding frame_head
 returns g c =
     on_ok_weaker c.write-2.result (λ last.
-    (c.in_ok-write.ensures.bytes ▸ (rw c.links_at.ensures at c.in_ok-push_links.ensures) ▸ last_piece last).is)
+    (c.in_ok-write.ensures.bytes ▸ (rw c.links_at.ensures at c.in_ok-push_links.ensures)
+    ▸ c.in_ok-push_path_line.ensures ▸ last_piece last).is)
     c.write-2.ensures.bytes

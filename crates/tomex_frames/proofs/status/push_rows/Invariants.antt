@@ -7,5 +7,5 @@ use Rattle.tomex_frames.proofs.status.push_rows.Given as goal
 
 abbrev pub invariant-loop-entry : goal.invariant-loop-entry
 invariant-loop-entry g l =
-    string_bytes l.text ++ flat_map (row_if l.span l.cycle) (drop l.entry-index l.entries)
-    ≡ string_bytes l.fn.text ++ flat_map (row_if l.span l.cycle) l.entries
+    string_bytes l.text ++ flat_map (row_if l.framed l.span l.cycle) (drop l.entry-index l.entries)
+    ≡ string_bytes l.fn.text ++ flat_map (row_if l.framed l.span l.cycle) l.entries
