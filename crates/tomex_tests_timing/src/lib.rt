@@ -7,6 +7,8 @@ mod floors;
 #[cfg(test)]
 mod needs;
 #[cfg(test)]
+mod path_bounds;
+#[cfg(test)]
 mod paths;
 #[cfg(test)]
 mod reservations;
