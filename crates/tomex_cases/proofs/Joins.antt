@@ -5,20 +5,23 @@ use Rattle.tomex_cases.specs.declared.archive.Part.{Part}
 use Rattle.tomex_cases.specs.Archive.{header, part_text, parts_text}
 
 -- A line from its first characters, and the rest from its last ones.
-pub line-joins : (line rest name start stop : List ℕ) → line ≡ start ++ rest → rest ≡ name ++ stop → line ≡ start ++ name ++ stop
+pub line-joins : (line rest name start stop : List ℕ) → line ≡ start ++ rest → rest ≡ name ++ stop
+    → line ≡ start ++ name ++ stop
 line-joins line rest name start stop h k = h ∙ ap (λ x. start ++ x) k ∙ sym (append_assoc start name stop)
 
 -- A text that begins with a header.
-pub part-joins : (text line after lines rest : List ℕ) (name : List ℕ) → text ≡ line ++ after → line ≡ header name → after ≡ lines ++ rest
-    → text ≡ header name ++ lines ++ rest
+pub part-joins : (text line after lines rest : List ℕ) (name : List ℕ) → text ≡ line ++ after → line ≡ header name
+    → after ≡ lines ++ rest → text ≡ header name ++ lines ++ rest
 part-joins text line after lines rest name h k m =
     h ∙ ap (λ x. x ++ after) k ∙ ap (λ x. header name ++ x) m ∙ sym (append_assoc (header name) lines rest)
 
 -- The parts with one more.
-pub parts-append : (parts : List Part) (part : Part) → parts_text (parts ++ part ∷ []) ≡ parts_text parts ++ part_text part
+pub parts-append : (parts : List Part) (part : Part)
+    → parts_text (parts ++ part ∷ []) ≡ parts_text parts ++ part_text part
 parts-append [] part = append-nil (part_text part)
 parts-append (first ∷ parts) part =
-    ap (λ x. part_text first ++ x) (parts-append parts part) ∙ sym (append_assoc (part_text first) (parts_text parts) (part_text part))
+    ap (λ x. part_text first ++ x) (parts-append parts part)
+    ∙ sym (append_assoc (part_text first) (parts_text parts) (part_text part))
 
 -- A text from its comment, its first parts and the rest.
 abbrev pub HasParts : List ℕ → List Part → List ℕ → Type 0

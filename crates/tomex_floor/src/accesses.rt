@@ -10,8 +10,8 @@ ghost use Rattle.tomex_timing.specs.Recurrence.{conflicts};
 ghost use Rattle.tomex_floor.specs.Floor.{last_finish};
 ghost use Rattle.tomex_timing.specs.Recent.{AreInRange, facts_of};
 ghost use Rattle.tomex_floor.specs.Kept.{AreAfter, AreTouched, finish_of};
-ghost use Rattle.tomex_floor.specs.Kept.{history_after, no_finishes, no_word, raised, shares_some, touched_after, touched_at};
-ghost use Rattle.tomex_floor.specs.Kept.{touched_by, touched_of, waited_for};
+ghost use Rattle.tomex_floor.specs.Kept.{history_after, no_finishes, no_word, raised, shares_some, touched_after};
+ghost use Rattle.tomex_floor.specs.Kept.{touched_at, touched_by, touched_of, waited_for};
 
 use std::alloc::{AllocError, Allocator};
 use std::collections::HashMap;

@@ -1,6 +1,6 @@
 -- A row's flag and record, and the columns of programs.
-use Rattle.std.proofs.Common.{◌≡◌, ℕ, ◌+◌, ◌<◌, arith, ap, sym, refl, ◌∙◌, List, [], ◌∷◌, ◌++◌, Bool, append_assoc, false}
-use Rattle.std.proofs.Common.{get_or, length, map, take}
+use Rattle.std.proofs.Common.{◌≡◌, ℕ, ◌+◌, ◌<◌, arith, ap, sym, refl, ◌∙◌, List, [], ◌∷◌, ◌++◌, Bool, append_assoc}
+use Rattle.std.proofs.Common.{false, get_or, length, map, take}
 use Rattle.std.specs.List.{range_with_len}
 use Rattle.std.proofs.lemmas.List.FromFn.{get_or-map-range_with_len}
 use Rattle.std.proofs.lemmas.List.{map_more}

@@ -120,7 +120,8 @@ all_more visits v was is = rw (is, was) (sym (sum_more visits v))
 pub at_more : (key : Step → ℕ) (visits : List Visit) (v : Visit) (k : ℕ) {got had : Option Group} {now new : Group}
     {at : ℕ} → at ≡ key v.step → got ≡ cond (is_eq (nat_cmp at k)) (Some new) had
     → had ≡ group_of (visits_of key k visits) → now ≡ before (group_of (visits_of key at visits)) v.step
-    → new ≡ record now { sum = sum_after now.sum v.cycles v.waits } → got ≡ group_of (visits_of key k (visits ++ v ∷ []))
+    → new ≡ record now { sum = sum_after now.sum v.cycles v.waits }
+    → got ≡ group_of (visits_of key k (visits ++ v ∷ []))
 at_more key visits v k {had = had} {new = new} {at = at} key_is is was kept made =
     is ∙ (ap (λ (b : Bool). cond b (Some new) had) (same_key at k)
     ∙ (go (at == k) refl ∙ (ap (λ (n : ℕ). cond (n == k)

@@ -8,4 +8,5 @@ loop-rest-init c =
 
 pub loop-rest-preserved : goal.loop-rest-preserved
 loop-rest-preserved c =
-    parts-join _ c.loop-rest.parts.items _ _ c.in-Some.part _ c.loop-rest.invariant c.in-Some.ensures.whole c.in_ok-push.ensures.items
+    parts-join _ c.loop-rest.parts.items _ _ c.in-Some.part _ c.loop-rest.invariant c.in-Some.ensures.whole
+    c.in_ok-push.ensures.items

@@ -8,6 +8,7 @@ use Rattle.tomex_worth.proofs.changes.push_changes_at.Given as goal
 abbrev pub invariant-loop-row : goal.invariant-loop-row
 invariant-loop-row g l =
     l.changes.items ++ map (change (part_at l.place))
-    (filter (λ r. differ_at l.place (config_at l.surveyed l.fn.own.row) (config_at l.surveyed r.row)) (drop l.row-index l.row-items))
+    (filter (λ r. differ_at l.place (config_at l.surveyed l.fn.own.row) (config_at l.surveyed r.row))
+    (drop l.row-index l.row-items))
     ≡ l.fn.changes.items ++ map (change (part_at l.place))
     (filter (λ r. differ_at l.place (config_at l.surveyed l.fn.own.row) (config_at l.surveyed r.row)) l.row-items)

@@ -9,7 +9,8 @@ use Rattle.tomex_worth.proofs.table.push_programs.Goals as goal
 pub returns-in_ok-push_each_program : goal.returns-in_ok-push_each_program
 returns-in_ok-push_each_program g c =
     let several : 1 < length c.args.surveyed.now.programs =
-    subst (λ (ps : List Workload). 1 < length ps) (rw c.study.ensures at c.programs.ensures.value) c.if-programs-gt1.true in
+    subst (λ (ps : List Workload). 1 < length ps) (rw c.study.ensures at c.programs.ensures.value)
+    c.if-programs-gt1.true in
     c.in_ok-push_each_program.ensures
     ∙ ap (λ (more : List TableColumn). c.args.columns.now.items ++ more)
     (several_columns c.args.surveyed.now c.args.machine.own several)
