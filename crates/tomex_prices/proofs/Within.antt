@@ -5,7 +5,7 @@ use Rattle.tomex_spans.specs.declared.line_row.LineRow.{LineRow}
 use Rattle.tomex_spans.specs.declared.spans.ValueSpan.{ValueSpan}
 use Rattle.tomex_spans.specs.Spans.{holds, span, stays}
 use Rattle.tomex_spans.proofs.AllRivals.{numbered_at, on_front_stays}
-use Rattle.tomex_spans.proofs.Ends.{some_end, stays_at_last, stays_is}
+use Rattle.tomex_spans.proofs.Ends.{some_end, stays_is}
 use Rattle.tomex_prices.specs.declared.price.TheConstants.{GREATEST_PRICE}
 use Rattle.tomex_prices.specs.Interval.{interval, is_within, range_of}
 use Rattle.tomex_prices.specs.Laws.{IsOnFrontExactlyWithin, StaysExactlyWithin}
@@ -13,7 +13,7 @@ use Rattle.tomex_prices.specs.Laws.{IsOnFrontExactlyWithin, StaysExactlyWithin}
 range_holds : (s : ValueSpan) (q : ℕ) → 0 < s.end → is_within (range_of s) q ≡ holds s q
 range_holds s q some = grind (arith, nat_tests)
 
-last_is : (s : ValueSpan) → 0 < s.end → suc (range_of s).most ≡ s.end
+pub last_is : (s : ValueSpan) → 0 < s.end → suc (range_of s).most ≡ s.end
 last_is s some = grind (arith, nat_tests)
 
 pub exactly_within : StaysExactlyWithin
@@ -21,13 +21,6 @@ exactly_within now q rows r few here =
     let s = span 0 GREATEST_PRICE r rows in
     sym (range_holds s q (some_end 0 GREATEST_PRICE now rows r (omega arith) here)
     ∙ stays_is 0 GREATEST_PRICE q rows r (omega arith) few)
-
--- and at the last of them
-pub stays_at_most : (now : ℕ) (rows : List LineRow) (r : LineRow) → stays now rows r ≡ true
-    → now ≤ (interval r rows).most → stays (interval r rows).most rows r ≡ true
-stays_at_most now rows r here later =
-    stays_at_last 0 GREATEST_PRICE now rows r (omega arith) here (interval r rows).most
-    (last_is (span 0 GREATEST_PRICE r rows) (some_end 0 GREATEST_PRICE now rows r (omega arith) here)) later
 
 pub on_front_within : IsOnFrontExactlyWithin
 on_front_within now q rows r few numbered one here =

@@ -8,3 +8,4 @@ pub mod EqualTimes
 pub mod NewCosts
 pub mod Parts
 pub mod Factors
+pub mod Shares

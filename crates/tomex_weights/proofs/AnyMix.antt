@@ -17,7 +17,8 @@ use Rattle.tomex_study.specs.Program.{Workload}
 use Rattle.tomex_study.specs.Study.{DesignSpace, IsStudy}
 use Rattle.tomex_study.specs.StudyFront.{all_rows}
 use Rattle.tomex_weights.specs.AllWeights.{Factors, StaysAtAnyMix}
-use Rattle.tomex_weights.proofs.Percentage.{new_cost, on_is, turned}
+use Rattle.tomex_weights.proofs.Percentage.{new_cost, on_is}
+use Rattle.tomex_weights.proofs.Recycled.{turned}
 
 -- sums of terms each of which is less, or no more
 

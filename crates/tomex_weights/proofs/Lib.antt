@@ -7,7 +7,9 @@ pub mod SmallRows
 pub mod Places
 pub mod Listing
 pub mod Coming
+pub mod Recycled
 pub mod Percentage
+pub mod Together
 pub mod Differences
 pub mod AnyMix
 pub mod TableRows

@@ -1,25 +1,22 @@
 -- All weights wrong at once: a row of the front stays within its percentage, and with one percent more it may not.
-use Rattle.std.proofs.Common.{◌≡◌, ◌∙◌, ◌*◌, ◌+◌, ◌==◌, ℕ, ap, refl, subst, sym, List, [], ◌∷◌, map, min}
+use Rattle.std.proofs.Common.{◌≡◌, ◌∙◌, ◌*◌, ◌+◌, ℕ, ap, refl, subst, sym, List, [], ◌∷◌, map, min}
 use Rattle.std.specs.Prelude.{sum_by}
-use Rattle.std.specs.List.{Contains}
-use Rattle.tomex_pareto.specs.Front.{front_of, is_undominated}
-use Rattle.tomex_pareto.specs.Pareto.{AreNumbered}
+use Rattle.tomex_pareto.specs.Front.{is_undominated}
 use Rattle.tomex_pareto.specs.declared.front_row.FrontRow.{FrontRow}
-use Rattle.tomex_pareto.proofs.OnFront.{contains_map, distinct_map, on_front}
-use Rattle.tomex_pareto.proofs.Pareto.{Has, IsFree, among, apart, front_is, has_contains}
-use Rattle.tomex_pareto.proofs.Rows.{rows_apart, rows_numbered}
+use Rattle.tomex_pareto.proofs.Pareto.{Has, among, has_contains}
 use Rattle.tomex_spans.specs.Percent.{AreWithin, difference_of, least_of, percent_by}
 use Rattle.tomex_spans.specs.Spans.{swapped}
 use Rattle.tomex_spans.proofs.Factors as spans
 use Rattle.tomex_spans.proofs.NewCosts.{costed}
-use Rattle.tomex_spans.proofs.Swapped.{free_swapped, has_swapped, swapped_back, undominated_swapped}
-use Rattle.tomex_study.specs.Cycles.{cycles_of, cycles_on, total_at}
+use Rattle.tomex_spans.proofs.Swapped.{free_swapped, has_swapped, swapped_back}
+use Rattle.tomex_study.specs.Cycles.{cycles_on, total_at}
 use Rattle.tomex_study.specs.Program.{Workload}
 use Rattle.tomex_study.specs.Study.{DesignSpace, IsStudy}
-use Rattle.tomex_study.specs.StudyFront.{all_rows, front_of_study}
+use Rattle.tomex_study.specs.StudyFront.{all_rows}
 use Rattle.tomex_weights.specs.AllWeights.{Factors, IsStatedAtHundred, LeavesBeyondPercent, StaysIfHundred}
-use Rattle.tomex_weights.specs.AllWeights.{StaysWithinPercent, is_on_at, row_times}
+use Rattle.tomex_weights.specs.AllWeights.{StaysWithinPercent, is_on_at}
 use Rattle.tomex_weights.specs.Percent.{difference, percent_of}
+use Rattle.tomex_weights.proofs.Recycled.{front_free, on_recycled, turned}
 use Rattle.tomex_weights.proofs.SmallRows.{row_of}
 
 -- a study's weights as amounts, and a program's cycles as how often a row has them
@@ -29,10 +26,6 @@ weight p = p.weight
 
 abbrev pub taken : DesignSpace → Workload → FrontRow → ℕ
 taken s p r = total_at s p r.row
-
--- all rows, with their cycles as costs
-abbrev pub turned : DesignSpace → List FrontRow
-turned s = map swapped (all_rows s)
 
 pub sums : (s : DesignSpace) → IsStudy s → (x : FrontRow) → Has (turned s) x
     → sum_by (λ p. weight p * taken s p x) s.programs ≡ x.cost
@@ -55,33 +48,13 @@ percent_is s r is = least_map
 
 -- on the front as stated, and at factors
 
-front_free : (s : DesignSpace) (r : FrontRow) → Contains (front_of_study s) r
-    → Has (all_rows s) r × IsFree (all_rows s) r
-unfolding front_of_study
-front_free s r one = (front_is (all_rows s) (rows_apart 0 s.costs (cycles_of s))).only r
-    (among (front_of (all_rows s)) r one)
-
 module _ (factors : Factors) (s : DesignSpace) (is : IsStudy s) where
   abbrev pub new_cost : FrontRow → ℕ
   new_cost = spans.cost_at weight (taken s) s.programs (turned s) (sums s is) factors
 
-  both_maps : (whole rows : List FrontRow)
-      → map swapped (map (row_times factors s) rows) ≡ map (costed new_cost whole) (map swapped rows)
-  both_maps whole [] = refl
-  both_maps whole (r ∷ rs) = ap (λ (xs : List FrontRow). swapped (row_times factors s r) ∷ xs) (both_maps whole rs)
-
   pub on_is : (r : FrontRow) → Has (all_rows s) r → is_on_at factors s r
       ≡ is_undominated (map (costed new_cost (turned s)) (turned s)) (costed new_cost (turned s) (swapped r))
-  on_is r one =
-      let rows = map (row_times factors s) (all_rows s) in
-      let numbered : AreNumbered rows = subst (λ (T : Type 0). T)
-      (sym (distinct_map (λ (a b : FrontRow). a.row == b.row) (row_times factors s) (all_rows s)))
-      (rows_numbered s.costs (cycles_of s)) in
-      on_front rows (row_times factors s r) (apart rows numbered) (among rows (row_times factors s r)
-      (contains_map (row_times factors s) (all_rows s) r (has_contains (all_rows s) r one)))
-      ∙ (sym (undominated_swapped rows (row_times factors s r))
-      ∙ ap (λ (xs : List FrontRow). is_undominated xs (swapped (row_times factors s r)))
-      (both_maps (turned s) (all_rows s)))
+  on_is r one = on_recycled new_cost s r one
 
 pub stays_within : StaysWithinPercent
 stays_within s factors r is one within =

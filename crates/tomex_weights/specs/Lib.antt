@@ -7,5 +7,6 @@ pub mod Listed
 pub mod Laws
 pub mod Percent
 pub mod AllWeights
+pub mod Together
 pub mod Texts
 pub mod WeightsTable

@@ -4,6 +4,7 @@ ghost use Rattle.tomex_weights.specs.AllWeights.{IsStatedAtHundred, LeavesBeyond
 ghost use Rattle.tomex_weights.specs.AllWeights.{StaysIfHundred, StaysWithinPercent};
 ghost use Rattle.tomex_weights.specs.Laws.{HoldsAllIfIrrelevant, HoldsStated, HoldsWhole, IsOnExactlyWithin};
 ghost use Rattle.tomex_weights.specs.Laws.{ListsAllThatCome, ListsNoOthers};
+ghost use Rattle.tomex_weights.specs.Together.{IsStatedAtStated, StaysByShares};
 
 /// A row is on the front of the study with one weight replaced exactly if the new weight is in the row's span.
 pub fn on_front_exactly_within()
@@ -45,4 +46,11 @@ pub fn all_weights_may_be_wrong_by_the_percentage()
 /// each program, and each that costs as much no fewer.
 pub fn best_rows_stay_at_any_mix()
     ensures { StaysAtAnyMix }
+{}
+
+/// If several weights move at once, each by a share of the way to an end of its span, and the shares add up to no more
+/// than the whole way, a row of the front stays on it. Weights are in hundredths.
+pub fn weights_may_move_by_shares()
+    ensures stays { StaysByShares }
+    ensures stated { IsStatedAtStated }
 {}
