@@ -1,10 +1,10 @@
 -- Each view has one frame, round a step that works.
-use Rattle.std.proofs.Common.{ℕ, zero, suc, ◌+◌, ◌-◌, ◌<◌, ◌≤◌, ◌≡◌, ◌∙◌, ap, sym, Bool, true, false, arith}
+use Rattle.std.proofs.Common.{ℕ, zero, suc, ◌+◌, ◌-◌, ◌<◌, ◌≤◌, ◌≡◌, ◌∙◌, ap, subst, sym, Bool, true, false, arith}
 use Rattle.std.proofs.Common.{refl, inl, inr, List, [], ◌∷◌, Option, Some, None, length}
-use Rattle.std.specs.Prelude.{◌==◌, ◌&&◌, count_by, is_some, nat_le, sum_by}
+use Rattle.std.specs.Prelude.{◌==◌, ◌&&◌, ◌||◌, All, count_by, is_some, nat_le, sum_by}
 use Rattle.std.specs.List.{filter, range_with_len}
 use Rattle.std.proofs.lemmas.Bool.{and_parts, and_right, cases_lt, eq-eqb, eqb-true, le-leb, leb-true, lt-leb, or_cases}
-use Rattle.std.proofs.lemmas.List.Elements.{All-contains, All-from_recursion, recursion_from_All}
+use Rattle.std.proofs.lemmas.List.Elements.{All-contains, All-from_recursion, All-weaker, recursion_from_All}
 use Rattle.std.proofs.lemmas.List.Sums.{sum_by-cons}
 use Rattle.tomex_steps.specs.Steps.{is_number, step_dest, step_unit}
 use Rattle.tomex_steps.specs.declared.step.Step.{Step}
@@ -27,16 +27,17 @@ use Rattle.tomex_path.proofs.Works.{events_are_held}
 use Rattle.tomex_snapshots.specs.Entries.{entries_of, is_listed_in}
 use Rattle.tomex_snapshots.specs.declared.entries.Entry.{Entry}
 use Rattle.tomex_snapshots.specs.declared.entries.Span.{Span}
-use Rattle.tomex_frames.specs.Cells.{doing_in}
+use Rattle.tomex_frames.specs.Cells.{doing_in, doing_text}
 use Rattle.tomex_frames.specs.Laws.{IsOn, rows_of}
 use Rattle.tomex_frames.specs.OnPath.{at_cycle, framed_step}
-use Rattle.tomex_frames.specs.PathLaws.{EachViewHasOneFrame, FramesAddUp, FramesAreCycles, cycles_in, framed_rows}
-use Rattle.tomex_frames.specs.PathLaws.{frames_of, is_work, run_path}
+use Rattle.tomex_frames.specs.PathLaws.{EachViewHasOneFrame, FramesAddUp, FramesAreCycles, LineIsTheWaitBefore}
+use Rattle.tomex_frames.specs.PathLaws.{SaysBefore, SaysWait, cycles_in, framed_rows, frames_of, is_work, run_path}
 use Rattle.tomex_frames.specs.Status.{listed_cycles}
 use Rattle.tomex_frames.specs.declared.on_path.OnPath.{OnPath}
 use Rattle.tomex_frames.proofs.Counts.{cut, same}
 use Rattle.tomex_frames.proofs.AtCycle.{HasItsCycles, IsHere, all_both, chain_at, has_step, have_cycles, is_own}
 use Rattle.tomex_frames.proofs.PathRows.{IsLinkOf, links_of_steps, one_kept, row_of, timed_at}
+use Rattle.tomex_frames.proofs.PathWaits.{event_says}
 use Rattle.tomex_frames.proofs.Placed.{entry_at, placed}
 use Rattle.tomex_frames.proofs.Views.{is_listed}
 use Rattle.tomex_frames.proofs.Waits.{IsPlaced, after, at_issue, before, computes, executes, writes}
@@ -137,7 +138,7 @@ module _ (config : Configuration) (steps : List Step) (good : IsWithinLimits con
       let first : l.from ≡ (hold_by config of.by of.older of.d).from = ap (λ (k : Link). k.from) of.is in
       let last : l.to ≡ cycle_at (event_of of.by) of.d.at = ap (λ (k : Link). k.to) of.is in
       let held = events_are_held config (event_of of.by) of.d of.older good timed
-      (later config good of.older of.d timed of.by of.first) in
+      (later config good of.older of.d timed of.by of.passes) in
       work_shown of.d.at.end row
       (placed config of.older of.d (length of.older + 1) of.d.at.end good timed (omega arith)) of.d t refl low
       (held.work t (omega (arith, first)) (omega (arith, last)))
@@ -264,3 +265,25 @@ frames_are_cycles config steps page good on =
     (λ l. frames_of path page (entries_of config steps) total l.step ≡ cycles_of l)
     (λ l is owns. frames_of_link config steps page good on l owns is.from is.order is.to) path
     (recursion_from_All (IsWithin (length steps) total) path within) has)
+
+-- what a row says before a link
+
+pub line_is_the_wait_before : LineIsTheWaitBefore
+line_is_the_wait_before config steps good =
+    All-weaker (IsLinkOf config (history config steps)) (SaysBefore (entries_of config steps)) says
+    (run_path config steps) (links_of_steps config (history config steps))
+  where
+    says : (l : Link) → IsLinkOf config (history config steps) l → SaysBefore (entries_of config steps) l
+    says l of =
+        let timed = timed_at config steps of.newer of.older of.d good of.split in
+        let n : ℕ = length of.older + 1 in
+        let row : Entry = entry_at n config of.older of.d in
+        let is_placed = placed config of.older of.d n of.d.at.end good timed (omega arith) in
+        let step : l.step ≡ n = ap (λ (k : Link). k.step) of.is in
+        record {
+          row = row;
+          is = ap (λ (m : ℕ). filter (λ e. m == e.number) (entries_of config steps)) step
+              ∙ row_of config steps of.newer of.older of.d good of.split;
+          says = subst (λ (k : Link). SaysWait k.reason (doing_text (doing_in (k.from - 1) row))) (sym of.is)
+              (event_says config of.older of.d n is_placed (event_of of.by));
+        }

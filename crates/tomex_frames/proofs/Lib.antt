@@ -6,6 +6,7 @@ mod Views
 mod Waits
 pub mod AtCycle
 mod PathRows
+mod PathWaits
 mod Framed
 mod PathWords
 mod Rows

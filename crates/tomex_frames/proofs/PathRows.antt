@@ -1,5 +1,5 @@
 -- The row of a link's step among those of the run.
-use Rattle.std.proofs.Common.{ℕ, ◌+◌, ◌<◌, ◌≤◌, ◌≡◌, ◌∙◌, ap, subst, sym, Bool, true, false, arith, refl, inl, inr}
+use Rattle.std.proofs.Common.{ℕ, ◌+◌, ◌<◌, ◌≤◌, ◌≡◌, ◌≢◌, ◌∙◌, ap, subst, sym, Bool, true, false, arith, refl, inl, inr}
 use Rattle.std.proofs.Common.{List, [], ◌∷◌, ◌++◌, append_assoc, length, reverse}
 use Rattle.std.specs.Prelude.{◌==◌, All}
 use Rattle.std.specs.List.{AllByRecursion, filter}
@@ -15,6 +15,8 @@ use Rattle.tomex_timing.specs.declared.part.Waits.{Waits}
 use Rattle.tomex_timing.specs.declared.times.Done.{Done}
 use Rattle.tomex_timing.specs.declared.times.Times.{Times}
 use Rattle.tomex_timing.proofs.Histories.{are_timed, history_more, length-history}
+use Rattle.tomex_path.specs.declared.event.Holder.{Holder}
+use Rattle.tomex_path.specs.declared.event.Holder.TheVariants.{Last}
 use Rattle.tomex_path.specs.declared.link.Link.{Link}
 use Rattle.tomex_path.specs.Holds.{passes}
 use Rattle.tomex_path.specs.Path.{hold_by, link_of, links, path_of}
@@ -47,20 +49,13 @@ one_kept p q xs x is kept = filter_both p q xs ∙ rw (is, kept) refl
 
 -- the step of a link
 
--- what a holder is: its type is tomex_path's own
-abbrev pub domain_of : {A B : Type 0} → (A → B) → Type 0
-domain_of {A = A} {B = B} f = A
-
-abbrev pub Holder : Type 0
-Holder = domain_of passes
-
 pub record IsLinkOf (config : Configuration) (h : List Done) (l : Link) : Type 0 where
   pub by : Holder
   pub newer : List Done
   pub d : Done
   pub older : List Done
   pub split : h ≡ newer ++ (d ∷ older)
-  pub first : passes by older d ≡ true
+  pub passes : passes by older d ≡ true
   pub is : l ≡ link_of config by older d
 
 are_links : (config : Configuration) (by : Holder) (h newer whole : List Done) → whole ≡ newer ++ h
@@ -70,7 +65,7 @@ are_links config by (d ∷ older) newer whole split =
     let more : whole ≡ (newer ++ (d ∷ [])) ++ older = split ∙ sym (append_assoc newer (d ∷ []) older) in
     elim (cases_Bool (passes by older d)) [
       | inl first ↦ rw first (
-        record { by = by; newer = newer; d = d; older = older; split = split; first = first; is = refl },
+        record { by = by; newer = newer; d = d; older = older; split = split; passes = first; is = refl },
         are_links config (hold_by config by older d).by older (newer ++ (d ∷ [])) whole more,
       )
       | inr other ↦ rw other (are_links config by older (newer ++ (d ∷ [])) whole more)
@@ -84,7 +79,7 @@ all_turned P (l ∷ ls) a =
 
 pub links_of_steps : (config : Configuration) (h : List Done) → All (IsLinkOf config h) (path_of config h)
 links_of_steps config h =
-    all_turned (IsLinkOf config h) _ (are_links config _ h [] h refl)
+    all_turned (IsLinkOf config h) (links config Last h) (are_links config Last h [] h refl)
 
 pub timed_older : (config : Configuration) (newer rest : List Done) → AreTimed config (newer ++ rest)
     → AreTimed config rest

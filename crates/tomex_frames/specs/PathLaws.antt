@@ -1,6 +1,6 @@
--- Laws of the path in views: each view has one frame, and its line is marked where it changes.
-use Rattle.std.specs.Prelude.{ℕ, ◌+◌, ◌<◌, ◌≤◌, ◌≡◌, ◌≢◌, ◌==◌, Bool, true, false, All, List, [], ◌∷◌}
-use Rattle.std.specs.Prelude.{count_by, length, Option, Some, None, sum_by}
+-- Laws of the path in views: each view has one frame, and the line says what the view before its first cycle shows.
+use Rattle.std.specs.Prelude.{ℕ, ◌+◌, ◌-◌, ◌<◌, ◌≤◌, ◌≡◌, ◌≢◌, ◌==◌, ◌⊎◌, Bool, true, false, All, List, [], ◌∷◌, ◌++◌}
+use Rattle.std.specs.Prelude.{codes, count_by, length, Option, Some, None, sum_by}
 use Rattle.std.specs.List.{Contains, filter, range_with_len}
 use Rattle.tomex_steps.specs.Steps.{is_number}
 use Rattle.tomex_steps.specs.declared.step.Step.{Step}
@@ -8,14 +8,16 @@ use Rattle.tomex_rvexec.specs.Run.{most_steps}
 use Rattle.tomex_config.specs.Configuration.{Configuration, IsWithinLimits}
 use Rattle.tomex_timing.specs.Search.{history, times_in, total_of}
 use Rattle.tomex_path.specs.declared.link.Link.{Link}
+use Rattle.tomex_path.specs.declared.reason.Reason.{Reason}
+use Rattle.tomex_path.specs.declared.reason.Reason.TheVariants as reasons
 use Rattle.tomex_path.specs.Laws.{cycles_of}
 use Rattle.tomex_path.specs.Path.{path_of}
 use Rattle.tomex_snapshots.specs.Entries.{entries_of}
 use Rattle.tomex_snapshots.specs.declared.entries.Entry.{Entry}
 use Rattle.tomex_snapshots.specs.declared.entries.Span.{Span}
-use Rattle.tomex_frames.specs.Cells.{doing_in}
+use Rattle.tomex_frames.specs.Cells.{doing_in, doing_text}
 use Rattle.tomex_frames.specs.Laws.{IsOn, rows_of}
-use Rattle.tomex_frames.specs.OnPath.{at_cycle, begins, framed_step, path_words}
+use Rattle.tomex_frames.specs.OnPath.{at_cycle, begins, framed_step, path_words, reason_word}
 use Rattle.tomex_frames.specs.declared.doing.Doing.{Doing}
 use Rattle.tomex_frames.specs.declared.doing.Doing.TheVariants.{Issues, Computes, Executes, Writes, Waits as WaitsFor}
 use Rattle.tomex_frames.specs.declared.on_path.OnPath.{OnPath}
@@ -74,6 +76,26 @@ FramesAddUp = (config : Configuration) (steps : List Step) (page : ℕ → Span)
     → ((t : ℕ) → IsOn (page t) t)
     → sum_by (λ t. length (framed_rows (run_path config steps) (page t) (entries_of config steps) t))
     (range_with_len 1 (cycles_in config steps)) ≡ cycles_in config steps
+
+-- What a row says in the cycle before its step's link: that it waits for the link's reason. A step in its turn waits
+-- for nothing, one that waits for an older access's address may lack an operand too, and an operand may come in the
+-- step's own address cycle.
+abbrev pub SaysWait : Reason → List ℕ → Type 0
+SaysWait reasons.Order words = Unit {0}
+SaysWait reasons.Address words = Unit {0}
+SaysWait reasons.Operand words =
+    (words ≡ codes "waits: " ++ reason_word reasons.Operand) ⊎ (words ≡ codes "address")
+SaysWait reason words = words ≡ codes "waits: " ++ reason_word reason
+
+-- each link's step has one row among those of the run, which says in the view before the link what the line will say
+pub record SaysBefore (es : List Entry) (l : Link) : Type 0 where
+  pub row : Entry
+  pub is : filter (λ e. l.step == e.number) es ≡ row ∷ []
+  pub says : SaysWait l.reason (doing_text (doing_in (l.from - 1) row))
+
+abbrev pub LineIsTheWaitBefore : Type 0
+LineIsTheWaitBefore = (config : Configuration) (steps : List Step) → IsWithinLimits config
+    → All (SaysBefore (entries_of config steps)) (run_path config steps)
 
 -- The line is marked exactly in the views in which it says something else than in the view before.
 abbrev pub LineIsMarkedWhereItChanges : Type 0

@@ -4,7 +4,7 @@
 ghost use Rattle.tomex_frames.specs.Laws.{NextIsListed, NothingIsLost, RowsAreOfSteps, StepsShowTheirWaits};
 ghost use Rattle.tomex_frames.specs.Laws.{ViewsShowStalls, WaitsComeBeforeIssues};
 ghost use Rattle.tomex_frames.specs.PathLaws.{EachViewHasOneFrame, FramesAddUp, FramesAreCycles};
-ghost use Rattle.tomex_frames.specs.PathLaws.{LineIsMarkedWhereItChanges};
+ghost use Rattle.tomex_frames.specs.PathLaws.{LineIsMarkedWhereItChanges, LineIsTheWaitBefore};
 
 /// Each step is listed in each view from its issue to its end, and before it while it is the next to issue.
 pub fn no_step_is_lost()
@@ -33,7 +33,9 @@ pub fn frames_are_cycles()
     ensures all { FramesAddUp }
 {}
 
-/// The path's line is marked exactly in the views in which it says something else than in the view before.
-pub fn line_is_marked_where_it_changes()
-    ensures { LineIsMarkedWhereItChanges }
+/// What the path's line says that its step had waited for, the step's row says in the view before the link's first
+/// cycle, and the line is marked exactly where it changes.
+pub fn line_is_the_wait_before()
+    ensures wait { LineIsTheWaitBefore }
+    ensures marked { LineIsMarkedWhereItChanges }
 {}

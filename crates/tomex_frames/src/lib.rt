@@ -16,7 +16,7 @@ mod status;
 
 pub use events::push_events;
 pub use laws::{
-    frames_are_cycles, line_is_marked_where_it_changes, no_step_is_lost, steps_show_their_waits,
+    frames_are_cycles, line_is_the_wait_before, no_step_is_lost, steps_show_their_waits,
     views_show_stalls,
 };
 pub use on_path::{OnPath, link_at, place_of};

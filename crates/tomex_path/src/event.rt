@@ -15,7 +15,7 @@ use tomex_timing::{Tag, Times};
 
 /// The events of a step.
 #[derive(Clone, Copy)]
-pub(crate) enum Event {
+pub enum Event {
     Issue,
     Address,
     Start,
@@ -25,14 +25,14 @@ pub(crate) enum Event {
 
 /// An access to memory: its bytes, if there are any, and whether it is a store.
 #[derive(Clone, Copy)]
-pub(crate) struct Access {
+pub struct Access {
     pub bytes: Option<ByteRange>,
     pub is_store: bool,
 }
 
 /// The step that has the event that holds another: of the older steps the youngest of this kind.
 #[derive(Clone, Copy)]
-pub(crate) enum Holder {
+pub enum Holder {
     /// One that ends later than each older step.
     Last,
     /// The first that issues in a cycle.
@@ -132,7 +132,7 @@ impl Holder {
     }
 
     /// True if a step is of this kind.
-    pub fn is(self, seen: &Seen) -> bool
+    pub(crate) fn is(self, seen: &Seen) -> bool
         ensures { (config : Configuration) (older : List Done) (d : Done) → seen.now ≡ seen_of config older d
             → result ≡ passes self older d }
     {

@@ -18,7 +18,7 @@ use tomex_timing::{Part, Tag};
 
 /// Why an event comes no earlier.
 #[derive(Clone, Copy)]
-pub(crate) struct Hold {
+pub struct Hold {
     pub reason: Reason,
     /// The first cycle after the event that holds it.
     pub from: u64,

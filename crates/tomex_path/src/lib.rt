@@ -14,6 +14,8 @@ mod note;
 mod reason;
 mod walk;
 
+pub use event::{Access, Event, Holder};
+pub use hold::Hold;
 pub use laws::{
     events_are_held, free_path_takes_the_floor, path_adds_up, path_bounds_what_a_machine_saves,
     path_waits_are_stalls,
