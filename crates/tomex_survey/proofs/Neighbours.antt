@@ -9,7 +9,7 @@ use Rattle.std.proofs.Math.Seq.{take-add}
 use Rattle.std.proofs.lemmas.List.{append-nil, drop-drop, get_or-map, length-map, map-append, take_all, take_more}
 use Rattle.std.proofs.lemmas.Nat.{le-div}
 use Rattle.tomex_survey.specs.Stretches.{IsWithin, in_stretch, stretch_of, stretches_of}
-use Rattle.tomex_survey.specs.declared.stretches.Stretch.{Stretch}
+use Rattle.tomex_survey.specs.declared.stretch.Stretch.{Stretch}
 
 div_grows : (a b w : ℕ) → 0 < w → a ≤ b → a / w ≤ b / w
 div_grows a b w some more =

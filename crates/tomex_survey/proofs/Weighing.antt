@@ -19,7 +19,7 @@ use Rattle.tomex_study.specs.Surveyed.{AreTotalsOf}
 use Rattle.std.specs.List.{AllZip, flat_map}
 use Rattle.std.specs.declared.vec.Vec.{Vec}
 use Rattle.tomex_survey.specs.Stretches.{AreTotalsIn, in_stretch, stretches_of}
-use Rattle.tomex_survey.specs.declared.stretches.Stretch.{Stretch}
+use Rattle.tomex_survey.specs.declared.stretch.Stretch.{Stretch}
 use Rattle.tomex_survey.proofs.Neighbours.{all_stretches, put_together, same_at}
 
 -- there are as many totals as rows

@@ -3,7 +3,7 @@ use Rattle.std.specs.Prelude.{◌≡◌, ℕ, ◌+◌, ◌*◌, ◌/◌, ◌≤�
 use Rattle.std.specs.List.{range_with_len, slice_range}
 use Rattle.tomex_study.specs.Cycles.{totals_on}
 use Rattle.tomex_study.specs.Study.{DesignSpace}
-use Rattle.tomex_survey.specs.declared.stretches.Stretch.{Stretch}
+use Rattle.tomex_survey.specs.declared.stretch.Stretch.{Stretch}
 
 -- the rows of the k-th worker, given the numbers of rows and of workers
 abbrev pub stretch_of : ℕ → ℕ → ℕ → Stretch

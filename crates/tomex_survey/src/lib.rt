@@ -4,8 +4,11 @@
 #![tactic(auto)]
 
 mod rows;
-mod stretches;
+mod stretch;
 mod surveying;
 mod totals;
 
-pub use surveying::survey;
+pub use rows::cycles_by_weight;
+pub use stretch::{Stretch, stretches};
+pub use surveying::{survey, surveyed};
+pub use totals::totals_on_row;

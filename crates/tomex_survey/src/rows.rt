@@ -12,7 +12,7 @@ use tomex_pareto::FrontRow;
 use tomex_study::{Program, Study};
 
 /// The cycles of a configuration on which the programs have these totals: each times its weight.
-fn cycles_by_weight<A: Allocator>(programs: &[Program<A>], totals: &[u64]) -> u64
+pub fn cycles_by_weight<A: Allocator>(programs: &[Program<A>], totals: &[u64]) -> u64
     requires few { length programs.now ≤ 8 }
     requires ends { All IsProgram programs.now }
     requires totals { (config : Configuration) × IsWithinLimits config × (totals.now ≡ totals_on programs.now config) }

@@ -6,7 +6,7 @@ ghost use Rattle.tomex_row_runs.specs.Knowledge.{AreLearntOn, AreTotalsOn};
 ghost use Rattle.tomex_survey.specs.Stretches.{AreTotalsIn, IsWithin};
 ghost use Rattle.tomex_study.specs.Surveyed.{AreTotalsOf};
 
-use crate::stretches::{Stretch, stretches};
+use crate::stretch::{Stretch, stretches};
 use rayon::prelude::*;
 use std::alloc::{AllocError, Allocator};
 use std::thread::Threads;
@@ -25,7 +25,7 @@ fn count_unknown(programs: usize, totals: &[Option<u64>; 8]) -> usize
 }
 
 /// The programs' totals on a row, which are looked up first, or learnt.
-fn totals_on_row<'s, A: Allocator + Clone, G: Gate>(
+pub fn totals_on_row<'s, A: Allocator + Clone, G: Gate>(
     knowledge: &mut Knowledge<'s, A>,
     study: &'s Study<A>,
     gate: &G,

@@ -2,23 +2,19 @@
 
 use std::alloc::Global;
 use std::test::Fail;
-use std::thread::Threads;
 use tomex_config::{Config, Prices};
 use tomex_front_views::rows_picture;
 use tomex_rows::rows_report;
-use tomex_study::{OpenGate, Program, Study, Surveyed};
-use tomex_survey::survey;
-use tomex_tests_fixtures::image_of;
+use tomex_study::Study;
 use tomex_tests_fixtures::machines::{PLAIN, config_of, priced};
 use tomex_tests_fixtures::programs::PRODUCT_WORDS;
+use tomex_tests_random::{program_of, study_on, surveyed};
 
-mod by_hand;
 mod evaluated;
 mod hulls;
 mod intervals;
 mod percents;
 mod plain_runs;
-mod random;
 mod shares;
 mod too_large;
 mod worth;
@@ -34,29 +30,6 @@ fn rows_of(alloc: Global) -> Result<Vec<Config>, Fail> {
         rows.push(config_of([alu, 1, 1, 1, 1, 1], units, buses, 1)?)?;
     }
     Ok(rows)
-}
-
-/// A program of this weight.
-fn program_of(alloc: Global, name: &str, words: &[u32], weight: u32) -> Result<Program, Fail> {
-    if weight == 0 || 1_000 < weight {
-        return Err("no weight")?;
-    }
-    let image = image_of(alloc, 0, 4096, words)?;
-    let name = String::from_str(alloc, name)?;
-    Ok(Program::new(alloc, name, image, 262_144, Vec::new(alloc), weight)?)
-}
-
-/// The study of these programs on these rows, at these prices.
-fn study_on(
-    alloc: Global,
-    programs: Vec<Program>,
-    rows: Vec<Config>,
-    prices: Prices,
-) -> Result<Study, Fail> {
-    if rows.is_empty() || rows.len() > 16_384 || programs.is_empty() || programs.len() > 8 {
-        return Err("too few or too many")?;
-    }
-    Ok(Study::new(alloc, programs, rows, prices, false)?)
 }
 
 /// The product on these rows, at 10 for an alu station and 25 for a bus.
@@ -88,27 +61,6 @@ const DOTS: &str =
     "<path d=\"M136 80v0M200 192v0M296 80v0M296 248v0M328 192v0M360 192v0M360 360v0M456 248v0\
 M488 192v0M488 360v0M520 360v0M648 360v0\" fill=\"none\" stroke=\"#a9b8c9\" stroke-width=\"3\" \
 stroke-linecap=\"round\"/>\n";
-
-/// The survey of a study by this number of workers.
-fn surveyed<'s, R: Threads + Sync>(
-    rt: &R,
-    alloc: Global,
-    study: &'s Study,
-    workers: usize,
-) -> Result<Surveyed<'s>, Fail> {
-    if workers < 1 || workers > 32 {
-        return Err("no such number of workers")?;
-    }
-    Ok(survey(rt, alloc, study, workers, &OpenGate)?)
-}
-
-/// Fails, and names the study, if this is false.
-fn holds_for(turn: u32, is_so: bool) -> Result<(), Fail> {
-    if is_so {
-        return Ok(());
-    }
-    Err(Fail::new(format_args!("study {turn}")))
-}
 
 #[test]
 fn rows_are_those_of_the_independent_implementation(rt: HostRuntime) -> Result<(), Fail> {

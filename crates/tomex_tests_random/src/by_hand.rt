@@ -10,7 +10,7 @@ use tomex_study::{Program, Study};
 use tomex_timing::evaluate::{times, total};
 
 /// The programs' cycles on a configuration, by the recurrence, in the programs' order.
-pub(super) fn totals_on(
+pub fn totals_on(
     alloc: Global,
     programs: &[Program],
     config: &Config,
@@ -60,7 +60,7 @@ fn options_cost(config: &Config, replaced: Option<(Price, u64)>) -> u64 {
 }
 
 /// The cost of a configuration with this price replaced.
-pub(super) fn cost(config: &Config, prices: &Prices, replaced: Option<(Price, u64)>) -> u64 {
+pub fn cost(config: &Config, prices: &Prices, replaced: Option<(Price, u64)>) -> u64 {
     let bus = price_now(Price::Bus, prices.bus(), replaced);
     let width = price_now(Price::Width, prices.width(), replaced);
     stations_cost(config, prices, replaced)
@@ -70,7 +70,7 @@ pub(super) fn cost(config: &Config, prices: &Prices, replaced: Option<(Price, u6
 }
 
 /// All rows of a study, each program run on each.
-pub(super) fn all_rows(alloc: Global, study: &Study) -> Result<Vec<FrontRow>, AllocError> {
+pub fn all_rows(alloc: Global, study: &Study) -> Result<Vec<FrontRow>, AllocError> {
     let mut rows = Vec::new(alloc);
     for (row, config) in study.rows().iter().enumerate() {
         let totals = totals_on(alloc, study.programs(), config)?;
@@ -84,28 +84,24 @@ pub(super) fn all_rows(alloc: Global, study: &Study) -> Result<Vec<FrontRow>, Al
 }
 
 /// A row of a study with this price replaced.
-pub(super) fn repriced(
-    study: &Study,
-    row: FrontRow,
-    replaced: (Price, u64),
-) -> Result<FrontRow, Fail> {
+pub fn repriced(study: &Study, row: FrontRow, replaced: (Price, u64)) -> Result<FrontRow, Fail> {
     let config = study.config(row.row).ok_or("no such row")?;
     let cost = cost(config, &study.prices(), Some(replaced));
     Ok(FrontRow { cost, ..row })
 }
 
 /// True if a row costs no more than another and takes no more cycles, and isn't equal to it.
-pub(super) fn dominates(a: FrontRow, b: FrontRow) -> bool {
+pub fn dominates(a: FrontRow, b: FrontRow) -> bool {
     a.cost <= b.cost && a.cycles <= b.cycles && (a.cost != b.cost || a.cycles != b.cycles)
 }
 
 /// True if none of the rows dominates this one.
-pub(super) fn is_undominated(rows: &[FrontRow], own: FrontRow) -> bool {
+pub fn is_undominated(rows: &[FrontRow], own: FrontRow) -> bool {
     rows.iter().all(|other| !dominates(*other, own))
 }
 
 /// The rows that none of them dominates, by cost, then number.
-pub(super) fn front(alloc: Global, rows: &[FrontRow]) -> Result<Vec<FrontRow>, Fail> {
+pub fn front(alloc: Global, rows: &[FrontRow]) -> Result<Vec<FrontRow>, Fail> {
     let mut front = Vec::new(alloc);
     for row in rows {
         if is_undominated(rows, *row) {

@@ -2,7 +2,7 @@
 use Rattle.std.proofs.Common.{◌≡◌, ◌-◌, ◌++◌, All, map}
 use Rattle.std.specs.List.{range_with_len}
 use Rattle.tomex_survey.specs.Stretches.{IsWithin, stretch_of, stretches_of}
-use Rattle.tomex_survey.proofs.stretches.stretches.Given as goal
+use Rattle.tomex_survey.proofs.stretch.stretches.Given as goal
 
 abbrev pub invariant-loop-worker : goal.invariant-loop-worker
 invariant-loop-worker g l = record {

@@ -8,7 +8,7 @@ use std::alloc::{AllocError, Allocator};
 
 /// Neighbouring rows, which one worker handles.
 #[derive(Clone, Copy, Debug, Drop)]
-pub(crate) struct Stretch {
+pub struct Stretch {
     /// The worker's number, from 0.
     pub worker: usize,
     /// The first of its rows.
@@ -18,7 +18,7 @@ pub(crate) struct Stretch {
 }
 
 /// The rows, cut into a stretch for each worker. Their lengths differ by at most one row.
-pub(crate) fn stretches<A: Allocator>(
+pub fn stretches<A: Allocator>(
     alloc: A,
     rows: usize,
     workers: usize,

@@ -2,7 +2,7 @@
 use Rattle.std.proofs.Common.{◌∙◌, ap, List, ◌++◌}
 use Rattle.tomex_pareto.specs.declared.front_row.FrontRow.{FrontRow}
 use Rattle.tomex_study.proofs.StudyFronts.{front_is_of_study, rows_are_numbered}
-use Rattle.tomex_survey.proofs.surveying.survey.Goals as goal
+use Rattle.tomex_survey.proofs.surveying.surveyed.Goals as goal
 
 pub front-requires : goal.front-requires
 front-requires g c =

@@ -3,7 +3,7 @@ use Rattle.std.proofs.Common.{All, refl, rules, subst, sym}
 use Rattle.std.proofs.lemmas.List.Elements.{All-push}
 use Rattle.tomex_survey.specs.Stretches.{IsWithin}
 use Rattle.tomex_survey.proofs.Neighbours.{is_within, no_stretch, one_stretch}
-use Rattle.tomex_survey.proofs.stretches.stretches.Goals as goal
+use Rattle.tomex_survey.proofs.stretch.stretches.Goals as goal
 
 pub loop-worker-init : goal.loop-worker-init
 loop-worker-init g c = record {

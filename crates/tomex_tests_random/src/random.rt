@@ -1,6 +1,6 @@
 //! Small studies that are made at random.
 
-use super::{program_of, study_on};
+use crate::studies::{program_of, study_on};
 use std::alloc::Global;
 use std::test::Fail;
 use tomex_config::{Config, Prices, UnitOption};
@@ -30,7 +30,7 @@ const OPTIONS: [(u8, u8, u32); 8] = [
 ];
 
 /// A number from 0 to 1,000,000, mostly a low one.
-pub(super) fn price(random: &mut Random) -> u64 {
+pub fn price(random: &mut Random) -> u64 {
     let bound = if random.below(4) == 0 { 1_000_001 } else { 40 };
     u64::from(random.below(bound))
 }
@@ -134,7 +134,7 @@ fn programs(random: &mut Random, alloc: Global) -> Result<Vec<Program>, Fail> {
 }
 
 /// The study of three programs on these rows.
-pub(super) fn random_study_on(
+pub fn random_study_on(
     random: &mut Random,
     alloc: Global,
     rows: Vec<Config>,
@@ -144,7 +144,7 @@ pub(super) fn random_study_on(
 }
 
 /// The study of three programs on 40 rows.
-pub(super) fn random_study(random: &mut Random, alloc: Global) -> Result<Study, Fail> {
+pub fn random_study(random: &mut Random, alloc: Global) -> Result<Study, Fail> {
     let rows = rows(random, alloc)?;
     random_study_on(random, alloc, rows)
 }
