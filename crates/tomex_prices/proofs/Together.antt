@@ -72,7 +72,8 @@ module _ (s : DesignSpace) (values : Values) (shares : Price → ℕ) (whole : �
   slack_is : (price : Price) → slack (stated price) (row_with s price r) (row_with s price j) ≡ gap
   slack_is price = rw (apart_cost s price r is one, apart_cost s price j is there) refl
 
-  price_counts : (price : Price) → IsShareOfWay (interval_of s price r) (stated price) (values price) (shares price) whole
+  price_counts : (price : Price)
+      → IsShareOfWay (interval_of s price r) (stated price) (values price) (shares price) whole
       → Counts (stated price) (values price) (paid r price) (paid j price) whole (shares price) gap
   price_counts price moves =
       let own = row_with s price r in

@@ -1,0 +1,9 @@
+-- No definition looks at anything else.
+use Rattle.tomex_compare.proofs.Other.{costs_matter_on_fronts, only_the_two_matter}
+use Rattle.tomex_compare.proofs.laws.only_the_two_builds_matter.Goals as goal
+
+pub returns-clause-all : goal.returns-clause-all
+returns-clause-all c = only_the_two_matter
+
+pub returns-clause-costs : goal.returns-clause-costs
+returns-clause-costs c = costs_matter_on_fronts
