@@ -16,5 +16,5 @@ pub use by_place::{FunctionColumn, stalls_by_pc_and_function};
 pub use functions_error::FunctionsError;
 pub use index::{Index, key_of, keys_of};
 pub use laws::functions_add_up;
-pub use rows::{Row, sort_rows};
+pub use rows::{Listing, Row, listing_of, sort_rows};
 pub use shown_names::{push_function, shown_function};
