@@ -1,0 +1,132 @@
+-- Configurations with another number of a part, or with another option: they are within the limits.
+use Rattle.std.proofs.Common.{◌≡◌, ◌<◌, ℕ, suc, arith, ap, sym, refl, subst, ◌∙◌, List, [], ◌∷◌, length, get_or, All}
+use Rattle.std.proofs.Common.{Bool}
+use Rattle.std.proofs.Common.{true}
+use Rattle.std.proofs.Common.{Option, Some, None}
+use Rattle.std.specs.Prelude.{slice_index, slice_index_or, slice_set, nat_le, ◌&&◌, IfSome}
+use Rattle.std.proofs.lemmas.Bool.Decides.{nat_tests}
+use Rattle.std.proofs.lemmas.Grind.{common_steps}
+use Rattle.std.proofs.lemmas.List.Elements.{All-get_or, All-set}
+use Rattle.tomex_rvdec.specs.Parts.{place_of_pool, place_of_unit}
+use Rattle.tomex_rvdec.specs.declared.pool.PoolId.{PoolId}
+use Rattle.tomex_rvdec.specs.declared.pool.UnitId.{UnitId}
+use Rattle.tomex_rvdec.specs.declared.pool.UnitId.TheVariants as units
+use Rattle.tomex_config.specs.Configuration.{Configuration, IsWithinLimits, is_between, is_option, most_units}
+use Rattle.tomex_config.specs.Configuration.{option_of}
+use Rattle.tomex_config.specs.Configuration.{plain_option, with_buses, with_option, with_stations, with_width}
+use Rattle.tomex_config.specs.declared.config.UnitOption.{UnitOption}
+use Rattle.tomex_config.proofs.Ranges.{fits_any, one_branch_unit}
+use Rattle.tomex_floor.specs.Floor.{latency_of}
+use Rattle.tomex_timing.specs.declared.part.Part.{Part}
+use Rattle.tomex_timing.specs.declared.part.Part.TheVariants.{Stations, Units, Buses, Width}
+use Rattle.tomex_choices.specs.Choices.{most_of}
+use Rattle.tomex_choices.specs.NewMachines.{with_count}
+
+-- all parts of a list, by place
+
+pub six : (xs : List ℕ) → length xs ≡ 6
+    → slice_index xs 0 ∷ slice_index xs 1 ∷ slice_index xs 2 ∷ slice_index xs 3 ∷ slice_index xs 4
+    ∷ slice_index xs 5 ∷ []
+    ≡ xs
+six (a ∷ b ∷ c ∷ d ∷ e ∷ f ∷ []) many = refl
+six [] many = absurd (let l : 0 ≡ 6 = many in omega arith)
+six (a ∷ []) many = absurd (let l : 1 ≡ 6 = many in omega arith)
+six (a ∷ b ∷ []) many = absurd (let l : 2 ≡ 6 = many in omega arith)
+six (a ∷ b ∷ c ∷ []) many = absurd (let l : 3 ≡ 6 = many in omega arith)
+six (a ∷ b ∷ c ∷ d ∷ []) many = absurd (let l : 4 ≡ 6 = many in omega arith)
+six (a ∷ b ∷ c ∷ d ∷ e ∷ []) many = absurd (let l : 5 ≡ 6 = many in omega arith)
+six (a ∷ b ∷ c ∷ d ∷ e ∷ f ∷ g ∷ xs) many =
+    absurd (let l : suc (suc (suc (suc (suc (suc (suc (length xs))))))) ≡ 6 = many in omega arith)
+
+pub five : {X : Type 0} (xs : List X) (x : X) → length xs ≡ 5
+    → get_or xs 0 x ∷ get_or xs 1 x ∷ get_or xs 2 x ∷ get_or xs 3 x ∷ get_or xs 4 x ∷ [] ≡ xs
+five (a ∷ b ∷ c ∷ d ∷ e ∷ []) x many = refl
+five [] x many = absurd (let l : 0 ≡ 5 = many in omega arith)
+five (a ∷ []) x many = absurd (let l : 1 ≡ 5 = many in omega arith)
+five (a ∷ b ∷ []) x many = absurd (let l : 2 ≡ 5 = many in omega arith)
+five (a ∷ b ∷ c ∷ []) x many = absurd (let l : 3 ≡ 5 = many in omega arith)
+five (a ∷ b ∷ c ∷ d ∷ []) x many = absurd (let l : 4 ≡ 5 = many in omega arith)
+five (a ∷ b ∷ c ∷ d ∷ e ∷ f ∷ xs) x many =
+    absurd (let l : suc (suc (suc (suc (suc (suc (length xs)))))) ≡ 5 = many in omega arith)
+
+pub place_low : (unit : UnitId) → place_of_unit unit < 5
+place_low units.Alu = omega arith
+place_low units.Mul = omega arith
+place_low units.Div = omega arith
+place_low units.Mem = omega arith
+place_low units.Bru = omega arith
+
+-- the limits
+
+pub option_within : (c : Configuration) (unit : UnitId) (o : UnitOption) → IsWithinLimits c
+    → is_option (most_units unit) o ≡ true → IsWithinLimits (with_option unit c o)
+option_within c unit o w fits = record {
+  pools = w.pools;
+  stations = w.stations;
+  kinds = grind (arith, common_steps, w.kinds);
+  units = All-set (λ o. is_option 8 o ≡ true) c.units (place_of_unit unit) o (fits_any unit o fits) w.units;
+  branch_unit = one_branch_unit unit o c.units fits w.kinds w.branch_unit;
+  buses = w.buses;
+  width = w.width;
+}
+
+pub stations_within : (c : Configuration) (pool : PoolId) (n : ℕ) → IsWithinLimits c → is_between 1 16 n ≡ true
+    → IsWithinLimits (with_stations pool c n)
+stations_within c pool n w fits = record {
+  pools = grind (arith, common_steps, w.pools);
+  stations = All-set (λ n. is_between 1 16 n ≡ true) c.stations (place_of_pool pool) n fits w.stations;
+  kinds = w.kinds;
+  units = w.units;
+  branch_unit = w.branch_unit;
+  buses = w.buses;
+  width = w.width;
+}
+
+pub buses_within : (c : Configuration) (n : ℕ) → IsWithinLimits c → is_between 1 8 n ≡ true
+    → IsWithinLimits (with_buses c n)
+buses_within c n w fits = record {
+  pools = w.pools;
+  stations = w.stations;
+  kinds = w.kinds;
+  units = w.units;
+  branch_unit = w.branch_unit;
+  buses = fits;
+  width = w.width;
+}
+
+pub width_within : (c : Configuration) (n : ℕ) → IsWithinLimits c → is_between 1 4 n ≡ true
+    → IsWithinLimits (with_width c n)
+width_within c n w fits = record {
+  pools = w.pools;
+  stations = w.stations;
+  kinds = w.kinds;
+  units = w.units;
+  branch_unit = w.branch_unit;
+  buses = w.buses;
+  width = fits;
+}
+
+-- the option of a kind of unit is within them
+pub own_option : (c : Configuration) (unit : UnitId) → IsWithinLimits c → is_option 8 (option_of c unit) ≡ true
+own_option c unit w =
+    All-get_or (λ o. is_option 8 o ≡ true) c.units (place_of_unit unit) plain_option
+    (let l = place_low unit in omega (arith, w.kinds)) w.units
+
+-- with another number of units, and another price
+pub other_units : (c : Configuration) (unit : UnitId) (n price : ℕ) → IsWithinLimits c
+    → is_between 1 (most_units unit) n ≡ true → nat_le price 1000000 ≡ true
+    → is_option (most_units unit) (record { units = n; latency = latency_of c unit; price = price }) ≡ true
+other_units c unit n price w fits low =
+    let o = own_option c unit w in
+    grind (arith, nat_tests, o)
+
+own_price : (c : Configuration) (unit : UnitId) → IsWithinLimits c → nat_le (option_of c unit).price 1000000 ≡ true
+own_price c unit w = let o = own_option c unit w in grind (arith, nat_tests, o)
+
+pub count_within : (c : Configuration) (part : Part) (n : ℕ) → IsWithinLimits c → is_between 1 (most_of part) n ≡ true
+    → IsWithinLimits (with_count c part n)
+count_within c (Stations pool) n w fits = stations_within c pool n w fits
+count_within c (Units unit) n w fits =
+    option_within c unit _ w (other_units c unit n (option_of c unit).price w fits (own_price c unit w))
+count_within c Buses n w fits = buses_within c n w fits
+count_within c Width n w fits = width_within c n w fits

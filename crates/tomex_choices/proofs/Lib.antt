@@ -1,0 +1,33 @@
+-- Lemmas of this crate.
+pub mod Passes
+pub mod Members
+pub mod Leasts
+pub mod Greatest
+pub mod SameSavings
+pub mod SameFloors
+pub mod Configurations
+pub mod SameTotals
+pub mod EnoughFrom
+pub mod Alike
+pub mod Chains
+pub mod Asked
+pub mod Finding
+pub mod WeighedLists
+pub mod AllWeighed
+pub mod Firsts
+pub mod Options
+pub mod Ranges
+pub mod Reading
+pub mod AskedRows
+pub mod Joining
+pub mod AllStretches
+mod Oks
+pub mod FloorSums
+pub mod Adding
+pub mod PriceFree
+pub mod AboveFloors
+pub mod Dropping
+pub mod Needed
+pub mod Longer
+pub mod Unneeded
+mod Worked

@@ -1,0 +1,147 @@
+-- The floors of a run depend on the latencies of the kinds of units that it uses, and on no others.
+use Rattle.std.proofs.Common.{◌≡◌, ℕ, zero, suc, ◌-◌, ◌*◌, ◌≤◌, arith, ap, sym, refl, subst, ◌∙◌, List, [], ◌∷◌, map}
+use Rattle.std.proofs.Common.{reverse}
+use Rattle.std.proofs.Common.{Bool}
+use Rattle.std.proofs.Common.{true, false, inl, inr, get_or, Option, Some, None}
+use Rattle.std.proofs.Math.Nat.{mul-le-mul_left, mul-le-mul_right}
+use Rattle.std.proofs.lemmas.Bool.{cases_Bool}
+use Rattle.std.proofs.lemmas.Bool.Decides.{nat_tests}
+use Rattle.std.proofs.lemmas.List.Sorted.{IsPermutation-reverse, list_any-IsPermutation}
+use Rattle.tomex_rvdec.specs.declared.pool.UnitId.{UnitId}
+use Rattle.tomex_rvdec.specs.declared.pool.UnitId.TheVariants as units
+use Rattle.tomex_steps.specs.Steps.{step_unit}
+use Rattle.tomex_steps.specs.declared.step.Step.{Step}
+use Rattle.tomex_config.specs.Configuration.{Configuration, IsWithinLimits, with_width}
+use Rattle.tomex_floor.specs.Floor.{floor_address, floor_from, floor_issue, floor_of, floor_times, floors_by_width}
+use Rattle.tomex_floor.specs.Floor.{floors_of, latency_of}
+use Rattle.tomex_floor.proofs.Above.{floor_is_bound}
+use Rattle.tomex_row_runs.proofs.Totals.{total_within}
+use Rattle.tomex_study.proofs.Bounds.{total_bound}
+use Rattle.tomex_study.specs.Program.{IsProgram, Workload}
+use Rattle.tomex_timing.specs.History.{greatest_end, is_of}
+use Rattle.tomex_timing.specs.Needs.{all_units}
+use Rattle.tomex_timing.specs.Run.{total}
+use Rattle.tomex_timing.specs.Search.{times_in, total_of}
+use Rattle.tomex_timing.specs.declared.times.Done.{Done}
+use Rattle.tomex_timing.specs.declared.times.Times.{Times}
+use Rattle.tomex_choices.specs.Floors.{steps_of}
+use Rattle.tomex_choices.specs.Flooring.{AreFloorsOf, is_used_by, used_latencies, used_latency}
+use Rattle.tomex_choices.specs.declared.floors.KnownFloors.{KnownFloors}
+use Rattle.tomex_choices.proofs.Configurations.{width_within}
+
+-- the same latency of each kind that a step uses
+abbrev pub AreSameFor : List Step → (UnitId → ℕ) → (UnitId → ℕ) → Type 0
+AreSameFor steps a b = (unit : UnitId) → is_used_by steps unit ≡ true → a unit ≡ b unit
+
+own_unit : (unit : UnitId) → is_of unit (Some unit) ≡ true
+own_unit unit = grind (arith, nat_tests)
+
+same_from : (a b : UnitId → ℕ) (older : List Done) (s : Step) (issue : ℕ) (address : Option ℕ) (of : Option UnitId)
+    → ((unit : UnitId) → is_of unit of ≡ true → a unit ≡ b unit)
+    → floor_from a older s issue address of ≡ floor_from b older s issue address of
+same_from a b older s issue address None same = refl
+same_from a b older s issue address (Some unit) same = rw (same unit (own_unit unit)) refl
+
+first_used : (s : Step) (steps : List Step) (unit : UnitId) → is_of unit (step_unit s) ≡ true
+    → is_used_by (s ∷ steps) unit ≡ true
+first_used s steps unit e = rw e refl
+
+later_used : (s : Step) (steps : List Step) (unit : UnitId) → is_used_by steps unit ≡ true
+    → is_used_by (s ∷ steps) unit ≡ true
+later_used s steps unit e = elim (cases_Bool (is_of unit (step_unit s))) [ inl f ↦ rw f refl | inr f ↦ rw f e ]
+
+pub same_floors_of : (a b : UnitId → ℕ) (w : ℕ) (steps : List Step) → AreSameFor steps a b
+    → floors_of a w steps ≡ floors_of b w steps
+same_floors_of a b w [] same = refl
+same_floors_of a b w (s ∷ older) same =
+    let rest = same_floors_of a b w older (λ unit e. same unit (later_used s older unit e)) in
+    let at : floor_times a w (floors_of a w older) s ≡ floor_times b w (floors_of b w older) s =
+    same_from a b (floors_of a w older) s (floor_issue w (floors_of a w older))
+    (floor_address (floors_of a w older) s (floor_issue w (floors_of a w older))) (step_unit s)
+    (λ unit e. same unit (first_used s older unit e))
+    ∙ ap (λ (h : List Done). floor_times b w h s) rest in
+    ap (λ (t : Times). record { step = s; at = t } ∷ floors_of a w older) at
+    ∙ ap (λ (h : List Done). record { step = s; at = floor_times b w (floors_of b w older) s } ∷ h) rest
+
+-- of a run
+pub same_floor : (a b : UnitId → ℕ) (w : ℕ) (steps : List Step) → AreSameFor steps a b
+    → floor_of a w steps ≡ floor_of b w steps
+same_floor a b w steps same =
+    let turned : AreSameFor (reverse steps) a b = λ unit e. same unit
+    (list_any-IsPermutation (λ s. is_of unit (step_unit s)) steps (reverse steps) (IsPermutation-reverse steps) ∙ e) in
+    ap greatest_end (same_floors_of a b w (reverse steps) turned)
+
+pub same_floors : (a b : UnitId → ℕ) (steps : List Step) → AreSameFor steps a b
+    → floors_by_width a steps ≡ floors_by_width b steps
+same_floors a b steps same =
+    rw (
+      same_floor a b 1 steps same,
+      same_floor a b 2 steps same,
+      same_floor a b 3 steps same,
+      same_floor a b 4 steps same,
+    )
+    refl
+
+-- configurations with the same latencies of the kinds that are used
+
+unlocked : (b : Bool) (m n : ℕ) → b ≡ true → used_latency b m ≡ used_latency b n → m ≡ n
+unlocked true m n t e = e
+unlocked false m n t e = absurd (let f : false ≡ true = t in cc)
+
+used_at : (steps : List Step) (c d : Configuration)
+    → used_latencies (map (is_used_by steps) all_units) c ≡ used_latencies (map (is_used_by steps) all_units) d
+    → AreSameFor steps (latency_of c) (latency_of d)
+used_at steps c d same units.Alu t =
+    unlocked (is_used_by steps units.Alu) _ _ t (ap (λ (ns : List ℕ). get_or ns 0 0) same)
+used_at steps c d same units.Mul t =
+    unlocked (is_used_by steps units.Mul) _ _ t (ap (λ (ns : List ℕ). get_or ns 1 0) same)
+used_at steps c d same units.Div t =
+    unlocked (is_used_by steps units.Div) _ _ t (ap (λ (ns : List ℕ). get_or ns 2 0) same)
+used_at steps c d same units.Mem t =
+    unlocked (is_used_by steps units.Mem) _ _ t (ap (λ (ns : List ℕ). get_or ns 3 0) same)
+used_at steps c d same units.Bru t =
+    unlocked (is_used_by steps units.Bru) _ _ t (ap (λ (ns : List ℕ). get_or ns 4 0) same)
+
+-- the floors that were computed on a configuration are those of each with its latencies
+pub floors_known : (steps : List Step) (uses : List Bool) (c : Configuration) (known : KnownFloors)
+    → uses ≡ map (is_used_by steps) all_units → known.latencies ≡ used_latencies uses c
+    → known.floors ≡ floors_by_width (latency_of c) steps → AreFloorsOf steps uses known
+floors_known steps uses c known are latencies is = λ d same.
+    same_floors (latency_of d) (latency_of c) steps (used_at steps d c
+    (subst (λ (us : List Bool). used_latencies us d ≡ used_latencies us c) are (same ∙ latencies)))
+    ∙ sym is
+
+-- at a width
+pub floor_of_width : (latency : UnitId → ℕ) (steps : List Step) (w : ℕ) → 1 ≤ w → w ≤ 4
+    → get_or (floors_by_width latency steps) (w - 1) 0 ≡ floor_of latency w steps
+floor_of_width latency steps (suc zero) some few = refl
+floor_of_width latency steps (suc (suc zero)) some few = refl
+floor_of_width latency steps (suc (suc (suc zero))) some few = refl
+floor_of_width latency steps (suc (suc (suc (suc zero)))) some few = refl
+floor_of_width latency steps zero some few = absurd (omega arith)
+floor_of_width latency steps (suc (suc (suc (suc (suc w))))) some few = absurd (omega arith)
+
+-- no floor is greater than the most cycles of a run
+pub floor_bound : (p : Workload) (c : Configuration) (w : ℕ) → IsProgram p → IsWithinLimits c → 1 ≤ w → w ≤ 4
+    → floor_of (latency_of c) w (steps_of p) ≤ 17563648
+floor_bound p c w is within some few =
+    let wide = with_width c w in
+    let lawful : IsWithinLimits wide = width_within c w within (grind (arith, nat_tests)) in
+    let low : floor_of (latency_of c) w (steps_of p) ≤ total_of (times_in wide (steps_of p)) =
+    floor_is_bound wide (latency_of c) w (steps_of p) lawful (omega arith) (λ unit. inl (omega arith)) in
+    let runs : total wide p.image ≡ total_of (times_in wide (steps_of p)) = total_within p wide is in
+    let high : total wide p.image ≤ 17563648 = total_bound wide p.image lawful in
+    omega (arith, runs)
+
+-- times a weight
+pub weighed_small : (p : Workload) (c : Configuration) (w : ℕ) (floors : List ℕ) (weight : ℕ) → IsProgram p
+    → IsWithinLimits c → 1 ≤ w → w ≤ 4 → floors ≡ floors_by_width (latency_of c) (steps_of p) → weight ≤ 1000
+    → weight * get_or floors (w - 1) 0 ≤ 17563648000
+weighed_small p c w floors weight is within some few are light =
+    let same : get_or floors (w - 1) 0 ≡ floor_of (latency_of c) w (steps_of p) =
+    ap (λ (fs : List ℕ). get_or fs (w - 1) 0) are ∙ floor_of_width (latency_of c) (steps_of p) w some few in
+    let low = floor_bound p c w is within some few in
+    let most : get_or floors (w - 1) 0 ≤ 17563648 = omega (arith, same, low) in
+    let one : weight * get_or floors (w - 1) 0 ≤ weight * 17563648 = mul-le-mul_left weight most in
+    let other : weight * 17563648 ≤ 1000 * 17563648 = mul-le-mul_right 17563648 light in
+    omega (arith, one, other)

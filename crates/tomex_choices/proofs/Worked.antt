@@ -1,0 +1,145 @@
+-- The choices of some rows, computed by the definitions themselves: the rows of examples/study.toml, an alu station at
+-- 10, the fast multiplier at 40, the slow one at 15, a bus at 25.
+use Rattle.std.proofs.Common.{◌≡◌, refl, ℕ, zero, suc, List, [], ◌∷◌, map, Some, None}
+use Rattle.std.specs.Prelude.{codes, false, true}
+use Rattle.std.specs.Fmt.{digits}
+use Rattle.tomex_rvdec.specs.declared.pool.PoolId.TheVariants as pools
+use Rattle.tomex_rvdec.specs.declared.pool.UnitId.TheVariants as units
+use Rattle.tomex_config.specs.Configuration.{Configuration, plain_option}
+use Rattle.tomex_config.specs.Cost.{PriceList}
+use Rattle.tomex_config.specs.declared.config.UnitOption.{UnitOption}
+use Rattle.tomex_pareto.specs.Front.{rows_from}
+use Rattle.tomex_pareto.specs.declared.front_row.FrontRow.{FrontRow}
+use Rattle.tomex_study.specs.Cycles.{cycles_on}
+use Rattle.tomex_study.specs.Study.{DesignSpace, costs_of}
+use Rattle.tomex_timing.specs.declared.part.Part.{Part}
+use Rattle.tomex_timing.specs.declared.part.Part.TheVariants.{Stations, Units, Buses, Width}
+use Rattle.tomex_worth.specs.Worth.{entry_text}
+use Rattle.tomex_choices.specs.Choices.{choices}
+use Rattle.tomex_choices.specs.Enough.{stays_from}
+use Rattle.tomex_choices.specs.NewMachines.{brought_by, greatest_units, lacking, least_price}
+use Rattle.tomex_choices.specs.Savings.{is_of_use, saving_among, thousandths}
+use Rattle.tomex_choices.specs.declared.new_machine.NewMachine.{NewMachine}
+use Rattle.tomex_choices.specs.declared.saving.Saving.{Saving}
+
+abbrev option : ℕ → ℕ → ℕ → UnitOption
+option count latency price = record { units = count; latency = latency; price = price }
+
+abbrev fast : UnitOption
+fast = option 1 3 40
+
+abbrev slow : UnitOption
+slow = option 1 6 15
+
+abbrev config : ℕ → UnitOption → ℕ → Configuration
+config alu mul buses = record {
+  stations = alu ∷ 1 ∷ 1 ∷ 1 ∷ 1 ∷ 1 ∷ [];
+  units = plain_option ∷ mul ∷ plain_option ∷ plain_option ∷ plain_option ∷ [];
+  buses = buses;
+  width = 1;
+}
+
+abbrev rows : List Configuration
+rows =
+    config 1 fast 1 ∷ config 1 fast 2 ∷ config 1 slow 1 ∷ config 1 slow 2 ∷ config 2 fast 1 ∷ config 2 fast 2
+    ∷ config 2 slow 1 ∷ config 2 slow 2 ∷ config 4 fast 1 ∷ config 4 fast 2 ∷ config 4 slow 1 ∷ config 4 slow 2 ∷ []
+
+abbrev list : PriceList
+list = record { stations = 10 ∷ 0 ∷ 0 ∷ 0 ∷ 0 ∷ 0 ∷ []; bus = 25; width = 0 }
+
+abbrev study_of : List Configuration → DesignSpace
+study_of configs =
+    record { programs = []; rows = configs; costs = costs_of list configs; prices = list; wide = false }
+
+abbrev study : DesignSpace
+study = study_of rows
+
+abbrev texts : Part → List Configuration → List (List ℕ)
+texts part configs = map (λ c. entry_text c part) configs
+
+-- what the lists have
+alu_choices : texts (Stations pools.Alu) (choices study (Stations pools.Alu)) ≡ codes "1" ∷ codes "2" ∷ codes "4" ∷ []
+unfolding digits
+alu_choices = refl
+
+mul_choices : texts (Units units.Mul) (choices study (Units units.Mul)) ≡ codes "1@3" ∷ codes "1@6" ∷ []
+unfolding digits
+mul_choices = refl
+
+-- what they lack
+buses_lack : texts Buses (lacking study Buses)
+    ≡ codes "3" ∷ codes "4" ∷ codes "5" ∷ codes "6" ∷ codes "7" ∷ codes "8" ∷ []
+unfolding lacking digits
+buses_lack = refl
+
+widths_lack : texts Width (lacking study Width) ≡ codes "2" ∷ codes "3" ∷ codes "4" ∷ []
+unfolding lacking digits
+widths_lack = refl
+
+branch_units_lack : lacking study (Units units.Bru) ≡ []
+unfolding lacking greatest_units
+branch_units_lack = refl
+
+-- of options more units than any of the latency, for each latency
+abbrev more : DesignSpace
+more = study_of (config 1 (option 6 3 40) 1 ∷ config 1 (option 7 6 15) 1 ∷ config 1 (option 6 3 30) 1
+    ∷ config 1 (option 5 3 20) 1 ∷ [])
+
+mul_units_lack : texts (Units units.Mul) (lacking more (Units units.Mul))
+    ≡ codes "7@3" ∷ codes "8@3" ∷ codes "8@6" ∷ []
+unfolding lacking greatest_units least_price digits
+mul_units_lack = refl
+
+-- at the price of the cheapest with most units: 10 for the station, 25 for the bus, 30 for the option
+abbrev of_units : ℕ → NewMachine
+of_units n = record { number = n; latency = 3; cost = 65; cycles = 0 }
+
+mul_units_cost : brought_by more (Units units.Mul) (config 1 (option 5 3 20) 1) ≡ of_units 7 ∷ of_units 8 ∷ []
+unfolding brought_by greatest_units least_price cycles_on
+mul_units_cost = refl
+
+-- which new machines are of use, and what they save: by their numbers, costs and cycles
+abbrev cycles : List ℕ
+cycles = 10 ∷ 10 ∷ 13 ∷ 13 ∷ 8 ∷ 8 ∷ 11 ∷ 11 ∷ 8 ∷ 8 ∷ 11 ∷ 11 ∷ []
+
+abbrev all : List FrontRow
+all = rows_from 0 (costs_of list rows) cycles
+
+abbrev machine : ℕ → ℕ → ℕ → NewMachine
+machine n cost y = record { number = n; latency = 0; cost = cost; cycles = y }
+
+-- the second is as good as a row, the third is beaten by the fourth and that by the first; the last is cheaper than all
+-- rows
+abbrev new : List NewMachine
+new =
+    machine 3 95 7 ∷ machine 3 85 8 ∷ machine 5 95 7 ∷ machine 4 95 7 ∷ machine 4 115 5 ∷ machine 5 135 5
+    ∷ machine 1 40 14 ∷ []
+
+of_use : map (is_of_use all new) new ≡ true ∷ false ∷ false ∷ false ∷ true ∷ false ∷ true ∷ []
+of_use = refl
+
+saving : saving_among all new ≡ Some (record { cost = 115; now = 8; new = 5 })
+saving = refl
+
+thousandth : thousandths (record { cost = 115; now = 8; new = 5 }) ≡ 375
+thousandth = refl
+
+-- a machine at no more than the cheapest row's cost counts from that on
+cheap_saving : saving_among all (machine 1 40 12 ∷ machine 2 60 10 ∷ [])
+    ≡ Some (record { cost = 60; now = 11; new = 10 })
+cheap_saving = refl
+
+cheapest_saving : saving_among all (machine 1 40 11 ∷ []) ≡ Some (record { cost = 50; now = 13; new = 11 })
+cheapest_saving = refl
+
+no_saving : saving_among all (machine 1 40 14 ∷ machine 2 90 8 ∷ []) ≡ None
+no_saving = refl
+
+-- 25, 24, 25 and 25 cycles at widths 1 to 4: enough from 3 on
+abbrev rising : ℕ → ℕ
+rising (suc zero) = 25
+rising (suc (suc zero)) = 24
+rising n = 25
+
+settles : map (stays_from rising 4) (1 ∷ 2 ∷ 3 ∷ 4 ∷ []) ≡ false ∷ false ∷ true ∷ true ∷ []
+settles = refl

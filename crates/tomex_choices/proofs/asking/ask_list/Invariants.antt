@@ -1,0 +1,13 @@
+-- The numbers so far, from the most down.
+use Rattle.std.proofs.Common.{◌≡◌, ◌+◌, ◌-◌}
+use Rattle.tomex_worth.specs.Changes.{part_at}
+use Rattle.tomex_choices.specs.Choices.{most_of}
+use Rattle.tomex_choices.proofs.Asked.{AreNumbersAsked}
+use Rattle.tomex_choices.proofs.asking.ask_list.Given as goal
+
+abbrev pub invariant-loop-fewer : goal.invariant-loop-fewer
+invariant-loop-fewer g l = record {
+  programs : l.knowledge.programs ≡ l.fn.knowledge.programs;
+  asked : AreNumbersAsked l.study (part_at l.entries.place) l.config
+      (most_of (part_at l.entries.place) - l.fewer + 1) l.fewer l.fn.found l.found;
+}

@@ -1,0 +1,13 @@
+-- No program yet.
+use Rattle.std.proofs.Common.{arith, refl}
+use Rattle.tomex_choices.proofs.FloorSums.{no_sum}
+use Rattle.tomex_choices.proofs.floors.floors_on.Goals as goal
+
+pub loop-place-init : goal.loop-place-init
+loop-place-init g c = record {
+  programs = refl;
+  own = no_sum c.args.programs.now.items c.args.config.now.width c.args.config.now 0 refl;
+  any_width = no_sum c.args.programs.now.items 4 c.args.config.now 0 refl;
+  small_own = omega arith;
+  small_any_width = omega arith;
+}

@@ -1,0 +1,31 @@
+-- One more list; after the last one all are joined.
+use Rattle.std.proofs.Common.{◌≡◌, ◌<◌, ◌∙◌, arith, length, refl, rules}
+use Rattle.std.proofs.lemmas.Option.{slice_get_read}
+use Rattle.std.specs.Vec.Iter.{into_iter_items}
+use Rattle.tomex_choices.proofs.Joining.{all_joined, left_first, left_within, none_left, one_joined}
+use Rattle.tomex_choices.proofs.found.append_lists.Goals as goal
+
+pub loop-list-preserved : goal.loop-list-preserved
+loop-list-preserved g c =
+    let is = c.loop-list.invariant.left ∙ c.in-Some.ensures.steps.0 in
+    let low = left_within c.args.others.items _ c.loop-list.place c.in-Some.list is in
+    let first = left_first c.args.others.items _ c.loop-list.place c.in-Some.list is in
+    let count = c.loop-list.invariant.joined.count in
+    let here : c.loop-list.place < length c.loop-list.lists.items = omega (arith, low, count) in
+    record {
+      left = first.1;
+      joined = one_joined c.loop-list.place c.args.lists.now.items c.args.others.items c.loop-list.lists.items _
+          c.index_mut.result.now c.in-Some.list c.append.new.self
+          (slice_get_read c.loop-list.lists.items _ c.loop-list.place c.index_mut.result.now refl here
+          c.index_mut.ensures.value)
+          first.0 c.in_ok-append.ensures refl c.loop-list.invariant.joined;
+    }
+
+pub returns : goal.returns
+returns g c =
+    let none : length (into_iter_items c.loop-list.list-iterator) ≡ 0 = let s = c.in-None.ensures.steps in
+    search rules in
+    let past = none_left c.args.others.items (into_iter_items c.loop-list.list-iterator) c.loop-list.place
+    c.loop-list.invariant.left none in
+    all_joined c.loop-list.place c.args.lists.now.items c.args.others.items c.loop-list.lists.items
+    (let same = c.requires in omega (arith, past, same)) c.loop-list.invariant.joined

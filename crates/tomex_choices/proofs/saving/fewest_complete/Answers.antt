@@ -1,0 +1,9 @@
+-- After the last machine.
+use Rattle.std.proofs.Common.{◌∙◌, arith}
+use Rattle.tomex_choices.proofs.Leasts.{fewest_of_complete, last_least}
+use Rattle.tomex_choices.proofs.saving.fewest_complete.Goals as goal
+
+pub returns : goal.returns
+returns c =
+    last_least _ _ c.loop-x.least c.args.machines.now c.loop-x.x-index (omega (arith, c.loop-x-test.false))
+    ∙ (c.loop-x.invariant ∙ fewest_of_complete c.args.cost c.args.rows.now c.args.machines.now)

@@ -1,0 +1,51 @@
+-- The choices of a study's lists: the entries that its rows have, and which of them are on its front. A list is that of
+-- a part: stations of a pool, options for a kind of unit, buses, or widths.
+use Rattle.std.specs.Prelude.{◌==◌, ℕ, Bool, true, false, not, List, [], ◌∷◌}
+use Rattle.std.specs.List.{filter, list_any}
+use Rattle.tomex_config.specs.Configuration.{Configuration, most_units}
+use Rattle.tomex_floor.specs.Floor.{latency_of}
+use Rattle.tomex_study.specs.Study.{DesignSpace, config_at}
+use Rattle.tomex_study.specs.StudyFront.{front_of_study}
+use Rattle.tomex_timing.specs.declared.part.Part.{Part}
+use Rattle.tomex_timing.specs.declared.part.Part.TheVariants.{Stations, Units, Buses, Width}
+use Rattle.tomex_worth.specs.Changes.{same_entry}
+
+-- the most of a part that a machine can have
+abbrev pub most_of : Part → ℕ
+most_of (Stations pool) = 16
+most_of (Units unit) = most_units unit
+most_of Buses = 8
+most_of Width = 4
+
+-- the latency of a kind of unit; other parts have none
+abbrev pub latency_in : Part → Configuration → ℕ
+latency_in (Units unit) config = latency_of config unit
+latency_in part config = 0
+
+abbrev pub same_latency : Part → Configuration → Configuration → Bool
+same_latency part c d = latency_in part c == latency_in part d
+
+-- the first of all configurations that are alike
+abbrev pub firsts : (Configuration → Configuration → Bool) → List Configuration → List Configuration
+firsts are_alike [] = []
+firsts are_alike (c ∷ rows) = c ∷ filter (λ d. not (are_alike c d)) (firsts are_alike rows)
+
+-- the choices of a list, in the order of the first rows that have them; for each of them its first configuration
+abbrev pub choices : DesignSpace → Part → List Configuration
+choices s part = firsts (λ c d. same_entry c d part) s.rows
+
+-- some row of the front has a configuration's entry
+abbrev pub is_used : DesignSpace → Part → Configuration → Bool
+is_used s part c = list_any (λ r. same_entry (config_at s r.row) c part) (front_of_study s)
+
+-- some row of the front has it, or none does, as is asked for
+abbrev pub has_use : DesignSpace → Part → Bool → Configuration → Bool
+has_use s part true c = is_used s part c
+has_use s part false c = not (is_used s part c)
+
+-- the choices that some row of the front has, and the others
+unfoldable pub front_choices : DesignSpace → Part → List Configuration
+front_choices s part = filter (is_used s part) (choices s part)
+
+unfoldable pub unused : DesignSpace → Part → List Configuration
+unused s part = filter (λ c. not (is_used s part c)) (choices s part)

@@ -1,0 +1,176 @@
+//! What one row brings to the lists: its new machines, and their cycles.
+
+ghost use Rattle.std.specs.Prelude.{◌≡◌, ◌<◌, ◌≤◌, true, if◌then◌else◌, map, max, length, take, IfOk, OnOk};
+ghost use Rattle.tomex_config.specs.Configuration.{is_between};
+ghost use Rattle.tomex_study.specs.Cycles.{totals_on};
+ghost use Rattle.tomex_study.specs.Study.{config_at};
+ghost use Rattle.tomex_worth.specs.Changes.{part_at};
+ghost use Rattle.tomex_choices.specs.Asking.{AreAsked, AreLists, IsAsked, IsAskedOnce, IsNumberAsked, differ};
+ghost use Rattle.tomex_choices.specs.Choices.{latency_in, most_of};
+ghost use Rattle.tomex_choices.specs.NewMachines.{grown, machine_of, with_count};
+
+use crate::counts::{latency_in, most_of, with_count};
+use crate::entries::Entries;
+use crate::found::ListFound;
+use crate::new_machine::NewMachine;
+use std::alloc::{AllocError, Allocator};
+use tomex_config::{Config, cost};
+use tomex_row_runs::Knowledge;
+use tomex_study::Study;
+use tomex_survey::cycles_by_weight;
+use tomex_timing::Part;
+
+/// The programs' totals on any configuration, which are looked up first, or learnt.
+fn totals_on<A: Allocator + Clone>(
+    knowledge: &mut Knowledge<'_, A>,
+    config: &Config,
+) -> Result<[u64; 8], AllocError>
+    ensures programs { knowledge.new.programs ≡ knowledge.old.programs }
+    ensures totals { IfOk result
+        (λ t. take (length knowledge.old.programs) t ≡ totals_on knowledge.old.programs config.now) }
+{
+    let known = knowledge.known_totals(config);
+    knowledge.learn(config, known)
+}
+
+/// A new machine, on which the programs have these totals.
+fn new_machine<A: Allocator>(
+    study: &Study<A>,
+    part: Part,
+    number: u8,
+    config: &Config,
+    totals: &[u64],
+) -> NewMachine
+    requires { totals.now ≡ totals_on study.now.programs config.now }
+    ensures { result ≡ machine_of study.now part number config.now }
+{
+    study.keeps_limits();
+    config.keeps_limits();
+    NewMachine {
+        number,
+        latency: latency_in(part, config),
+        cost: cost(config, &study.prices()),
+        cycles: cycles_by_weight(study.programs(), totals),
+    }
+}
+
+/// True if two lists of the same length differ.
+fn differ(a: &[u64], b: &[u64]) -> bool
+    requires { length a.now ≡ length b.now }
+    ensures { result ≡ differ a.now b.now }
+{
+    for place in 0..a.len() {
+        if a[place] != b[place] {
+            return true;
+        }
+    }
+    false
+}
+
+/// The last number with which something changes, after one more number was asked.
+fn last_change(last: u8, changes: bool, number: u8) -> u8
+    ensures { result ≡ (if changes then max last number else last) }
+{
+    if changes { last.max(number) } else { last }
+}
+
+/// Asks a configuration with one number of a list's part. `most` are the totals with the most.
+fn ask_number<A: Allocator + Clone>(
+    knowledge: &mut Knowledge<'_, A>,
+    study: &Study<A>,
+    entries: &Entries<'_>,
+    config: &Config,
+    number: u8,
+    most: &[u64],
+    found: &mut ListFound<A>,
+) -> Result<(), AllocError>
+    requires programs { knowledge.old.programs ≡ study.now.programs }
+    requires rows { entries.now.rows ≡ study.now.rows }
+    requires number { is_between 1 (most_of (part_at entries.now.place)) number ≡ true }
+    requires most { most.now ≡ totals_on study.now.programs
+        (with_count config.now (part_at entries.now.place) (most_of (part_at entries.now.place))) }
+    ensures programs { knowledge.new.programs ≡ knowledge.old.programs }
+    ensures asked { OnOk result
+        (IsNumberAsked study.now (part_at entries.now.place) config.now number found.old found.new) }
+{
+    let part = entries.part();
+    let asked = with_count(config, part, number);
+    let totals = totals_on(knowledge, &asked)?;
+    let own = &totals[..most.len()];
+    config.keeps_limits();
+    asked.keeps_limits();
+    let changes = differ(own, most);
+    found.last_change = last_change(found.last_change, changes, number);
+    if let Some(grown) = entries.grown(config, number) {
+        grown.keeps_limits();
+        found
+            .machines
+            .push(new_machine(study, part, number, &grown, own))?;
+    }
+    Ok(())
+}
+
+/// Asks a configuration with each number of a list's part, from the most down: what is learnt with the most is often
+/// known of many others.
+fn ask_list<A: Allocator + Clone>(
+    knowledge: &mut Knowledge<'_, A>,
+    study: &Study<A>,
+    entries: &Entries<'_>,
+    config: &Config,
+    found: &mut ListFound<A>,
+) -> Result<(), AllocError>
+    requires programs { knowledge.old.programs ≡ study.now.programs }
+    requires rows { entries.now.rows ≡ study.now.rows }
+    ensures programs { knowledge.new.programs ≡ knowledge.old.programs }
+    ensures asked { OnOk result (IsAsked study.now (part_at entries.now.place) config.now found.old found.new) }
+{
+    let part = entries.part();
+    let most = most_of(part);
+    let totals = totals_on(knowledge, &with_count(config, part, most))?;
+    let own = &totals[..study.programs().len()];
+    for fewer in 0..most {
+        ask_number(knowledge, study, entries, config, most - fewer, own, found)?;
+    }
+    Ok(())
+}
+
+/// Asks a row in a list, unless an earlier row is like it there.
+fn ask_if_new<A: Allocator + Clone>(
+    knowledge: &mut Knowledge<'_, A>,
+    study: &Study<A>,
+    entries: &Entries<'_>,
+    row: usize,
+    found: &mut ListFound<A>,
+) -> Result<(), AllocError>
+    requires programs { knowledge.old.programs ≡ study.now.programs }
+    requires rows { entries.now.rows ≡ study.now.rows }
+    requires row { row < length study.now.rows }
+    ensures programs { knowledge.new.programs ≡ knowledge.old.programs }
+    ensures asked { OnOk result (IsAskedOnce study.now entries.now.place row found.old found.new) }
+{
+    if entries.repeats(row) {
+        return Ok(());
+    }
+    ask_list(knowledge, study, entries, &study.rows()[row], found)
+}
+
+/// Asks a row in each list in which no earlier row is like it.
+pub(crate) fn ask_row<A: Allocator + Clone>(
+    knowledge: &mut Knowledge<'_, A>,
+    study: &Study<A>,
+    lists: &[Entries<'_>],
+    row: usize,
+    found: &mut Vec<ListFound<A>, A>,
+) -> Result<(), AllocError>
+    requires programs { knowledge.old.programs ≡ study.now.programs }
+    requires lists { AreLists study.now.rows lists.now }
+    requires row { row < length study.now.rows }
+    requires found { length found.old.items ≡ 13 }
+    ensures programs { knowledge.new.programs ≡ knowledge.old.programs }
+    ensures asked { OnOk result (AreAsked study.now row found.old.items found.new.items) }
+{
+    for (place, entries) in lists.iter().enumerate() {
+        ask_if_new(knowledge, study, entries, row, &mut found[place])?;
+    }
+    Ok(())
+}

@@ -1,0 +1,27 @@
+//! Which choices of a study's lists are of use: those that a list lacks and what they would bring, by evaluating new
+//! machines as rows are; from which number on nothing changes; and the floors of a study.
+//! Tests: tomex_tests_choices.
+#![tactic(auto)]
+
+mod asking;
+mod choices;
+mod counts;
+mod entries;
+mod floors;
+mod found;
+mod laws;
+mod new_machine;
+mod saving;
+mod searching;
+mod useful;
+mod weighing;
+
+pub use choices::{front_choices, unused};
+pub use counts::{latency_in, most_of};
+pub use laws::{
+    additions_are_all_that_is_needed, complete_lists_are_complete,
+    floor_bounds_machines_of_all_sizes, more_than_enough_changes_nothing, unused_choices_may_go,
+};
+pub use new_machine::NewMachine;
+pub use saving::Saving;
+pub use weighing::{WeighedChoices, weigh_choices};

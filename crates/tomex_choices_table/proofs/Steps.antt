@@ -1,0 +1,24 @@
+-- One list's text more, and one heading's column.
+use Rattle.std.proofs.Common.{◌≡◌, ◌∙◌, ap, ap₂, sym, ℕ, ◌+◌, ◌<◌, List, [], ◌∷◌, ◌++◌, append_assoc, drop, get_or}
+use Rattle.std.proofs.Common.{length, map, take}
+use Rattle.std.proofs.lemmas.List.{at_drop_more, map-append, take_more}
+use Rattle.tomex_timing.specs.Needs.{all_parts}
+use Rattle.tomex_timing.specs.declared.part.Part.{Part}
+use Rattle.tomex_timing.specs.declared.part.Part.TheVariants.{Width}
+use Rattle.tomex_worth.specs.Changes.{part_at}
+
+pub text_more : (f : Part → List ℕ) (k : ℕ) (before after whole : List (List ℕ)) (text : List ℕ) → k < 13
+    → after ≡ before ++ text ∷ [] → text ≡ f (part_at k) → before ++ map f (drop k all_parts) ≡ whole
+    → after ++ map f (drop (k + 1) all_parts) ≡ whole
+text_more f k before after whole text low grown own so_far =
+    let rest : List (List ℕ) = map f (drop (k + 1) all_parts) in
+    ap (λ (xs : List (List ℕ)). xs ++ rest) (grown ∙ ap (λ (t : List ℕ). before ++ t ∷ []) own)
+    ∙ (append_assoc before (f (part_at k) ∷ []) rest
+    ∙ (ap (λ (xs : List (List ℕ)). before ++ xs) (sym (at_drop_more (map f) all_parts k Width low)) ∙ so_far))
+
+pub item_pushed : {X Y : Type 0} (f : X → Y) (xs : List X) (k : ℕ) (d : X) (y : Y) (before after : List Y)
+    → k < length xs → before ≡ map f (take k xs) → y ≡ f (get_or xs k d) → after ≡ before ++ y ∷ []
+    → after ≡ map f (take (k + 1) xs)
+item_pushed f xs k d y before after within so_far own grown =
+    grown ∙ (ap₂ (λ (ys : List _) (z : _). ys ++ z ∷ []) so_far own
+    ∙ (sym (map-append f (take k xs) (get_or xs k d ∷ [])) ∙ ap (map f) (sym (take_more xs k d within))))
