@@ -11,9 +11,29 @@ use tomex_streams::NoMeter;
 use tomex_tests_whole_runs::{Outcome, outcome_of};
 
 /// The archives, one a command.
-const COMMANDS: [&str; 18] = [
-    "all", "animate", "explore", "find", "front", "help", "hull", "page", "path", "pipeline",
-    "plot", "prices", "rows", "run", "stalls", "tables", "times", "worth",
+const COMMANDS: [&str; 22] = [
+    "all",
+    "animate",
+    "choices",
+    "compare",
+    "explore",
+    "find",
+    "front",
+    "functions",
+    "help",
+    "hull",
+    "page",
+    "path",
+    "pipeline",
+    "plot",
+    "prices",
+    "rows",
+    "run",
+    "stalls",
+    "tables",
+    "times",
+    "weights",
+    "worth",
 ];
 
 /// The most bytes of standard output.

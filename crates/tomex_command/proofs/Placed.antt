@@ -28,17 +28,6 @@ module _ {X : Type 0} (p : X → Bool) (xs : List X) where
       go true e = cc
       go false e = absurd (cc)
 
-  pub place_inside : (n : ℕ) → position p xs ≡ Some n → n < length xs
-  place_inside n is = go (nat_lt (position_or_len p xs) (length xs)) refl is
-    where
-      go : (b : Bool) → nat_lt (position_or_len p xs) (length xs) ≡ b
-          → cond b (Some (position_or_len p xs)) None ≡ Some n → n < length xs
-      go true less e =
-          let k : position_or_len p xs ≡ n = cc in
-          let low : position_or_len p xs < length xs = leb-true _ _ less in
-          omega (arith, low, k)
-      go false less e = absurd (cc)
-
   -- if there is no place, none is found
   none_found : position p xs ≡ None → find p xs ≡ None
   none_found is =

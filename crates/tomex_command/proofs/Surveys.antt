@@ -2,7 +2,8 @@
 use Rattle.std.proofs.Common.{◌≡◌, sym, subst, inr, ℕ, List}
 use Rattle.tomex_report.specs.Surveyed.{IsSurveyRefusal}
 use Rattle.tomex_report.specs.declared.survey_error.SurveyError.{SurveyError}
-use Rattle.tomex_report.specs.declared.survey_error.SurveyError.TheVariants.{Study, NoSuchRow, TooLarge, Memory}
+use Rattle.tomex_report.specs.declared.survey_error.SurveyError.TheVariants.{Study, NoSuchRow, NoSuchProgram, TooLarge}
+use Rattle.tomex_report.specs.declared.survey_error.SurveyError.TheVariants.{Memory}
 use Rattle.tomex_report.specs.declared.surveying.SurveyView.{SurveyView}
 use Rattle.tomex_command.specs.declared.failure.Failure.{Failure}
 use Rattle.tomex_streams.specs.Files.{Known}
@@ -16,6 +17,8 @@ surveyed : (view : SurveyView) (file : List ℕ → Known) (name bytes : List �
 surveyed view file name bytes contents (Study error) sources refusal =
     λ other. inr (record { bytes = bytes; contents = contents; sources = sources; refused = refusal })
 surveyed view file name bytes contents NoSuchRow sources refusal =
+    record { bytes = bytes; contents = contents; sources = sources; unsurveyed = refusal }
+surveyed view file name bytes contents NoSuchProgram sources refusal =
     record { bytes = bytes; contents = contents; sources = sources; unsurveyed = refusal }
 surveyed view file name bytes contents TooLarge sources refusal =
     record { bytes = bytes; contents = contents; sources = sources; unsurveyed = refusal }

@@ -1,9 +1,11 @@
 pub mod AnimateLines
+pub mod ChoicesLines
 pub mod Chosen
 pub mod Commands
 pub mod ExplainLines
 pub mod FindLines
 pub mod FrontLines
+pub mod FunctionsLines
 pub mod PipelineLines
 pub mod Reading
 pub mod RunLines

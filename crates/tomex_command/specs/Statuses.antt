@@ -57,6 +57,7 @@ failure_of_answer (answers.Sweep sweeps.Worker) = Worker
 abbrev pub failure_of_survey : SurveyError → Failure
 failure_of_survey (surveys.Study error) = Study error
 failure_of_survey surveys.NoSuchRow = NoSuchRow
+failure_of_survey surveys.NoSuchProgram = NoSuchProgram
 failure_of_survey surveys.TooLarge = TableTooLarge
 failure_of_survey surveys.Memory = Memory
 

@@ -1,5 +1,5 @@
--- The result of a line that asks for all rows of a study: by `rows`, `worth`, `prices`, `page`, and `plot` with all
--- rows.
+-- The result of a line that asks for all rows of a study: by `rows`, `worth`, `prices`, `weights`, `compare`, `page`,
+-- and `plot` with all rows.
 use Rattle.std.specs.Prelude.{ℕ, Bool, true, false, List}
 use Rattle.tomex_report.specs.Surveyed.{IsTextFrom, IsWithoutTextFrom}
 use Rattle.tomex_report.specs.declared.front_view.FrontView.TheVariants as fronts
@@ -9,7 +9,7 @@ use Rattle.tomex_report.specs.declared.surveying.SurveyView.{SurveyView}
 use Rattle.tomex_report.specs.declared.surveying.SurveyView.TheVariants as views
 use Rattle.tomex_command.specs.FrontLines.{IsExploreFailure, IsFrontOf}
 use Rattle.tomex_command.specs.declared.failure.Failure.{Failure}
-use Rattle.tomex_command.specs.declared.failure.Failure.TheVariants.{NoSuchRow, TableTooLarge}
+use Rattle.tomex_command.specs.declared.failure.Failure.TheVariants.{NoSuchRow, NoSuchProgram, TableTooLarge}
 use Rattle.tomex_streams.specs.Files.{Known}
 use Rattle.tomex_command.specs.StudyFiles.{AreSources, IsStudyFailure}
 
@@ -28,9 +28,11 @@ pub record IsWithoutSurvey (view : SurveyView) (file : List ℕ → Known) (name
   pub sources : AreSources file name bytes contents
   pub unsurveyed : IsWithoutTextFrom view bytes contents error
 
--- when each failure comes: those of the study, then that it has no such row, then that its table is too large
+-- when each failure comes: those of the study, then that it has no such row or program, then that its table is too
+-- large
 abbrev pub IsSurveyFailure : SurveyView → (List ℕ → Known) → List ℕ → Failure → Type 0
 IsSurveyFailure view file name NoSuchRow = IsWithoutSurvey view file name errors.NoSuchRow
+IsSurveyFailure view file name NoSuchProgram = IsWithoutSurvey view file name errors.NoSuchProgram
 IsSurveyFailure view file name TableTooLarge = IsWithoutSurvey view file name errors.TooLarge
 IsSurveyFailure view file name failure = IsStudyFailure file name failure
 

@@ -7,10 +7,12 @@ ghost use Rattle.tomex_command.specs.Commands.{IsDone, IsFailure, IsCarriedOut, 
 
 pub mod all;
 pub mod animate;
+pub mod choices;
 pub mod chosen;
 pub mod explain;
 pub mod explore;
 pub mod find;
+pub mod functions;
 pub mod path;
 pub mod pipeline;
 pub mod plot;
@@ -27,9 +29,11 @@ use crate::heaps::Heaps;
 use crate::reporting::{report_failure, report_line_fault};
 use all::text_of_all;
 use animate::text_of_animate;
+use choices::text_of_choices;
 use explain::text_of_explain;
 use explore::{table_view, text_of_front};
 use find::text_of_find;
+use functions::text_of_functions;
 use path::text_of_path;
 use pipeline::text_of_pipeline;
 use plot::text_of_plot;
@@ -90,6 +94,7 @@ fn text_of<
             let view = SurveyView::Worth(line.config as usize);
             text_of_survey(rt, alloc, heap, line.explore, files, meter, view)
         }
+        Line::Choices(line) => text_of_choices(rt, alloc, heap, line, files, meter),
         Line::Prices(line) => text_of_survey(
             rt,
             alloc,
@@ -99,6 +104,20 @@ fn text_of<
             meter,
             SurveyView::Prices,
         ),
+        Line::Weights(line) => text_of_survey(
+            rt,
+            alloc,
+            heap,
+            line,
+            files,
+            meter,
+            SurveyView::Weights,
+        ),
+        Line::Compare(line) => {
+            let view = SurveyView::Compare(line.builds.old, line.builds.new);
+            text_of_survey(rt, alloc, heap, line.explore, files, meter, view)
+        }
+        Line::Functions(line) => text_of_functions(alloc, heap, line, files),
         Line::Page(line) => {
             let view = SurveyView::Page(line.study);
             text_of_survey(rt, alloc, heap, line, files, meter, view)

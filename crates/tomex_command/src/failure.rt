@@ -124,6 +124,7 @@ impl From<SurveyError> for Failure {
         match error {
             SurveyError::Study(error) => Failure::Study(error),
             SurveyError::NoSuchRow => Failure::NoSuchRow,
+            SurveyError::NoSuchProgram => Failure::NoSuchProgram,
             SurveyError::TooLarge => Failure::TableTooLarge,
             SurveyError::Memory => Failure::Memory,
         }

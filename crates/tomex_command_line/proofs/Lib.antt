@@ -1,4 +1,5 @@
 -- What the proofs of the crate share.
+mod Built
 mod Found
 mod Plain
 mod PassedOn

@@ -7,16 +7,18 @@ use Rattle.clap.specs.declared.error.kind.ErrorKind.TheVariants.{DisplayHelp, Di
 use Rattle.tomex_command_line.specs.declared.line.Line.{Line}
 use Rattle.tomex_command_line.specs.declared.line.Line.TheVariants.{Run, Times, Stalls, Path, Pipeline, Tables}
 use Rattle.tomex_command_line.specs.declared.line.Line.TheVariants.{Animate, All, Explore, Front, Plot, Rows}
-use Rattle.tomex_command_line.specs.declared.line.Line.TheVariants.{Worth, Prices, Page, Find, Explain}
+use Rattle.tomex_command_line.specs.declared.line.Line.TheVariants.{Worth, Choices, Prices, Weights, Compare}
+use Rattle.tomex_command_line.specs.declared.line.Line.TheVariants.{Functions, Page, Find, Explain}
 use Rattle.tomex_arguments.specs.declared.fault.LineFault.{LineFault}
 use Rattle.tomex_arguments.specs.declared.fault.LineFault.TheVariants.{Help, Usage, Memory}
 use Rattle.tomex_command_line.specs.Grammar.{tomex_app}
 use Rattle.tomex_command_line.specs.Values.{IsRunAsked, IsOneRunAsked, IsStallsAsked, IsPathAsked, IsPipelineAsked}
 use Rattle.tomex_command_line.specs.Values.{IsTablesAsked, IsAnimateAsked, IsAllAsked, IsExploreAsked, IsFrontAsked}
-use Rattle.tomex_command_line.specs.Values.{IsPlotAsked, IsWorthAsked, IsFindAsked, IsExplainAsked}
+use Rattle.tomex_command_line.specs.Values.{IsPlotAsked, IsWorthAsked, IsCompareAsked, IsFunctionsAsked, IsFindAsked}
+use Rattle.tomex_command_line.specs.Values.{IsExplainAsked}
 use Rattle.tomex_command_line.specs.Values.{IsNoRun, IsNoOneRun, IsNoStalls, IsNoPath, IsNoPipeline, IsNoTables}
-use Rattle.tomex_command_line.specs.Values.{IsNoAll}
-use Rattle.tomex_command_line.specs.Values.{IsNoAnimate, IsNoExplore, IsNoFront, IsNoPlot, IsNoWorth, IsNoFind}
+use Rattle.tomex_command_line.specs.Values.{IsNoAll, IsNoAnimate, IsNoExplore, IsNoFront, IsNoPlot, IsNoWorth}
+use Rattle.tomex_command_line.specs.Values.{IsNoCompare, IsNoFunctions, IsNoFind}
 
 -- the command of that name with these values
 abbrev pub IsCommand : Option (Text × List Row) → Line → Type 0
@@ -55,8 +57,18 @@ IsCommand found (Rows line) =
 IsCommand found (Worth line) =
     (rows : List Row) × (found ≡ Some (codes "worth", rows))
     × IsWorthAsked rows line.explore.study.now line.config line.explore.workers
+IsCommand found (Choices line) =
+    (rows : List Row) × (found ≡ Some (codes "choices", rows)) × IsExploreAsked rows line.study.now line.workers
 IsCommand found (Prices line) =
     (rows : List Row) × (found ≡ Some (codes "prices", rows)) × IsExploreAsked rows line.study.now line.workers
+IsCommand found (Weights line) =
+    (rows : List Row) × (found ≡ Some (codes "weights", rows)) × IsExploreAsked rows line.study.now line.workers
+IsCommand found (Compare line) =
+    (rows : List Row) × (found ≡ Some (codes "compare", rows))
+    × IsCompareAsked rows line.explore.study.now line.builds.old.now line.builds.new.now line.explore.workers
+IsCommand found (Functions line) =
+    (rows : List Row) × (found ≡ Some (codes "functions", rows))
+    × IsFunctionsAsked rows line.study.now line.config line.builds.old.now line.builds.new.now
 IsCommand found (Page line) =
     (rows : List Row) × (found ≡ Some (codes "page", rows)) × IsExploreAsked rows line.study.now line.workers
 IsCommand found (Find line) =
@@ -94,7 +106,12 @@ pub data IsNoLineAsked (found : Option (Text × List Row)) : Type 0 where
   no_plot : (rows : List Row) → found ≡ Some (codes "plot", rows) → IsNoPlot rows → IsNoLineAsked found
   no_rows : (rows : List Row) → found ≡ Some (codes "rows", rows) → IsNoExplore rows → IsNoLineAsked found
   no_worth : (rows : List Row) → found ≡ Some (codes "worth", rows) → IsNoWorth rows → IsNoLineAsked found
+  no_choices : (rows : List Row) → found ≡ Some (codes "choices", rows) → IsNoExplore rows → IsNoLineAsked found
   no_prices : (rows : List Row) → found ≡ Some (codes "prices", rows) → IsNoExplore rows → IsNoLineAsked found
+  no_weights : (rows : List Row) → found ≡ Some (codes "weights", rows) → IsNoExplore rows → IsNoLineAsked found
+  no_compare : (rows : List Row) → found ≡ Some (codes "compare", rows) → IsNoCompare rows → IsNoLineAsked found
+  no_functions : (rows : List Row) → found ≡ Some (codes "functions", rows) → IsNoFunctions rows
+      → IsNoLineAsked found
   no_page : (rows : List Row) → found ≡ Some (codes "page", rows) → IsNoExplore rows → IsNoLineAsked found
   no_find : (rows : List Row) → found ≡ Some (codes "find", rows) → IsNoFind rows → IsNoLineAsked found
   nothing : found ≡ None → IsNoLineAsked found

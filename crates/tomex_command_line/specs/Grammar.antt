@@ -41,6 +41,10 @@ abbrev pub one_run_app : Text → App
 one_run_app name =
     with_rule (with_rule (study_app name) (numeral_rule (codes "CONFIG") 0 last_row)) (word_rule (codes "PROGRAM"))
 
+-- a command on two builds of a program, after its other words: `.. OLD NEW`
+abbrev pub with_builds : App → App
+with_builds app = with_rule (with_rule app (word_rule (codes "OLD"))) (word_rule (codes "NEW"))
+
 -- a command that explores a study: `NAME STUDY [--workers N]`
 abbrev pub exploring_app : Text → App
 exploring_app name = with_rule (study_app name) (option_rule (codes "workers") 1 32 (codes "1"))
@@ -133,8 +137,28 @@ worth_shape = record (new_shape (codes "worth")) {
       ∷ numeral_rule (codes "CONFIG") 0 last_row ∷ [];
 }
 
+abbrev pub choices_shape : Shape
+choices_shape = exploring_shape (codes "choices")
+
 abbrev pub prices_shape : Shape
 prices_shape = exploring_shape (codes "prices")
+
+abbrev pub weights_shape : Shape
+weights_shape = exploring_shape (codes "weights")
+
+-- `compare STUDY OLD NEW [--workers N]`
+abbrev pub compare_shape : Shape
+compare_shape = record (new_shape (codes "compare")) {
+  rules = word_rule (codes "STUDY") ∷ option_rule (codes "workers") 1 32 (codes "1")
+      ∷ word_rule (codes "OLD") ∷ word_rule (codes "NEW") ∷ [];
+}
+
+-- `functions STUDY CONFIG OLD NEW`
+abbrev pub functions_shape : Shape
+functions_shape = record (new_shape (codes "functions")) {
+  rules = word_rule (codes "STUDY") ∷ numeral_rule (codes "CONFIG") 0 last_row
+      ∷ word_rule (codes "OLD") ∷ word_rule (codes "NEW") ∷ [];
+}
 
 abbrev pub page_shape : Shape
 page_shape = exploring_shape (codes "page")
@@ -158,6 +182,6 @@ abbrev pub tomex_app : App
 tomex_app = record {
   top = record (new_shape (codes "tomex")) { has_version = true; is_leaf = false; subcommand_required = true };
   subs = run_shape ∷ times_shape ∷ stalls_shape ∷ path_shape ∷ pipeline_shape ∷ tables_shape ∷ animate_shape
-      ∷ all_shape ∷ explore_shape ∷ front_shape ∷ plot_shape ∷ rows_shape ∷ worth_shape ∷ prices_shape ∷ page_shape
-      ∷ find_shape ∷ explain_shape ∷ [];
+      ∷ all_shape ∷ explore_shape ∷ front_shape ∷ plot_shape ∷ rows_shape ∷ worth_shape ∷ choices_shape ∷ prices_shape
+      ∷ weights_shape ∷ compare_shape ∷ functions_shape ∷ page_shape ∷ find_shape ∷ explain_shape ∷ [];
 }

@@ -5,7 +5,8 @@ use Rattle.tomex_command_line.specs.declared.line.command_name.CommandName.{Comm
 use Rattle.tomex_command_line.specs.declared.line.command_name.CommandName.TheVariants.{Run, Times, Stalls, Path}
 use Rattle.tomex_command_line.specs.declared.line.command_name.CommandName.TheVariants.{Pipeline, Tables, Animate, All}
 use Rattle.tomex_command_line.specs.declared.line.command_name.CommandName.TheVariants.{Explore, Front, Plot, Rows}
-use Rattle.tomex_command_line.specs.declared.line.command_name.CommandName.TheVariants.{Worth, Prices, Page, Find}
+use Rattle.tomex_command_line.specs.declared.line.command_name.CommandName.TheVariants.{Worth, Choices, Prices, Weights}
+use Rattle.tomex_command_line.specs.declared.line.command_name.CommandName.TheVariants.{Compare, Functions, Page, Find}
 use Rattle.tomex_command_line.specs.declared.line.command_name.CommandName.TheVariants.{Explain}
 
 -- the command's name, as it is written
@@ -23,7 +24,11 @@ name_of Front = codes "front"
 name_of Plot = codes "plot"
 name_of Rows = codes "rows"
 name_of Worth = codes "worth"
+name_of Choices = codes "choices"
 name_of Prices = codes "prices"
+name_of Weights = codes "weights"
+name_of Compare = codes "compare"
+name_of Functions = codes "functions"
 name_of Page = codes "page"
 name_of Find = codes "find"
 name_of Explain = codes "explain"

@@ -118,6 +118,31 @@ pub record IsWorthAsked (rows : List Row) (study : List ℕ) (config workers : �
 abbrev pub IsNoWorth : List Row → Type 0
 IsNoWorth rows = (study : List ℕ) (config workers : ℕ) → IsWorthAsked rows study config workers → ⊥
 
+-- the two builds of a program
+pub record AreBuildsAsked (rows : List Row) (old new : List ℕ) : Type 0 where
+  pub is_old : IsWord rows (codes "OLD") old
+  pub is_new : IsWord rows (codes "NEW") new
+
+abbrev pub AreNoBuilds : List Row → Type 0
+AreNoBuilds rows = (old new : List ℕ) → AreBuildsAsked rows old new → ⊥
+
+-- the values of `compare`
+pub record IsCompareAsked (rows : List Row) (study old new : List ℕ) (workers : ℕ) : Type 0 where
+  pub of_study : IsExploreAsked rows study workers
+  pub are_builds : AreBuildsAsked rows old new
+
+abbrev pub IsNoCompare : List Row → Type 0
+IsNoCompare rows = (study old new : List ℕ) (workers : ℕ) → IsCompareAsked rows study old new workers → ⊥
+
+-- the values of `functions`
+pub record IsFunctionsAsked (rows : List Row) (study : List ℕ) (config : ℕ) (old new : List ℕ) : Type 0 where
+  pub is_study : IsWord rows (codes "STUDY") study
+  pub is_config : IsNumber rows (codes "CONFIG") 0 last_row config
+  pub are_builds : AreBuildsAsked rows old new
+
+abbrev pub IsNoFunctions : List Row → Type 0
+IsNoFunctions rows = (study : List ℕ) (config : ℕ) (old new : List ℕ) → IsFunctionsAsked rows study config old new → ⊥
+
 -- the values of `find`
 pub record IsFindAsked (rows : List Row) (study : List ℕ) (choices : List (List ℕ)) : Type 0 where
   pub is_study : IsWord rows (codes "STUDY") study

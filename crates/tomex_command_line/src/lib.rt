@@ -7,10 +7,13 @@ mod line;
 
 pub use line::all::AllLine;
 pub use line::animate::AnimateLine;
+pub use line::builds::Builds;
+pub use line::compare::CompareLine;
 pub use line::explain::ExplainLine;
 pub use line::explore::ExploreLine;
 pub use line::find::FindLine;
 pub use line::front::FrontLine;
+pub use line::functions::FunctionsLine;
 pub use line::one_run::OneRun;
 pub use line::path::PathLine;
 pub use line::pipeline::PipelineLine;

@@ -13,11 +13,15 @@ ghost use Rattle.tomex_command_line.specs.Asked.{IsCommand, IsAsked, IsNoCommand
 
 pub mod all;
 pub mod animate;
+pub mod builds;
+mod choices;
 mod command_name;
+pub mod compare;
 pub mod explain;
 pub mod explore;
 pub mod find;
 pub mod front;
+pub mod functions;
 pub mod one_run;
 mod page;
 pub mod path;
@@ -31,16 +35,19 @@ pub mod tables;
 mod texts;
 mod times;
 mod values;
+mod weights;
 pub mod worth;
 
 use all::AllLine;
 use animate::AnimateLine;
 use clap::{ArgMatches, Command};
 use command_name::{CommandName, command_named};
+use compare::CompareLine;
 use explain::ExplainLine;
 use explore::ExploreLine;
 use find::FindLine;
 use front::FrontLine;
+use functions::FunctionsLine;
 use one_run::{OneRun, one_run_of};
 use path::PathLine;
 use pipeline::PipelineLine;
@@ -69,7 +76,11 @@ pub enum Line<'a> {
     Plot(PlotLine<'a>),
     Rows(ExploreLine<'a>),
     Worth(WorthLine<'a>),
+    Choices(ExploreLine<'a>),
     Prices(ExploreLine<'a>),
+    Weights(ExploreLine<'a>),
+    Compare(CompareLine<'a>),
+    Functions(FunctionsLine<'a>),
     Page(ExploreLine<'a>),
     Find(FindLine<'a>),
     Explain(ExplainLine),
@@ -103,7 +114,11 @@ Examples, in the folder `examples`:
   tomex plot explore.toml --workers 4
   tomex rows explore.toml --workers 4
   tomex worth explore.toml 132
+  tomex choices explore.toml --workers 4
   tomex prices explore.toml
+  tomex weights explore.toml
+  tomex compare builds.toml o2 o3
+  tomex functions builds.toml 167 o2 o3
   tomex page explore.toml > explore.html
   tomex find explore.toml alu=2 mul=2
   tomex explain image: segment
@@ -140,7 +155,11 @@ fn grammar<'a>(alloc: Global) -> Result<Command<'a>, AllocError>
     let program = with_command(program, plot::grammar(alloc));
     let program = with_command(program, rows::grammar(alloc));
     let program = with_command(program, worth::grammar(alloc));
+    let program = with_command(program, choices::grammar(alloc));
     let program = with_command(program, prices::grammar(alloc));
+    let program = with_command(program, weights::grammar(alloc));
+    let program = with_command(program, compare::grammar(alloc));
+    let program = with_command(program, functions::grammar(alloc));
     let program = with_command(program, page::grammar(alloc));
     let program = with_command(program, find::grammar(alloc));
     with_command(program, explain::grammar(alloc))
@@ -169,7 +188,11 @@ fn line_with<'a>(
         CommandName::Plot => Ok(Line::Plot(plot::line_of(alloc, args)?)),
         CommandName::Rows => Ok(Line::Rows(explore::line_of(alloc, args)?)),
         CommandName::Worth => Ok(Line::Worth(worth::line_of(alloc, args)?)),
+        CommandName::Choices => Ok(Line::Choices(explore::line_of(alloc, args)?)),
         CommandName::Prices => Ok(Line::Prices(explore::line_of(alloc, args)?)),
+        CommandName::Weights => Ok(Line::Weights(explore::line_of(alloc, args)?)),
+        CommandName::Compare => Ok(Line::Compare(compare::line_of(alloc, args)?)),
+        CommandName::Functions => Ok(Line::Functions(functions::line_of(alloc, args)?)),
         CommandName::Page => Ok(Line::Page(explore::line_of(alloc, args)?)),
         CommandName::Find => Ok(Line::Find(find::line_of(alloc, args)?)),
         CommandName::Explain => Ok(Line::Explain(explain::line_of(alloc, args)?)),

@@ -1,4 +1,5 @@
 pub mod Oks
+pub mod Placed
 pub mod Cycles
 pub mod Machines
 mod Hulls

@@ -18,6 +18,9 @@ pub enum SurveyError {
     /// They are a study without a configuration of this number.
     #[error("no such row")]
     NoSuchRow,
+    /// They are a study without a program of one of the names.
+    #[error("no such program")]
+    NoSuchProgram,
     /// They are a study whose table of prices would have too many intervals.
     #[error("table too large")]
     TooLarge,

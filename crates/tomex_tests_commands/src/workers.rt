@@ -63,13 +63,16 @@ fn is_shared<R: AllocGlobal + Threads + Wait + Sync>(rt: &R, line: &str) -> Resu
 }
 
 /// The commands that explore a study, or find the cycles of all its rows, by two workers.
-static LINES: [&str; 8] = [
+static LINES: [&str; 11] = [
     "tomex explore study --workers 2",
     "tomex front study --workers 2",
     "tomex plot study --workers 2",
     "tomex rows study --workers 2",
     "tomex worth study 0 --workers 2",
+    "tomex choices study --workers 2",
     "tomex prices study --workers 2",
+    "tomex weights study --workers 2",
+    "tomex compare study mul mul --workers 2",
     "tomex plot study --rows --workers 2",
     "tomex page study --workers 2",
 ];

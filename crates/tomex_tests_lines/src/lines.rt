@@ -49,7 +49,18 @@ fn line_on_all_rows(alloc: Global, line: &Line) -> Result<String, AllocError> {
             let (study, workers) = (worth.explore.study, worth.explore.workers);
             format!(in alloc; "worth {study} {} {workers}", worth.config)
         }
+        Line::Choices(choices) => {
+            format!(in alloc; "choices {} {}", choices.study, choices.workers)
+        }
         Line::Prices(prices) => format!(in alloc; "prices {} {}", prices.study, prices.workers),
+        Line::Weights(weights) => {
+            format!(in alloc; "weights {} {}", weights.study, weights.workers)
+        }
+        Line::Compare(compare) => {
+            let (study, workers) = (compare.explore.study, compare.explore.workers);
+            let builds = compare.builds;
+            format!(in alloc; "compare {study} {} {} {workers}", builds.old, builds.new)
+        }
         Line::Page(page) => format!(in alloc; "page {} {}", page.study, page.workers),
         other => line_on_a_program(alloc, other),
     }
@@ -110,6 +121,10 @@ fn line_on_a_program(alloc: Global, line: &Line) -> Result<String, AllocError> {
                 animate.from, animate.cycles
             )
         }
+        Line::Functions(functions) => {
+            let (study, config, builds) = (functions.study, functions.config, functions.builds);
+            format!(in alloc; "functions {study} {config} {} {}", builds.old, builds.new)
+        }
         Line::Find(find) => format!(in alloc; "find {} {:?}", find.study, find.choices),
         Line::Explain(explain) => match &explain.refusal {
             Some(words) => format!(in alloc; "explain [{words}]"),
@@ -140,7 +155,7 @@ fn text_of(alloc: Global, line: &str) -> Result<String, AllocError> {
 }
 
 /// Lines, and the beginnings of their results.
-static READ: [(&str, &str); 80] = [
+static READ: [(&str, &str); 94] = [
     ("run mul.bin", "run mul.bin 0 65536 262144"),
     (
         "run a --base 4294967292 --size 4 --limit 1",
@@ -245,8 +260,22 @@ static READ: [(&str, &str); 80] = [
     ("worth --workers=32 a 16383", "worth a 16383 32"),
     ("worth --help", "help Prints what each change"),
     ("worth -h", "help Prints what one more"),
+    ("choices a", "choices a 1"),
+    ("choices --workers 2 a", "choices a 2"),
+    ("choices --help", "help Prints, for each list of a study"),
+    ("choices -h", "help Prints which choices of each list"),
     ("prices a", "prices a 1"),
     ("prices --workers 2 a", "prices a 2"),
+    ("weights a", "weights a 1"),
+    ("weights --workers 2 a", "weights a 2"),
+    ("weights --help", "help Prints between which values"),
+    ("compare a b c", "compare a b c 1"),
+    ("compare --workers 2 a c b", "compare a c b 2"),
+    ("compare --help", "help Prints how many cycles"),
+    ("compare -h", "help Prints on which configurations"),
+    ("functions a 16383 b c", "functions a 16383 b c"),
+    ("functions --help", "help Prints, for one of the study"),
+    ("functions -h", "help Prints what each function takes"),
     ("page a", "page a 1"),
     ("page a --workers 32", "page a 32"),
     ("page --help", "help Prints a report of a study"),
@@ -325,7 +354,7 @@ fn help_is_whole(rt: HostRuntime) -> Result<(), Fail> {
     Ok(())
 }
 
-static REFUSED: [&str; 41] = [
+static REFUSED: [&str; 47] = [
     "run a --base 4294967293",
     "run a --base -4",
     "run a --base 0x10",
@@ -339,6 +368,12 @@ static REFUSED: [&str; 41] = [
     "times study 16384 a",
     "times study 0x1 a",
     "times study 0",
+    "choices",
+    "weights",
+    "compare study a",
+    "compare study a b c",
+    "functions study 0 a",
+    "functions study 16384 a b",
     "stalls study 16384 a",
     "stalls study 0",
     "stalls study 0 a --by-pc 1",

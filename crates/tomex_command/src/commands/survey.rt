@@ -11,7 +11,8 @@ use tomex_command_line::ExploreLine;
 use tomex_report::{Crew, SurveyView, answer_survey};
 use tomex_streams::{Files, Meter};
 
-/// The text for all rows of a study, as `rows`, `worth`, `prices` and `page` print it, and `plot` with all rows.
+/// The text for all rows of a study, as `rows`, `worth`, `prices`, `weights`, `compare` and `page` print it, and
+/// `plot` with all rows.
 pub fn text_of_survey<
     R: Threads + Sync,
     F: Files,

@@ -5,7 +5,8 @@ use Rattle.clap.specs.declared.builder.command.Command.{Command}
 use Rattle.tomex_command_line.specs.Grammar.{bare_app, run_shape, times_shape, stalls_shape, path_shape, pipeline_shape}
 use Rattle.tomex_command_line.specs.Grammar.{tables_shape, animate_shape, all_shape, explore_shape}
 use Rattle.tomex_command_line.specs.Grammar.{front_shape, plot_shape, rows_shape}
-use Rattle.tomex_command_line.specs.Grammar.{worth_shape, prices_shape, page_shape, find_shape, explain_shape}
+use Rattle.tomex_command_line.specs.Grammar.{worth_shape, choices_shape, prices_shape, weights_shape}
+use Rattle.tomex_command_line.specs.Grammar.{compare_shape, functions_shape, page_shape, find_shape, explain_shape}
 use Rattle.tomex_command_line.proofs.line.grammar.Goals as goal
 
 offered : {E : Type 0} (made program command : Result Command E) (a : App) (s : Shape)
@@ -45,10 +46,18 @@ returns c =
     c.grammar-12.ensures in
     let thirteen = offered c.with_command-program-13.result _ _ _ worth_shape c.with_command-program-13.ensures twelve
     c.grammar-13.ensures in
-    let fourteen = offered c.with_command-program-14.result _ _ _ prices_shape c.with_command-program-14.ensures
+    let fourteen = offered c.with_command-program-14.result _ _ _ choices_shape c.with_command-program-14.ensures
     thirteen c.grammar-14.ensures in
-    let fifteen = offered c.with_command-program-15.result _ _ _ page_shape c.with_command-program-15.ensures fourteen
-    c.grammar-15.ensures in
-    let sixteen = offered c.with_command-program-16.result _ _ _ find_shape c.with_command-program-16.ensures fifteen
-    c.grammar-16.ensures in
-    offered c.with_command.result _ _ _ explain_shape c.with_command.ensures sixteen c.grammar-17.ensures
+    let fifteen = offered c.with_command-program-15.result _ _ _ prices_shape c.with_command-program-15.ensures
+    fourteen c.grammar-15.ensures in
+    let sixteen = offered c.with_command-program-16.result _ _ _ weights_shape c.with_command-program-16.ensures
+    fifteen c.grammar-16.ensures in
+    let seventeen = offered c.with_command-program-17.result _ _ _ compare_shape c.with_command-program-17.ensures
+    sixteen c.grammar-17.ensures in
+    let eighteen = offered c.with_command-program-18.result _ _ _ functions_shape c.with_command-program-18.ensures
+    seventeen c.grammar-18.ensures in
+    let nineteen = offered c.with_command-program-19.result _ _ _ page_shape c.with_command-program-19.ensures
+    eighteen c.grammar-19.ensures in
+    let twenty = offered c.with_command-program-20.result _ _ _ find_shape c.with_command-program-20.ensures
+    nineteen c.grammar-20.ensures in
+    offered c.with_command.result _ _ _ explain_shape c.with_command.ensures twenty c.grammar-21.ensures

@@ -3,7 +3,7 @@ use Rattle.std.proofs.Common.{◌≡◌, ap, List, Option, Some}
 use Rattle.clap.specs.Words.{Row, Text}
 use Rattle.tomex_command_line.specs.Asked.{no_run, no_times, no_stalls, no_pipeline, no_tables, no_all, no_explore}
 use Rattle.tomex_command_line.specs.Asked.{no_animate, no_front, no_plot, no_rows, no_worth, no_prices, no_page}
-use Rattle.tomex_command_line.specs.Asked.{no_find, no_path}
+use Rattle.tomex_command_line.specs.Asked.{no_choices, no_compare, no_find, no_functions, no_path, no_weights}
 use Rattle.tomex_command_line.specs.Names.{name_of}
 use Rattle.tomex_command_line.specs.declared.line.command_name.CommandName.{CommandName}
 use Rattle.tomex_command_line.proofs.PassedOn.{passed_on}
@@ -96,3 +96,27 @@ pub returns-in_err-line_of-in-Path-clause-refused : goal.returns-in_err-line_of-
 returns-in_err-line_of-in-Path-clause-refused c =
     passed_on _ _ _ c.from_residual-in_err-line_of-in-Path.result c.from_residual-in_err-line_of-in-Path.ensures.1
     c.in_err-line_of-in-Path.ensures.refused (no_path _ (as_named _ c.in-Path.is))
+
+pub returns-in_err-line_of-in-Choices-clause-refused : goal.returns-in_err-line_of-in-Choices-clause-refused
+returns-in_err-line_of-in-Choices-clause-refused c =
+    passed_on _ _ _ c.from_residual-in_err-line_of-in-Choices.result
+    c.from_residual-in_err-line_of-in-Choices.ensures.1
+    c.in_err-line_of-in-Choices.ensures.refused (no_choices _ (as_named _ c.in-Choices.is))
+
+pub returns-in_err-line_of-in-Weights-clause-refused : goal.returns-in_err-line_of-in-Weights-clause-refused
+returns-in_err-line_of-in-Weights-clause-refused c =
+    passed_on _ _ _ c.from_residual-in_err-line_of-in-Weights.result
+    c.from_residual-in_err-line_of-in-Weights.ensures.1
+    c.in_err-line_of-in-Weights.ensures.refused (no_weights _ (as_named _ c.in-Weights.is))
+
+pub returns-in_err-line_of-in-Compare-clause-refused : goal.returns-in_err-line_of-in-Compare-clause-refused
+returns-in_err-line_of-in-Compare-clause-refused c =
+    passed_on _ _ _ c.from_residual-in_err-line_of-in-Compare.result
+    c.from_residual-in_err-line_of-in-Compare.ensures.1
+    c.in_err-line_of-in-Compare.ensures.refused (no_compare _ (as_named _ c.in-Compare.is))
+
+pub returns-in_err-line_of-in-Functions-clause-refused : goal.returns-in_err-line_of-in-Functions-clause-refused
+returns-in_err-line_of-in-Functions-clause-refused c =
+    passed_on _ _ _ c.from_residual-in_err-line_of-in-Functions.result
+    c.from_residual-in_err-line_of-in-Functions.ensures.1
+    c.in_err-line_of-in-Functions.ensures.refused (no_functions _ (as_named _ c.in-Functions.is))

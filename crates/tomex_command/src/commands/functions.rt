@@ -1,0 +1,64 @@
+//! What `functions` prints.
+ghost use Rattle.std.specs.Prelude.{◌≡◌, IfOk, IfErr};
+ghost use Rattle.tomex_function_changes.specs.Changes.{build_of};
+ghost use Rattle.tomex_command.specs.FunctionsLines.{AreReported, AreUnreported, IsFunctionsFailure, IsFunctionsOf};
+
+use super::chosen::{ChosenFile, choose_with_file};
+use super::study::study_with_files;
+use crate::failure::Failure;
+use std::alloc::{Allocator, Global};
+use tomex_command_line::{FunctionsLine, OneRun};
+use tomex_function_changes::{BuildRun, function_changes};
+use tomex_streams::Files;
+
+/// The run of a build that a line names.
+fn run_of<'a>(line: FunctionsLine<'a>, build: &'a str) -> OneRun<'a>
+    ensures study { result.study ≡ line.study }
+    ensures config { result.config ≡ line.entry.config }
+    ensures program { result.program ≡ build }
+{
+    OneRun {
+        study: line.study,
+        config: line.config,
+        program: build,
+    }
+}
+
+/// What each function takes in two builds that were chosen.
+fn report_of<A: Allocator + Clone>(
+    alloc: A,
+    heap: Global,
+    old: &ChosenFile<'_, A>,
+    new: &ChosenFile<'_, A>,
+) -> Result<Vec<u8, A>, Failure>
+    ensures text { IfOk result (λ text. AreReported old.now.config.now
+        (build_of old.now.program.now old.now.file.now) (build_of new.now.program.now new.now.file.now) text.items) }
+    ensures failure { IfErr result (AreUnreported old.now.config.now
+        (build_of old.now.program.now old.now.file.now) (build_of new.now.program.now new.now.file.now)) }
+{
+    let old_build = BuildRun {
+        program: old.program,
+        file: old.file,
+    };
+    let new_build = BuildRun {
+        program: new.program,
+        file: new.file,
+    };
+    Ok(function_changes(alloc, heap, old.config, &old_build, &new_build)?)
+}
+
+/// The text that `functions` prints. The symbols of the programs' files are the last that is looked at.
+pub fn text_of_functions<F: Files, A: Allocator + Clone>(
+    alloc: A,
+    heap: Global,
+    line: FunctionsLine<'_>,
+    files: &F,
+) -> Result<Vec<u8, A>, Failure>
+    ensures text { IfOk result (λ text. IsFunctionsOf (F.file files.now) line.entry text.items) }
+    ensures failure { IfErr result (λ failure. IsFunctionsFailure (F.file files.now) line.entry failure) }
+{
+    let studied = study_with_files(alloc.clone()?, heap, files, line.study)?;
+    let old = choose_with_file(&studied, run_of(line, line.builds.old))?;
+    let new = choose_with_file(&studied, run_of(line, line.builds.new))?;
+    report_of(alloc, heap, &old, &new)
+}
