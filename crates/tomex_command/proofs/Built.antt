@@ -1,13 +1,22 @@
 -- The failure if a study has not both builds, or they have no report.
 use Rattle.std.proofs.Common.{◌≡◌, ℕ, List, inl, inr, subst, sym}
+use Rattle.tomex_config.specs.Configuration.{Configuration}
+use Rattle.tomex_study.specs.Program.{Workload}
 use Rattle.tomex_study.specs.Study.{DesignSpace}
-use Rattle.tomex_command.specs.Chosen.{IsUnchosen}
+use Rattle.tomex_command.specs.Chosen.{IsChosen, IsUnchosen}
 use Rattle.tomex_command.specs.FunctionsLines.{AreUnreported, IsFunctionsFailure, IsOfBuilds}
 use Rattle.tomex_command.specs.StudyFiles.{IsStudyIn, IsStudyWith}
 use Rattle.tomex_command.specs.declared.failure.Failure.{Failure}
 use Rattle.tomex_command.specs.declared.failure.Failure.TheVariants as failures
 use Rattle.tomex_command_line.specs.declared.line.functions.FunctionsLine.{FunctionsLine}
 use Rattle.tomex_streams.specs.Files.{Known}
+
+-- both programs are chosen with the same configuration, that of the number
+pub chosen_too : {space : DesignSpace} {number : ℕ} {old new : List ℕ} {config other : Configuration}
+    {first second : Workload}
+    → IsChosen space number old config first → IsChosen space number new other second
+    → IsChosen space number new config second
+chosen_too old new = record { config_is = old.config_is; program_is = new.program_is }
 
 pub unreported : (file : List ℕ → Known) (line : FunctionsLine) (failure : Failure)
     → IsOfBuilds file line (λ config old new. AreUnreported config old new failure)

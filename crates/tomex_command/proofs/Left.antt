@@ -3,7 +3,8 @@ use Rattle.std.proofs.Common.{◌≡◌, List, ℕ, Bool, true, false, refl, sym
 use Rattle.tomex_command_line.specs.declared.line.Line.{Line}
 use Rattle.tomex_command_line.specs.declared.line.Line.TheVariants.{Run, Times, Stalls, Path, Pipeline, Tables}
 use Rattle.tomex_command_line.specs.declared.line.Line.TheVariants.{Animate, All, Explore, Front, Plot, Rows}
-use Rattle.tomex_command_line.specs.declared.line.Line.TheVariants.{Worth, Prices, Page, Find, Explain}
+use Rattle.tomex_command_line.specs.declared.line.Line.TheVariants.{Worth, Choices, Prices, Weights}
+use Rattle.tomex_command_line.specs.declared.line.Line.TheVariants.{Compare, Functions, Page, Find, Explain}
 use Rattle.tomex_streams.specs.Files.{Known}
 use Rattle.tomex_streams.specs.Sinks.{Seen}
 use Rattle.tomex_command.specs.Commands.{IsFailure, IsLeft}
@@ -29,7 +30,11 @@ not_written file (Front line) is = is
 not_written file (Plot line) is = not_drawn file line.all line.explore.study.now is
 not_written file (Rows line) is = is
 not_written file (Worth line) is = is
+not_written file (Choices line) is = is
 not_written file (Prices line) is = is
+not_written file (Weights line) is = is
+not_written file (Compare line) is = is
+not_written file (Functions line) is = is
 not_written file (Page line) is = is
 not_written file (Find line) is = is
 not_written file (Explain line) is = is

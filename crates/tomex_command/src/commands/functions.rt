@@ -13,9 +13,9 @@ use tomex_streams::Files;
 
 /// The run of a build that a line names.
 fn run_of<'a>(line: FunctionsLine<'a>, build: &'a str) -> OneRun<'a>
-    ensures study { result.study ≡ line.study }
+    ensures study { result.study ≡ line.entry.study }
     ensures config { result.config ≡ line.entry.config }
-    ensures program { result.program ≡ build }
+    ensures program { result.program ≡ build.entry }
 {
     OneRun {
         study: line.study,

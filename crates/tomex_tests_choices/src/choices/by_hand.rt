@@ -52,7 +52,7 @@ pub(super) fn machine_of(
 ) -> Result<Made, Fail> {
     let totals = totals_on(alloc, study.programs(), config)?;
     Ok(Made {
-        number: part.count(config) as u8,
+        number: u8::try_from(part.count(config)).ok().ok_or("too many")?,
         latency: latency(part, config),
         cost: cost(config, &study.prices()),
         cycles: weighed(study.programs(), totals.as_slice()),
@@ -167,11 +167,14 @@ fn changes(alloc: Global, study: &Study, part: Part, number: u8) -> Result<bool,
 
 /// The number of a part from which on nothing changes.
 pub(super) fn enough(alloc: Global, study: &Study, part: Part) -> Result<u8, Fail> {
-    let mut enough = most(part);
-    while enough > 1 && !changes(alloc, study, part, enough - 1)? {
-        enough -= 1;
+    let most = most(part);
+    for fewer in 1..most {
+        let number = most - fewer;
+        if changes(alloc, study, part, number)? {
+            return Ok(number + 1);
+        }
     }
-    Ok(enough)
+    Ok(1)
 }
 
 /// The weighted floors of a configuration at its own width, or at the greatest one.

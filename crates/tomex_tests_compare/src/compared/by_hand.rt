@@ -165,12 +165,12 @@ fn push_group(
     text: &mut String,
     alloc: Global,
     rows: &[Row],
-    names: [&str; 2],
+    part: &str,
+    value: &str,
     choice: Choice<'_>,
 ) -> Result<(), Fail> {
     let pairs = pairs_of(alloc, rows, choice)?;
     let pairs = pairs.as_slice();
-    let [part, value] = names;
     let count = pairs.len();
     let fewer = pairs.iter().filter(|pair| pair.new < pair.old).count();
     let same = pairs.iter().filter(|pair| pair.new == pair.old).count();
@@ -196,13 +196,21 @@ fn distinct(alloc: Global, rows: &[Row], list: usize) -> Result<Vec<&str>, Fail>
     Ok(entries)
 }
 
+/// The name of a list, or nothing.
+fn name_of_list(list: usize) -> &'static str {
+    match LISTS.get(list) {
+        Some(name) => name,
+        None => "",
+    }
+}
+
 /// Adds the lines of a list's groups.
 fn push_list(text: &mut String, alloc: Global, rows: &[Row], list: usize) -> Result<(), Fail> {
     let entries = distinct(alloc, rows, list)?;
-    let name = *LISTS.get(list).ok_or("no such list")?;
+    let name = name_of_list(list);
     for entry in &entries {
         if entries.len() > 1 {
-            push_group(text, alloc, rows, [name, entry], Choice::Entry(list, entry))?;
+            push_group(text, alloc, rows, name, entry, Choice::Entry(list, entry))?;
         }
     }
     Ok(())
@@ -274,28 +282,24 @@ pub(super) fn tables(
     push_profile(&mut text, new.name(), two)?;
     push_changes(&mut text, one, two)?;
     text.push_str("\npart value rows fewer same more best best_row median worst worst_row \n")?;
-    push_group(&mut text, alloc, rows, ["all", "-"], Choice::All)?;
+    push_group(&mut text, alloc, rows, "all", "-", Choice::All)?;
     push_group(
         &mut text,
         alloc,
         rows,
-        ["front", old.name()],
+        "front",
+        old.name(),
         Choice::OldFront,
     )?;
     push_group(
         &mut text,
         alloc,
         rows,
-        ["front", new.name()],
+        "front",
+        new.name(),
         Choice::NewFront,
     )?;
-    push_group(
-        &mut text,
-        alloc,
-        rows,
-        ["front", "both"],
-        Choice::BothFronts,
-    )?;
+    push_group(&mut text, alloc, rows, "front", "both", Choice::BothFronts)?;
     for list in 0..LISTS.len() {
         push_list(&mut text, alloc, rows, list)?;
     }

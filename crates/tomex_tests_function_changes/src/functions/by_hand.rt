@@ -10,7 +10,7 @@ use tomex_timing::evaluate::{times, total};
 
 /// A step: the name of its function, if it calls that, and how many cycles it issues after the one before.
 #[derive(Clone, Copy)]
-pub struct NamedStep {
+struct NamedStep {
     pub name: Option<&'static str>,
     pub is_call: bool,
     pub cycles: u64,
@@ -18,7 +18,7 @@ pub struct NamedStep {
 
 /// The steps of a run, and the cycles after its last issue.
 #[derive(Drop)]
-pub struct NamedSteps {
+struct NamedSteps {
     pub steps: Vec<NamedStep>,
     pub drain: u64,
 }
@@ -27,7 +27,7 @@ pub struct NamedSteps {
 type Sums = [u64; 3];
 
 /// The steps of a build's run on a machine. A function is called where control comes to its first address from another.
-pub fn steps_of(
+fn steps_of(
     alloc: Global,
     config: &Config,
     build: &Build,
@@ -116,8 +116,20 @@ fn next_name(text: &str, old: &NamedSteps, new: &NamedSteps) -> Option<&'static 
     first.map(|pair| pair.1)
 }
 
+/// The report of two builds, each with the steps of its run.
+pub fn report_of(
+    alloc: Global,
+    config: &Config,
+    old: (&Build, &[Step]),
+    new: (&Build, &[Step]),
+) -> Result<String, Fail> {
+    let first = steps_of(alloc, config, old.0, old.1)?;
+    let second = steps_of(alloc, config, new.0, new.1)?;
+    report(alloc, &first, &second)
+}
+
 /// The report of two runs.
-pub fn report(alloc: Global, old: &NamedSteps, new: &NamedSteps) -> Result<String, Fail> {
+fn report(alloc: Global, old: &NamedSteps, new: &NamedSteps) -> Result<String, Fail> {
     let mut text = String::new(alloc);
     text.push_str(
         "function,old_calls,new_calls,old_steps,new_steps,old_cycles,new_cycles,difference\n",

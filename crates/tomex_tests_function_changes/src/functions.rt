@@ -12,6 +12,8 @@ mod builds;
 mod by_hand;
 mod memory;
 
+use builds::{BUILDS, Build};
+
 /// A machine with few of each part.
 fn machine(random: &mut Random) -> Result<Config, Fail> {
     let stations = [0; 6].map(|_: u8| random.few());
@@ -19,30 +21,25 @@ fn machine(random: &mut Random) -> Result<Config, Fail> {
     config_of(stations, units, random.few(), random.few())
 }
 
-/// True if the report of two builds is the one that is made by hand.
-fn is_right(
+/// The report of two builds.
+fn report(
     alloc: Global,
     config: &Config,
-    old: &builds::Build,
-    new: &builds::Build,
-) -> Result<bool, Fail> {
-    let (first, second) = (old.program(alloc)?, new.program(alloc)?);
-    let (old_file, new_file) = (old.file(alloc)?, new.file(alloc)?);
-    let old_run = BuildRun {
-        program: &first,
-        file: old_file.as_slice(),
-    };
-    let new_run = BuildRun {
-        program: &second,
-        file: new_file.as_slice(),
-    };
-    let text = match function_changes(alloc, alloc, config, &old_run, &new_run) {
-        Ok(text) => String::from_utf8(text)?,
-        Err(_) => return Err("refused")?,
-    };
-    let old_steps = by_hand::steps_of(alloc, config, old, first.steps())?;
-    let new_steps = by_hand::steps_of(alloc, config, new, second.steps())?;
-    let wanted = by_hand::report(alloc, &old_steps, &new_steps)?;
+    old: &BuildRun<'_, Global>,
+    new: &BuildRun<'_, Global>,
+) -> Result<String, Fail> {
+    match function_changes(alloc, alloc, config, old, new) {
+        Ok(text) => Ok(String::from_utf8(text)?),
+        Err(_) => Err("refused")?,
+    }
+}
+
+/// True if the report of two builds is the one that is made by hand.
+fn is_right(alloc: Global, config: &Config, old: &Build, new: &Build) -> Result<bool, Fail> {
+    let (first, second) = (old.made(alloc, alloc)?, new.made(alloc, alloc)?);
+    let text = report(alloc, config, &first.run(), &second.run())?;
+    let (old_steps, new_steps) = (first.program.steps(), second.program.steps());
+    let wanted = by_hand::report_of(alloc, config, (old, old_steps), (new, new_steps))?;
     Ok(text.as_str() == wanted.as_str())
 }
 
@@ -51,8 +48,8 @@ fn reports_are_those_by_hand(rt: HostRuntime) -> Result<(), Fail> {
     let mut random = Random::new(20261128);
     for turn in 0..8u32 {
         let config = machine(&mut random)?;
-        for (i, old) in builds::BUILDS.iter().enumerate() {
-            for (j, new) in builds::BUILDS.iter().enumerate() {
+        for (i, old) in BUILDS.iter().enumerate() {
+            for (j, new) in BUILDS.iter().enumerate() {
                 let is_so = is_right(rt.alloc(), &config, old, new)?;
                 assert!(rt; is_so, "machine {turn}: {i} and {j}");
             }

@@ -2,6 +2,7 @@
 
 use std::alloc::{Allocator, Global};
 use std::test::Fail;
+use tomex_function_changes::BuildRun;
 use tomex_image::{Window, load};
 use tomex_study::Program;
 use tomex_tests_fixtures::programs::CALLS;
@@ -51,9 +52,35 @@ const WORK: Function = (0x1010, 0x1020, "work");
 
 const LAST: Function = (0x1020, 0x102c, "last");
 
+/// A build's program, and the file that it was read from.
+#[derive(Drop)]
+pub struct Made<A: Allocator> {
+    pub program: Program<A>,
+    pub file: Vec<u8>,
+}
+
+impl<A: Allocator> Made<A> {
+    /// The build as reports take it.
+    pub fn run(&self) -> BuildRun<'_, A> {
+        BuildRun {
+            program: &self.program,
+            file: self.file.as_slice(),
+        }
+    }
+}
+
+/// The program of a file.
+fn program<A: Allocator + Clone>(alloc: A, file: &[u8]) -> Result<Program<A>, Fail> {
+    let window = Window::new(0x1000, 0x1000).ok_or("no window")?;
+    let image = load(alloc.clone()?, file, window)?;
+    let name = String::from_str(alloc.clone()?, "calls")?;
+    let watch = Vec::new(alloc.clone()?);
+    Ok(Program::new(alloc, name, image, 262_144, watch, 1)?)
+}
+
 impl Build {
     /// Its file.
-    pub fn file(&self, alloc: Global) -> Result<Vec<u8>, Fail> {
+    fn file(&self, alloc: Global) -> Result<Vec<u8>, Fail> {
         let mut bytes = Vec::from_slice(alloc, CALLS.as_slice())?;
         for (place, byte) in self.changes {
             match bytes.get_mut(*place) {
@@ -64,23 +91,11 @@ impl Build {
         Ok(bytes)
     }
 
-    /// The program of its file.
-    pub fn program(&self, alloc: Global) -> Result<Program, Fail> {
-        self.program_in(alloc, alloc)
-    }
-
-    /// The program of its file, in memory of another type.
-    pub fn program_in<A: Allocator + Clone>(
-        &self,
-        other: Global,
-        alloc: A,
-    ) -> Result<Program<A>, Fail> {
-        let window = Window::new(0x1000, 0x1000).ok_or("no window")?;
+    /// Its file and its program.
+    pub fn made<A: Allocator + Clone>(&self, other: Global, alloc: A) -> Result<Made<A>, Fail> {
         let file = self.file(other)?;
-        let image = load(alloc.clone()?, file.as_slice(), window)?;
-        let name = String::from_str(alloc.clone()?, "calls")?;
-        let watch = Vec::new(alloc.clone()?);
-        Ok(Program::new(alloc, name, image, 262_144, watch, 1)?)
+        let program = program(alloc, file.as_slice())?;
+        Ok(Made { program, file })
     }
 
     /// The place in the list of the function that an address is of.

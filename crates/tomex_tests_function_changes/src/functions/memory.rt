@@ -1,13 +1,12 @@
 //! Each growth of the report refused in turn, and files without symbols.
 
-use super::builds::{BUILDS, Build};
+use super::builds::{BUILDS, Build, Made};
 use super::by_hand;
 use std::alloc::{AllocError, Global};
 use std::test::Fail;
 use tomex_config::Config;
 use tomex_function_changes::{BuildRun, function_changes};
 use tomex_functions::FunctionsError;
-use tomex_study::Program;
 use tomex_tests_fixtures::machines::one_unit_each;
 use tomex_tests_fixtures::{Attempt, Heap, Try, ample, refusals};
 
@@ -36,58 +35,57 @@ fn build(place: usize) -> Result<Build, Fail> {
     Ok(*BUILDS.as_slice().get(place).ok_or("no such build")?)
 }
 
+/// A machine.
+fn machine() -> Result<Config, Fail> {
+    one_unit_each([2, 1, 1, 1, 1, 1], [1, 3, 9, 2, 1], 1)
+}
+
 #[test]
 fn refused_memory_is_reported(rt: HostRuntime) -> Result<(), Fail> {
     let other = rt.alloc();
-    let config = one_unit_each([2, 1, 1, 1, 1, 1], [1, 3, 9, 2, 1], 1)?;
+    let config = machine()?;
     let (old, new) = (build(1)?, build(3)?);
-    let first: Program<Heap> = old.program_in(other, ample(other)?)?;
-    let second: Program<Heap> = new.program_in(other, ample(other)?)?;
-    let (old_file, new_file) = (old.file(other)?, new.file(other)?);
-    let wanted = by_hand::report(
-        other,
-        &by_hand::steps_of(other, &config, &old, first.steps())?,
-        &by_hand::steps_of(other, &config, &new, second.steps())?,
-    )?;
+    let first: Made<Heap> = old.made(other, ample(other)?)?;
+    let second: Made<Heap> = new.made(other, ample(other)?)?;
+    let (old_steps, new_steps) = (first.program.steps(), second.program.steps());
+    let wanted = by_hand::report_of(other, &config, (&old, old_steps), (&new, new_steps))?;
     let call = Reporting {
         other,
         config: &config,
-        old: BuildRun {
-            program: &first,
-            file: old_file.as_slice(),
-        },
-        new: BuildRun {
-            program: &second,
-            file: new_file.as_slice(),
-        },
+        old: first.run(),
+        new: second.run(),
         wanted: wanted.as_str(),
     };
     assert!(rt; refusals(other, &call)? > Some(9));
     Ok(())
 }
 
+/// True if a build is refused for having no symbols.
+fn is_refused(
+    alloc: Global,
+    config: &Config,
+    old: &BuildRun<'_, Global>,
+    new: &BuildRun<'_, Global>,
+) -> bool {
+    match function_changes(alloc, alloc, config, old, new) {
+        Err(FunctionsError::NoSymbols) => true,
+        _ => false,
+    }
+}
+
 #[test]
 fn files_without_symbols_are_refused(rt: HostRuntime) -> Result<(), Fail> {
     let alloc = rt.alloc();
-    let config = one_unit_each([2, 1, 1, 1, 1, 1], [1, 3, 9, 2, 1], 1)?;
-    let build = build(0)?;
-    let program = build.program(alloc)?;
-    let file = build.file(alloc)?;
-    let whole = BuildRun {
-        program: &program,
-        file: file.as_slice(),
-    };
+    let config = machine()?;
+    let made = build(0)?.made(alloc, alloc)?;
+    let whole = made.run();
     // the file of a build that was stripped
     let stripped = BuildRun {
-        program: &program,
+        program: &made.program,
         file: &[],
     };
-    for (old, new) in [(whole, stripped), (stripped, whole), (stripped, stripped)] {
-        let is_refused = match function_changes(alloc, alloc, &config, &old, &new) {
-            Err(FunctionsError::NoSymbols) => true,
-            _ => false,
-        };
-        assert!(rt; is_refused);
-    }
+    assert!(rt; !is_refused(alloc, &config, &whole, &whole));
+    assert!(rt; is_refused(alloc, &config, &whole, &stripped));
+    assert!(rt; is_refused(alloc, &config, &stripped, &whole));
     Ok(())
 }
