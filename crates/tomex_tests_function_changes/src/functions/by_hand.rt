@@ -33,6 +33,9 @@ fn steps_of(
     build: &Build,
     steps: &[Step],
 ) -> Result<NamedSteps, Fail> {
+    if steps.len() > 262_144 {
+        return Err("too many steps")?;
+    }
     let times = times(alloc, steps, config)?;
     let mut named = Vec::new(alloc);
     let (mut before, mut issue) = (None, 0);
