@@ -1,6 +1,6 @@
 -- The plateaus that are kept for one program.
 use Rattle.std.specs.Prelude.{◌≡◌, ℕ, ◌+◌, ◌%◌, ◌<◌, ◌≤◌, ◌^◌, nat_lt, true, if◌then◌else◌, List, [], ◌∷◌, ◌++◌, length}
-use Rattle.std.specs.Prelude.{All, slice_set}
+use Rattle.std.specs.Prelude.{All, Some, slice_get, slice_set}
 use Rattle.tomex_steps.specs.declared.step.Step.{Step}
 use Rattle.tomex_config.specs.Configuration.{Configuration}
 use Rattle.tomex_plateaus.specs.declared.plateau.Plateau.{Plateau}
@@ -26,6 +26,12 @@ kept_with p k =
     if nat_lt (length k.found) MOST
     then record { steps = k.steps; found = k.found ++ (p ∷ []); oldest = k.oldest }
     else record { steps = k.steps; found = slice_set k.found k.oldest p; oldest = (k.oldest + 1) % MOST }
+
+-- there is a plateau at a place, and the configuration lies on it
+pub record LiesAt (config : Configuration) (found : List Plateau) (place : ℕ) : Type 0 where
+  pub plateau : Plateau
+  pub at : slice_get found place ≡ Some plateau
+  pub on : lies_on config plateau ≡ true
 
 -- one more plateau is kept, and the configuration lies on it
 pub record HasLearnt (config : Configuration) (old new : Kept) : Type 0 where

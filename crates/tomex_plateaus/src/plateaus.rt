@@ -1,18 +1,20 @@
 //! The plateaus of one program.
 
-ghost use Rattle.std.specs.Prelude.{◌≡◌, ◌<◌, [], ◌^◌, length, IfOk, IfSome, OnErr, OnOk, Some};
+ghost use Rattle.std.specs.Prelude.{◌≡◌, ◌<◌, [], ◌^◌, false, length, true, All, IfOk, IfSome, None, OnErr, OnOk, Some};
+ghost use Rattle.std.specs.List.{position};
 ghost use Rattle.tomex_timing.specs.Search.{times_in, total_of};
-ghost use Rattle.tomex_plateaus.specs.Kept.{AreKept, HasLearnt, kept_with};
-ghost use Rattle.tomex_plateaus.specs.Plateaus.{IsPlateauOf, total_known};
+ghost use Rattle.tomex_plateaus.specs.Kept.{AreKept, HasLearnt, LiesAt, kept_with};
+ghost use Rattle.tomex_plateaus.specs.Plateaus.{IsPlateauOf, lies_on, total_known};
 
 use crate::plateau::Plateau;
 use std::alloc::{AllocError, Allocator};
+use std::cell::Cell;
 use std::marker::Model;
 use tomex_config::Config;
 use tomex_timing::Run;
 
 /// The most plateaus that are kept.
-const MOST: usize = 1024;
+const MOST: usize = 2048;
 
 /// Plateaus of a program, from the demands of its runs.
 #[derive(Drop)]
@@ -22,6 +24,9 @@ pub struct Plateaus<'s, A: Allocator> {
     found: Vec<Plateau, A>,
     /// The place of the oldest, once the list is full.
     oldest: usize,
+    /// Where a search begins: the place of the plateau that was found or kept last. Neighbours often lie on one plateau.
+    /// It changes only how long a search takes.
+    latest: Cell<usize>,
 }
 
 impl<'s, A: Allocator> Model for Plateaus<'s, A> {
@@ -44,27 +49,51 @@ impl<'s, A: Allocator> Plateaus<'s, A> {
             run,
             found: Vec::new(alloc),
             oldest: 0,
+            latest: Cell::new(0),
         }
     }
 
     /// The cycles that the program takes on a configuration, if the configuration lies on one of
-    /// its plateaus. The search begins at the end of the list; every plateau on which it lies gives
-    /// the same total.
+    /// its plateaus. The search begins with the plateau that was found last; every plateau on which
+    /// the configuration lies gives the same total.
     pub fn total_on(&self, config: &Config) -> Option<u64>
         ensures known { result ≡ total_known config.now self.now.found }
         ensures total { IfSome result (λ n. total_of (times_in config.now self.now.steps) ≡ n) }
     {
         config.keeps_limits();
-        self.last_total(config)
+        let place = self.place_of(config)?;
+        self.latest.set(place);
+        Some(self.found[place].total)
     }
 
-    /// The total of the last plateau on which a configuration lies.
-    fn last_total(&self, config: &Config) -> Option<u64>
-        ensures known { result ≡ total_known config.now self.now.found }
+    /// The place of a plateau on which a configuration lies, if there is one.
+    fn place_of(&self, config: &Config) -> Option<usize>
         ensures kept { AreKept self.now }
+        ensures some { IfSome result (LiesAt config.now self.now.found) }
+        ensures none { result ≡ None → All (λ p. lies_on config.now p ≡ false) self.now.found }
     {
-        let plateau = self.found.iter().rev().find(|plateau| plateau.has(config))?;
-        Some(plateau.total)
+        let latest = self.latest.get();
+        if self.lies_at(latest, config) {
+            return Some(latest);
+        }
+        self.first_place(config)
+    }
+
+    /// The place of the first plateau on which a configuration lies.
+    fn first_place(&self, config: &Config) -> Option<usize>
+        ensures { result ≡ position (lies_on config.now) self.now.found }
+    {
+        self.found.iter().position(|plateau| plateau.has(config))
+    }
+
+    /// True if there is a plateau at a place, and a configuration lies on it.
+    fn lies_at(&self, place: usize, config: &Config) -> bool
+        ensures { result ≡ true → LiesAt config.now self.now.found place }
+    {
+        match self.found.get(place) {
+            Some(plateau) => plateau.has(config),
+            None => false,
+        }
     }
 
     /// Keeps one more, in place of the oldest if the list is full.
@@ -76,10 +105,13 @@ impl<'s, A: Allocator> Plateaus<'s, A> {
         ensures kept { AreKept self.new }
     {
         if self.found.len() < MOST {
+            let place = self.found.len();
             self.found.push(plateau)?;
+            self.latest.set(place);
             return Ok(());
         }
         self.found[self.oldest] = plateau;
+        self.latest.set(self.oldest);
         self.oldest = (self.oldest + 1) % MOST;
         Ok(())
     }

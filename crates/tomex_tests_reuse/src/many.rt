@@ -64,20 +64,20 @@ fn counted<R: AllocGlobal + Threads + Wait + Sync>(
     Ok((gate.0.load(Ordering::SeqCst), front))
 }
 
-/// Rows again, after 1,030 others, and the evaluations that they need: the plateaus of the first
+/// Rows again, after 2,054 others, and the evaluations that they need: the plateaus of the first
 /// six were replaced, those of these two were not.
-static AGAIN: [(u32, u64); 4] = [(0, 1), (5, 1), (6, 0), (1029, 0)];
+static AGAIN: [(u32, u64); 4] = [(0, 1), (5, 1), (6, 0), (2053, 0)];
 
-/// The oldest plateau is replaced if there are more than 1,024; it is learnt again if its row comes
+/// The oldest plateau is replaced if there are more than 2,048; it is learnt again if its row comes
 /// again.
 #[test]
 fn the_oldest_plateau_goes_first(rt: HostRuntime) -> Result<(), Fail> {
     for (number, more) in &AGAIN {
-        let mut rows = latencies(rt.alloc(), 1030)?;
+        let mut rows = latencies(rt.alloc(), 2054)?;
         rows.push(config_with((*number % 64) as u8 + 1, (*number / 64 % 64) as u8 + 1)?)?;
         let study = study_on(rt.alloc(), rows)?;
         let (runs, front) = counted(&rt, &study)?;
-        assert!(rt; runs == 1030 + *more);
+        assert!(rt; runs == 2054 + *more);
         assert!(rt; front.as_slice() == run_all(rt.alloc(), &study)?.front.as_slice());
     }
     Ok(())
