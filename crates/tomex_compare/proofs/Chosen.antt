@@ -1,7 +1,7 @@
 -- The laws of two builds that follow from the order of pairs, and what the tables depend on.
 use Rattle.std.proofs.Common.{◌≡◌, ◌∙◌, ap, refl, subst, sym, ℕ, ◌+◌, Bool, true, cond, List, [], ◌∷◌}
 use Rattle.std.proofs.Common.{length, map}
-use Rattle.std.specs.Prelude.{sum_by}
+use Rattle.std.specs.Prelude.{count_by, sum_by}
 use Rattle.std.specs.List.{Contains}
 use Rattle.std.specs.List.Sorted.{IsPermutation}
 use Rattle.std.proofs.lemmas.Bool.{eq-eqb}
@@ -76,13 +76,17 @@ sum_turned f (p ∷ ps) =
     sum_by-cons f (turned p) (map turned ps)
     ∙ (ap (λ (n : ℕ). f (turned p) + n) (sum_turned f ps) ∙ sym (sum_by-cons (λ q. f (turned q)) p ps))
 
-pub turned_counts_change : TurnedCountsChangePlaces
-turned_counts_change s old new keeps are =
-    let f : Pair → ℕ = λ p. cond (keeps p.row) (cond (takes_fewer p) 1 0) 0 in
-    count_chosen takes_fewer (λ p. keeps p.row) (pairs_of s new old)
+pub count_turned : (s : DesignSpace) (old new : Workload) (keeps : ℕ → Bool) (q : Pair → Bool)
+    → count_by q (chosen keeps s new old) ≡ count_by (λ p. q (turned p)) (chosen keeps s old new)
+count_turned s old new keeps q =
+    let f : Pair → ℕ = λ p. cond (keeps p.row) (cond (q p) 1 0) 0 in
+    count_chosen q (λ p. keeps p.row) (pairs_of s new old)
     ∙ (sum_by-IsPermutation f (map turned (pairs_of s old new)) (pairs_of s new old) (turned_moves s old new)
     ∙ (sum_turned f (pairs_of s old new)
-    ∙ sym (count_chosen takes_more (λ p. keeps p.row) (pairs_of s old new))))
+    ∙ sym (count_chosen (λ p. q (turned p)) (λ p. keeps p.row) (pairs_of s old new))))
+
+pub turned_counts_change : TurnedCountsChangePlaces
+turned_counts_change s old new keeps are = count_turned s old new keeps takes_fewer
 
 in_turned : (s : DesignSpace) (old new : Workload) (keeps : ℕ → Bool) (p : Pair)
     → Contains (chosen keeps s old new) p → Contains (chosen keeps s new old) (turned p)

@@ -13,6 +13,7 @@ mod Steps
 mod Marks
 mod Sharing
 mod Chosen
+mod Medians
 mod Other
 mod Printed
 mod Worked

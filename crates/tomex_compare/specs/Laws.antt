@@ -71,6 +71,13 @@ TurnedRatiosAreInverse = (s : DesignSpace) (old new : Workload) (keeps : ℕ →
     → best (chosen keeps s new old) ≡ Some b → worst (chosen keeps s old new) ≡ Some w
     → b.new * w.new ≡ b.old * w.old
 
+-- and so are the medians of a group with an odd number of rows
+abbrev pub TurnedMediansAreInverse : Type 0
+TurnedMediansAreInverse = (s : DesignSpace) (old new : Workload) (keeps : ℕ → Bool) (k : ℕ) (m n : Pair)
+    → AreBuilds s old new → length (chosen keeps s old new) ≡ 1 + 2 * k
+    → median (chosen keeps s new old) ≡ Some m → median (chosen keeps s old new) ≡ Some n
+    → m.new * n.new ≡ m.old * n.old
+
 -- a program takes as many cycles as itself
 abbrev pub ItselfIsTheSame : Type 0
 ItselfIsTheSame = (s : DesignSpace) (p : Workload) → All (λ q. takes_as_many q ≡ true) (pairs_of s p p)

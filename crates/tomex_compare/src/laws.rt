@@ -2,7 +2,7 @@
 
 ghost use Rattle.tomex_compare.specs.Laws.{BestIsMet, BoundRatios, CostsMatterOnFrontsOnly, CountsAddUp};
 ghost use Rattle.tomex_compare.specs.Laws.{EachIsCountedOnce, ItselfIsTheSame, OnlyTheTwoMatter, WorstIsMet};
-ghost use Rattle.tomex_compare.specs.Laws.{TurnedCountsChangePlaces, TurnedRatiosAreInverse};
+ghost use Rattle.tomex_compare.specs.Laws.{TurnedCountsChangePlaces, TurnedMediansAreInverse, TurnedRatiosAreInverse};
 
 /// The groups of a list share all rows: each row is in one of them, so their numbers of rows add up to that of all
 /// rows, and so do their numbers of rows on which the new build takes fewer cycles, as many, and more. The best ratio
@@ -21,10 +21,12 @@ pub fn best_and_worst_bound_a_group()
 {}
 
 /// Compared the other way round, the new build takes fewer cycles where it took more before, and its best ratio is the
-/// inverse of the worst before. A program that is compared with itself takes as many cycles on each row.
+/// inverse of the worst before; so is the median, if the number of rows is odd. A program that is compared with itself
+/// takes as many cycles on each row.
 pub fn turned_around_gains_are_losses()
     ensures counts { TurnedCountsChangePlaces }
     ensures ratios { TurnedRatiosAreInverse }
+    ensures medians { TurnedMediansAreInverse }
     ensures same { ItselfIsTheSame }
 {}
 
