@@ -1,6 +1,5 @@
 -- No machine takes fewer cycles than the floors of a study.
-use Rattle.std.proofs.Common.{◌≡◌, ℕ, ◌+◌, ◌*◌, ◌≤◌, arith, ap, sym, refl, subst, ◌∙◌, List, [], ◌∷◌, map, inl, inr}
-use Rattle.std.proofs.Common.{All}
+use Rattle.std.proofs.Common.{◌≡◌, ℕ, ◌*◌, ◌≤◌, arith, ap, refl, List, [], ◌∷◌, map, inl, inr, All}
 use Rattle.std.specs.Prelude.{sum_by, unwrap_or}
 use Rattle.std.proofs.Math.Nat.{mul-le-mul_left}
 use Rattle.std.proofs.lemmas.Bool.Decides.{nat_tests}
@@ -12,10 +11,8 @@ use Rattle.tomex_floor.specs.Floor.{floor_of, latency_of}
 use Rattle.tomex_row_runs.proofs.Totals.{total_within}
 use Rattle.tomex_study.specs.Cycles.{cycles_on}
 use Rattle.tomex_study.specs.Program.{IsProgram, Workload}
-use Rattle.tomex_study.specs.Study.{DesignSpace, IsStudy}
 use Rattle.tomex_timing.specs.Run.{total}
 use Rattle.tomex_timing.specs.Search.{times_in, total_of}
-use Rattle.tomex_choices.specs.Extremes.{least}
 use Rattle.tomex_choices.specs.Floors.{any_width, floor_at, least_for, steps_of, study_floor, weighted_floor}
 use Rattle.tomex_choices.specs.Laws.{FloorBoundsAllSizes, FloorBoundsAllWidths, IsNoFaster}
 use Rattle.tomex_choices.specs.Passing.{Has}

@@ -1,7 +1,7 @@
 -- The choices that are worth adding, configuration by configuration and number by number.
-use Rattle.std.proofs.Common.{◌≡◌, ℕ, suc, ◌+◌, ◌-◌, ◌<◌, append_assoc, arith, ap, sym, refl, subst, ◌∙◌, List, [], ◌∷◌}
-use Rattle.std.proofs.Common.{◌++◌, Bool, true}
-use Rattle.std.proofs.Common.{false, cond, inl, inr, get_or, length, Option, Some, None}
+use Rattle.std.proofs.Common.{◌≡◌, ℕ, suc, ◌+◌, ◌-◌, ◌<◌, append_assoc, arith, ap, sym, refl, ◌∙◌, List, [], ◌∷◌}
+use Rattle.std.proofs.Common.{◌++◌, Bool}
+use Rattle.std.proofs.Common.{cond, inl, inr, get_or, length, Option, Some, None}
 use Rattle.std.specs.List.{filter, flat_map, list_any, range_with_len}
 use Rattle.std.proofs.lemmas.Bool.{both_ways, cases_Bool, false_from_ne_true}
 use Rattle.std.proofs.lemmas.List.Elements.{filter-append}

@@ -1,8 +1,8 @@
--- Rows that are alike in all lists but one bring that list the same new machines.
+-- Rows that are alike in all lists except one bring that list the same new machines.
 use Rattle.std.proofs.Common.{◌≡◌, ◌≢◌, ℕ, zero, suc, ◌<◌, ◌==◌, ◌+◌, arith, ap, sym, refl, subst, ◌∙◌, List, [], ◌∷◌}
-use Rattle.std.proofs.Common.{Bool, true, false, cond, inl, inr, length, get_or, map, Option, Some, None}
-use Rattle.std.specs.Prelude.{nat_lt, ◌&&◌, ◌≤◌}
-use Rattle.std.specs.List.{filter, flat_map, list_all, list_any, range_with_len}
+use Rattle.std.proofs.Common.{Bool, true, cond, inl, inr, length, get_or, Some, None}
+use Rattle.std.specs.Prelude.{nat_lt, ◌≤◌}
+use Rattle.std.specs.List.{filter, flat_map, list_any, range_with_len}
 use Rattle.std.proofs.Math.ListN.{set, length-set}
 use Rattle.std.proofs.lemmas.Bool.{cases_Bool}
 use Rattle.std.proofs.lemmas.Bool.Decides.{nat_tests}
@@ -13,7 +13,6 @@ use Rattle.tomex_rvdec.specs.declared.pool.PoolId.TheVariants as pools
 use Rattle.tomex_rvdec.specs.declared.pool.UnitId.{UnitId}
 use Rattle.tomex_rvdec.specs.declared.pool.UnitId.TheVariants as units
 use Rattle.tomex_config.specs.Configuration.{Configuration, IsWithinLimits, option_of, plain_option, same_option}
-use Rattle.tomex_config.specs.Configuration.{stations_of}
 use Rattle.tomex_config.specs.Configuration.{config_of, is_between, with_option}
 use Rattle.tomex_config.specs.declared.config.UnitOption.{UnitOption}
 use Rattle.tomex_floor.specs.Floor.{latency_of}
@@ -118,7 +117,7 @@ equal_options : (o p : UnitOption) → o.units ≡ p.units → o.latency ≡ p.l
 equal_options o p u l c =
     let f : option o.units o.latency o.price ≡ option p.units p.latency p.price = rw (u, l, c) refl in f
 
--- lists with the same items, and with the same items but for one that is replaced
+-- lists that are the same except for one item, which is replaced
 
 same_items : {X : Type 0} (d : X) (xs ys : List X) (k : ℕ) (x : X) → length xs ≡ length ys → k < length xs
     → ((j : ℕ) → j < length xs → j ≢ k → get_or xs j d ≡ get_or ys j d) → set xs k x ≡ set ys k x

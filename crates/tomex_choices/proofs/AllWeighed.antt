@@ -1,12 +1,11 @@
 -- What each list lacks, list by list.
-use Rattle.std.proofs.Common.{◌≡◌, ◌≢◌, ℕ, ◌+◌, ◌<◌, ◌≤◌, ◌==◌, arith, ap, sym, refl, subst, ◌∙◌, List, [], ◌∷◌, ◌++◌}
-use Rattle.std.proofs.Common.{length, get_or, slice_get, inl, inr, Option, Some, All}
+use Rattle.std.proofs.Common.{◌≡◌, ◌≢◌, ℕ, ◌+◌, ◌<◌, ◌≤◌, ◌==◌, arith, ap, sym, subst, ◌∙◌, List, [], ◌∷◌, ◌++◌}
+use Rattle.std.proofs.Common.{length, get_or, slice_get, inl, inr, Some, All}
 use Rattle.std.proofs.lemmas.Bool.{cases_Bool}
 use Rattle.std.proofs.lemmas.Bool.Decides.{nat_tests}
 use Rattle.std.proofs.lemmas.List.{get_or_append_left, get_or_push, length_push}
 use Rattle.std.proofs.lemmas.Option.{get_or_from_slice_get, slice_get-get_or, slice_get_within}
-use Rattle.tomex_study.specs.Study.{DesignSpace, IsStudy, config_at}
-use Rattle.tomex_timing.specs.declared.part.Part.{Part}
+use Rattle.tomex_study.specs.Study.{DesignSpace, config_at}
 use Rattle.tomex_worth.specs.Changes.{part_at}
 use Rattle.tomex_choices.specs.Asking.{AreFound, IsFound, last_change}
 use Rattle.tomex_choices.specs.Weighed.{AreWeighed, IsWeighed}
@@ -67,8 +66,7 @@ all_are_weighed s lists n many count are = record { count = count ∙ many; each
 -- the last change of each list is small
 
 few_change : (s : DesignSpace) (from to place : ℕ) (machines : List NewMachine) (change : ℕ)
-    → IsFound s from to place machines change
-    → change ≤ 16
+    → IsFound s from to place machines change → change ≤ 16
 few_change s from to place machines change found = elim found.reached [
   | inl none ↦ omega (arith, none)
   | inr w ↦

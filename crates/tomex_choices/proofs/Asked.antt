@@ -1,11 +1,10 @@
 -- One number of a part is asked, and all of them.
-use Rattle.std.proofs.Common.{◌≡◌, ℕ, zero, suc, ◌+◌, ◌-◌, ◌<◌, ◌≤◌, ◌==◌, arith, ap, sym, refl, subst, ◌∙◌, List, []}
+use Rattle.std.proofs.Common.{◌≡◌, ℕ, suc, ◌+◌, ◌≤◌, ◌==◌, arith, ap, sym, refl, subst, ◌∙◌, List, []}
 use Rattle.std.proofs.Common.{◌∷◌}
-use Rattle.std.proofs.Common.{◌++◌, map, Bool, true, false, not, ◌||◌, inl, inr, ◌⊎◌, cond, length, Option, Some, None}
+use Rattle.std.proofs.Common.{Bool, true, false, inl, inr, ◌⊎◌, cond, length, Option, Some, None}
 use Rattle.std.specs.Prelude.{max, min, nat_lt, take}
 use Rattle.std.specs.List.{filter, flat_map, list_any, range_with_len}
 use Rattle.std.proofs.lemmas.Bool.{cases_Bool}
-use Rattle.std.proofs.lemmas.Bool.Decides.{nat_tests}
 use Rattle.std.proofs.lemmas.List.{length-map, length-take}
 use Rattle.tomex_config.specs.Configuration.{Configuration, IsWithinLimits, option_of, with_option}
 use Rattle.tomex_floor.specs.Floor.{latency_of}
@@ -28,11 +27,11 @@ use Rattle.tomex_choices.proofs.SameTotals.{same_total}
 
 -- a new machine takes the cycles of the configuration that has its number
 
-is_grown : {c d : Configuration} (b : Bool) → cond b None (Some c) ≡ Some d → c ≡ d
+pub is_grown : {c d : Configuration} (b : Bool) → cond b None (Some c) ≡ Some d → c ≡ d
 is_grown {c} {d} true e = absurd (let f : None ≡ Some d = e in cc)
 is_grown {c} {d} false e = let f : Some c ≡ Some d = e in cc
 
-is_more : {c d : Configuration} (b : Bool) → cond b (Some c) None ≡ Some d → c ≡ d
+pub is_more : {c d : Configuration} (b : Bool) → cond b (Some c) None ≡ Some d → c ≡ d
 is_more {c} {d} false e = absurd (let f : None ≡ Some d = e in cc)
 is_more {c} {d} true e = let f : Some c ≡ Some d = e in cc
 

@@ -1,7 +1,7 @@
 -- A row is asked in one list after another.
 use Rattle.std.proofs.Common.{◌≡◌, ◌≢◌, ℕ, suc, ◌+◌, ◌-◌, ◌<◌, ◌≤◌, ◌==◌, arith, ap, sym, refl, subst, ◌∙◌, List, []}
 use Rattle.std.proofs.Common.{◌∷◌, ◌++◌, append_assoc, length, get_or, map}
-use Rattle.std.proofs.Common.{slice_get, inl, inr, ◌⊎◌, Option, Some}
+use Rattle.std.proofs.Common.{slice_get, inl, inr, Some}
 use Rattle.std.specs.Prelude.{nat_lt}
 use Rattle.std.specs.List.{range_with_len}
 use Rattle.std.proofs.Math.ListN.{set, length-set}
@@ -9,7 +9,7 @@ use Rattle.std.proofs.lemmas.Bool.{cases_Bool}
 use Rattle.std.proofs.lemmas.Bool.Decides.{nat_tests}
 use Rattle.std.proofs.lemmas.List.{get_or-set_other, get_or-set_same}
 use Rattle.std.proofs.lemmas.List.FromFn.{get_or-map-range_with_len, length-map-range_with_len}
-use Rattle.std.proofs.lemmas.Option.{get_or_from_slice_get, slice_get-get_or, slice_get_past, slice_get_within}
+use Rattle.std.proofs.lemmas.Option.{slice_get-get_or, slice_get_past, slice_get_within}
 use Rattle.tomex_config.specs.Configuration.{Configuration}
 use Rattle.tomex_study.specs.Study.{DesignSpace}
 use Rattle.tomex_choices.specs.Asking.{AreAsked, AreLists, IsAskedOnce, ListOf}

@@ -1,9 +1,7 @@
 -- Configurations with another number of a part, or with another option: they are within the limits.
-use Rattle.std.proofs.Common.{◌≡◌, ◌<◌, ℕ, suc, arith, ap, sym, refl, subst, ◌∙◌, List, [], ◌∷◌, length, get_or, All}
-use Rattle.std.proofs.Common.{Bool}
+use Rattle.std.proofs.Common.{◌≡◌, ◌<◌, ℕ, suc, arith, refl, List, [], ◌∷◌, length, get_or}
 use Rattle.std.proofs.Common.{true}
-use Rattle.std.proofs.Common.{Option, Some, None}
-use Rattle.std.specs.Prelude.{slice_index, slice_index_or, slice_set, nat_le, ◌&&◌, IfSome}
+use Rattle.std.specs.Prelude.{slice_index, nat_le}
 use Rattle.std.proofs.lemmas.Bool.Decides.{nat_tests}
 use Rattle.std.proofs.lemmas.Grind.{common_steps}
 use Rattle.std.proofs.lemmas.List.Elements.{All-get_or, All-set}
@@ -35,8 +33,8 @@ six (a ∷ b ∷ []) many = absurd (let l : 2 ≡ 6 = many in omega arith)
 six (a ∷ b ∷ c ∷ []) many = absurd (let l : 3 ≡ 6 = many in omega arith)
 six (a ∷ b ∷ c ∷ d ∷ []) many = absurd (let l : 4 ≡ 6 = many in omega arith)
 six (a ∷ b ∷ c ∷ d ∷ e ∷ []) many = absurd (let l : 5 ≡ 6 = many in omega arith)
-six (a ∷ b ∷ c ∷ d ∷ e ∷ f ∷ g ∷ xs) many =
-    absurd (let l : suc (suc (suc (suc (suc (suc (suc (length xs))))))) ≡ 6 = many in omega arith)
+six (a ∷ b ∷ c ∷ d ∷ e ∷ f ∷ g ∷ xs) many = absurd (
+    let l : suc (suc (suc (suc (suc (suc (suc (length xs))))))) ≡ 6 = many in omega arith)
 
 pub five : {X : Type 0} (xs : List X) (x : X) → length xs ≡ 5
     → get_or xs 0 x ∷ get_or xs 1 x ∷ get_or xs 2 x ∷ get_or xs 3 x ∷ get_or xs 4 x ∷ [] ≡ xs
@@ -46,8 +44,8 @@ five (a ∷ []) x many = absurd (let l : 1 ≡ 5 = many in omega arith)
 five (a ∷ b ∷ []) x many = absurd (let l : 2 ≡ 5 = many in omega arith)
 five (a ∷ b ∷ c ∷ []) x many = absurd (let l : 3 ≡ 5 = many in omega arith)
 five (a ∷ b ∷ c ∷ d ∷ []) x many = absurd (let l : 4 ≡ 5 = many in omega arith)
-five (a ∷ b ∷ c ∷ d ∷ e ∷ f ∷ xs) x many =
-    absurd (let l : suc (suc (suc (suc (suc (suc (length xs)))))) ≡ 5 = many in omega arith)
+five (a ∷ b ∷ c ∷ d ∷ e ∷ f ∷ xs) x many = absurd (
+    let l : suc (suc (suc (suc (suc (suc (length xs)))))) ≡ 5 = many in omega arith)
 
 pub place_low : (unit : UnitId) → place_of_unit unit < 5
 place_low units.Alu = omega arith
@@ -120,7 +118,7 @@ other_units c unit n price w fits low =
     let o = own_option c unit w in
     grind (arith, nat_tests, o)
 
-own_price : (c : Configuration) (unit : UnitId) → IsWithinLimits c → nat_le (option_of c unit).price 1000000 ≡ true
+pub own_price : (c : Configuration) (unit : UnitId) → IsWithinLimits c → nat_le (option_of c unit).price 1000000 ≡ true
 own_price c unit w = let o = own_option c unit w in grind (arith, nat_tests, o)
 
 pub count_within : (c : Configuration) (part : Part) (n : ℕ) → IsWithinLimits c → is_between 1 (most_of part) n ≡ true

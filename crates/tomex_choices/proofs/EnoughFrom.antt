@@ -1,7 +1,7 @@
 -- The least number that is enough is the one after the last with which something changes.
 use Rattle.std.proofs.Common.{◌≡◌, ℕ, zero, suc, ◌+◌, ◌-◌, ◌<◌, ◌≤◌, ◌==◌, arith, ap, sym, refl, subst, ◌∙◌, List, []}
 use Rattle.std.proofs.Common.{◌∷◌}
-use Rattle.std.proofs.Common.{map, Bool, true, false, not, ◌||◌, ◌&&◌, inl, inr, ◌⊎◌, cond, Option, Some, None}
+use Rattle.std.proofs.Common.{Bool, true, false, not, ◌||◌, ◌&&◌, inl, inr, ◌⊎◌, Option, Some}
 use Rattle.std.specs.Prelude.{max, nat_le, unwrap_or}
 use Rattle.std.specs.List.{filter, find, list_all, list_any, range_with_len}
 use Rattle.std.proofs.lemmas.Bool.{both_ways, cases_Bool, false_from_ne_true}

@@ -1,9 +1,9 @@
 -- The weighted floors of programs, summed one after another; the least of those of all rows.
-use Rattle.std.proofs.Common.{◌≡◌, ℕ, ◌+◌, ◌*◌, ◌-◌, ◌<◌, ◌≤◌, arith, ap, sym, refl, subst, ◌∙◌, List, [], ◌∷◌, length}
+use Rattle.std.proofs.Common.{◌≡◌, ℕ, ◌+◌, ◌<◌, ◌≤◌, arith, ap, sym, refl, ◌∙◌, List, ◌∷◌, length}
 use Rattle.std.proofs.Common.{drop, get_or, map, true, Option, Some, None}
 use Rattle.std.specs.Prelude.{option_map, sum_by, unwrap_or}
 use Rattle.std.proofs.Math.ListN.{set}
-use Rattle.std.proofs.lemmas.List.{at_drop_all, at_drop_more, drop_all, set-get_or}
+use Rattle.std.proofs.lemmas.List.{at_drop_all, at_drop_more, set-get_or}
 use Rattle.std.proofs.lemmas.List.Sums.{sum_by-cons}
 use Rattle.tomex_config.specs.Configuration.{Configuration}
 use Rattle.tomex_study.specs.Program.{Workload}

@@ -1,7 +1,6 @@
 -- The greatest of some savings: found one after another, and the same of two lists.
-use Rattle.std.proofs.Common.{◌≡◌, ℕ, ◌≤◌, ◌<◌, ◌+◌, ◌-◌, ◌*◌, ◌/◌, arith, ap, sym, refl, subst, ◌∙◌, List, [], ◌∷◌}
-use Rattle.std.proofs.Common.{◌++◌}
-use Rattle.std.proofs.Common.{map, Bool, true, false, inl, inr, ◌⊎◌, cond, Option, Some, None}
+use Rattle.std.proofs.Common.{◌≡◌, ℕ, ◌≤◌, arith, ap, sym, refl, subst, ◌∙◌, List, [], ◌∷◌}
+use Rattle.std.proofs.Common.{map, Bool, true, false, inl, inr, cond, Option, Some, None}
 use Rattle.std.proofs.lemmas.Bool.{cases_Bool}
 use Rattle.std.proofs.lemmas.Bool.Decides.{nat_tests}
 use Rattle.tomex_choices.specs.Passing.{Has}

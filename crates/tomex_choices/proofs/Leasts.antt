@@ -1,5 +1,5 @@
 -- The least of some numbers, found one after another.
-use Rattle.std.proofs.Common.{◌≡◌, ℕ, ◌≤◌, arith, ap, sym, refl, ◌∙◌, List, [], ◌∷◌, ◌++◌, map, Bool, true, false}
+use Rattle.std.proofs.Common.{◌≡◌, ℕ, ◌≤◌, arith, ap, sym, refl, ◌∙◌, List, [], ◌∷◌, ◌++◌, map, Bool, true}
 use Rattle.std.proofs.Common.{inl, inr, cond, drop, length, Option, Some, None}
 use Rattle.std.specs.Prelude.{min, nat_le}
 use Rattle.std.specs.List.{filter}

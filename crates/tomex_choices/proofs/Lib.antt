@@ -27,7 +27,12 @@ pub mod Adding
 pub mod PriceFree
 pub mod AboveFloors
 pub mod Dropping
+pub mod Renumbered
 pub mod Needed
 pub mod Longer
 pub mod Unneeded
+pub mod Points
+pub mod Fronts
+pub mod Covered
+pub mod Ends
 mod Worked

@@ -1,6 +1,6 @@
 -- A study with a longer or finer list has no better machine than the new machines of that list.
-use Rattle.std.proofs.Common.{◌≡◌, ◌≢◌, ℕ, ◌<◌, ◌≤◌, ◌+◌, ◌==◌, arith, ap, sym, refl, subst, ◌∙◌, List, [], ◌∷◌, length}
-use Rattle.std.proofs.Common.{get_or, true, inl, inr, Option, Some}
+use Rattle.std.proofs.Common.{◌≡◌, ◌≢◌, ℕ, ◌<◌, ◌≤◌, ◌==◌, arith, ap, sym, refl, subst, ◌∙◌, List, length}
+use Rattle.std.proofs.Common.{get_or, true, inl, inr, Option}
 use Rattle.std.specs.List.{range_with_len}
 use Rattle.std.proofs.Math.ListN.{set, length-set}
 use Rattle.std.proofs.lemmas.Bool.{cases_Bool}
@@ -46,6 +46,15 @@ fits_of d units.Bru within =
 cheaper_fits : (most : ℕ) (o : UnitOption) (price : ℕ) → o.price ≤ price
     → is_option most (record { units = o.units; latency = o.latency; price = price }) ≡ true → is_option most o ≡ true
 cheaper_fits most o price less fits = grind (arith, nat_tests)
+
+-- a configuration with its own option
+pub same_again : (unit : UnitId) (e : Configuration) → with_option unit e (option_of e unit) ≡ e
+same_again unit e =
+    let f : config_of e.stations (set e.units (place_of_unit unit) (option_of e unit)) e.buses e.width
+    ≡ config_of e.stations e.units e.buses e.width =
+    ap (λ (us : List UnitOption). config_of e.stations us e.buses e.width)
+    (set-get_or e.units (place_of_unit unit) plain_option) in
+    f
 
 -- a higher price of an option
 module _ (unit : UnitId) (e : Configuration) (price : ℕ) (kinds : length e.units ≡ 5)
@@ -104,19 +113,12 @@ module _ (unit : UnitId) (e : Configuration) (price : ℕ) (kinds : length e.uni
       (option_within (with_price unit e price) unit (option_of e unit) within
       (cheaper_fits (most_units unit) (option_of e unit) price more fits))
 
-  same_again : with_option unit e (option_of e unit) ≡ e
-  same_again =
-      let f : config_of e.stations (set e.units place (option_of e unit)) e.buses e.width
-      ≡ config_of e.stations e.units e.buses e.width =
-      ap (λ (us : List UnitOption). config_of e.stations us e.buses e.width) (set-get_or e.units place plain_option) in
-      f
-
   pub dearer_total : (image : Loaded) → IsWithinLimits (with_price unit e price)
       → total (with_price unit e price) image ≡ total e image
   dearer_total image within =
       same_total e unit (option_of e unit) dear kinds refl refl image
-      (subst IsWithinLimits (sym same_again) (cheaper_within within)) within
-      ∙ ap (λ (c : Configuration). total c image) same_again
+      (subst IsWithinLimits (sym (same_again unit e)) (cheaper_within within)) within
+      ∙ ap (λ (c : Configuration). total c image) (same_again unit e)
 
 -- it costs no less, and takes as many cycles
 is_no_better : (s : DesignSpace) (part : Part) (e d : Configuration) → IsDearer part e d → IsWithinLimits d

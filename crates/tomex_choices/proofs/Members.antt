@@ -1,6 +1,5 @@
 -- Members of lists that are mapped, filtered and appended; the least of some numbers.
 use Rattle.std.proofs.Common.{◌≡◌, ℕ, ◌≤◌, arith, ap, sym, refl, subst, ◌∙◌, List, [], ◌∷◌, ◌++◌, map, Bool, true}
-use Rattle.std.proofs.Common.{false}
 use Rattle.std.proofs.Common.{cond, inl, inr, ◌⊎◌, Option, Some, None}
 use Rattle.std.specs.Prelude.{min, nat_le}
 use Rattle.std.specs.List.{filter}

@@ -1,7 +1,6 @@
 -- Of new machines those with a choice that is worth adding are all that is needed.
-use Rattle.std.proofs.Common.{◌≡◌, ℕ, ◌+◌, ◌<◌, ◌≤◌, ◌==◌, ◌&&◌, ◌||◌, arith, ap, sym, refl, subst, ◌∙◌, List, [], ◌∷◌}
-use Rattle.std.proofs.Common.{◌++◌, Bool, true, false, not, inl, inr, ◌⊎◌, cond, length, get_or, map, Option, Some}
-use Rattle.std.proofs.Common.{None}
+use Rattle.std.proofs.Common.{◌≡◌, ℕ, ◌+◌, ◌≤◌, ◌==◌, ◌&&◌, ◌||◌, arith, ap, sym, refl, subst, ◌∙◌, List, [], ◌∷◌}
+use Rattle.std.proofs.Common.{Bool, true, false, not, inl, inr, ◌⊎◌, cond, map, Option, Some, None}
 use Rattle.std.specs.Prelude.{nat_le, nat_lt}
 use Rattle.std.specs.List.{filter, flat_map, list_any, range_with_len}
 use Rattle.std.proofs.lemmas.Bool.{both_ways, cases_Bool, false_from_ne_true}
@@ -20,7 +19,7 @@ use Rattle.tomex_timing.specs.declared.part.Part.{Part}
 use Rattle.tomex_timing.specs.declared.part.Part.TheVariants.{Stations, Units, Buses, Width}
 use Rattle.tomex_choices.specs.Additions.{additions, has_entry, useful}
 use Rattle.tomex_choices.specs.Choices.{firsts, latency_in, most_of, same_latency}
-use Rattle.tomex_choices.specs.Laws.{AdditionsAreAllThatIsNeeded, NothingToAddSavesNothing, added_machines}
+use Rattle.tomex_choices.specs.Laws.{AdditionsSaveAsMuch, NothingToAddSavesNothing, added_machines}
 use Rattle.tomex_choices.specs.NewMachines.{brought_by, configurations_if, greatest_units, grown, lacking, machine_if}
 use Rattle.tomex_choices.specs.NewMachines.{machine_of, more_units, new_machines, with_count}
 use Rattle.tomex_choices.specs.Passing.{Has, IsUnbeaten}
@@ -224,7 +223,7 @@ origin_if s part n None x h = absurd h
 origin_if s part n (Some d) x (inl e) = (d, refl, e)
 origin_if s part n (Some d) x (inr h) = absurd h
 
-origin_of : (s : DesignSpace) (part : Part) (x : NewMachine) → Has (new_machines s part) x → Origin s part x
+pub origin_of : (s : DesignSpace) (part : Part) (x : NewMachine) → Has (new_machines s part) x → Origin s part x
 unfolding new_machines brought_by
 origin_of s part x h =
     let w = from_flat_map (brought_by s part) s.rows x h in
@@ -286,7 +285,7 @@ module _ (s : DesignSpace) (part : Part) (is : IsStudy s) where
   abbrev those : List FrontRow
   those = complete (all_rows s) (added_machines s part)
 
-  as_good : (x : NewMachine) → Has new x → (r : FrontRow) × Has those r × (r.cost ≤ x.cost) × (r.cycles ≤ x.cycles)
+  pub as_good : (x : NewMachine) → Has new x → (r : FrontRow) × Has those r × (r.cost ≤ x.cost) × (r.cycles ≤ x.cycles)
   as_good x h =
       let y = unbeaten_of new x h in
       let cheap = y.cost in
@@ -355,18 +354,21 @@ module _ (s : DesignSpace) (part : Part) (is : IsStudy s) where
   same_fewest cost =
       sym (same_least (bought (complete (all_rows s) new) cost) (bought those cost) (fewer cost) (no_fewer cost))
 
-pub these_are_needed : AdditionsAreAllThatIsNeeded
-these_are_needed s part cost is = same_fewest s part is cost
+pub these_save_as_much : AdditionsSaveAsMuch
+these_save_as_much s part cost is = same_fewest s part is cost
 
-none_pass : {X : Type 0} (xs : List X) → filter (λ x. false) xs ≡ []
+pub none_pass : {X : Type 0} (xs : List X) → filter (λ x. false) xs ≡ []
 none_pass [] = refl
 none_pass (x ∷ xs) = none_pass xs
 
-pub nothing_saved : NothingToAddSavesNothing
-nothing_saved s part cost is none =
+pub none_added : (s : DesignSpace) (part : Part) → additions s part ≡ []
+    → complete (all_rows s) (added_machines s part) ≡ all_rows s
+none_added s part none =
     let no_machines : added_machines s part ≡ [] =
     ap (λ (cs : List Configuration). filter (λ x. list_any (λ c. has_entry part c x) cs) (new_machines s part)) none
     ∙ none_pass (new_machines s part) in
-    sym (same_fewest s part is cost)
-    ∙ (ap (λ (xs : List NewMachine). fewest (complete (all_rows s) xs) cost) no_machines
-    ∙ ap (λ (rows : List FrontRow). fewest rows cost) (append-nil (all_rows s)))
+    ap (λ (xs : List NewMachine). complete (all_rows s) xs) no_machines ∙ append-nil (all_rows s)
+
+pub nothing_saved : NothingToAddSavesNothing
+nothing_saved s part cost is none =
+    sym (same_fewest s part is cost) ∙ ap (λ (rows : List FrontRow). fewest rows cost) (none_added s part none)

@@ -1,6 +1,6 @@
 -- The most units of the options of a latency, and the least price of such an option, found row by row.
-use Rattle.std.proofs.Common.{◌≡◌, ℕ, ◌<◌, ◌≤◌, ◌+◌, ◌==◌, ◌&&◌, arith, ap, sym, refl, ◌∙◌, List, [], ◌∷◌, Bool, true}
-use Rattle.std.proofs.Common.{false, cond, inl, inr, drop, get_or, length, map, Option, Some, None}
+use Rattle.std.proofs.Common.{◌≡◌, ℕ, ◌<◌, ◌≤◌, ◌+◌, ◌==◌, ◌&&◌, arith, ap, sym, refl, ◌∙◌, List, [], ◌∷◌, Bool}
+use Rattle.std.proofs.Common.{cond, inl, inr, drop, get_or, length, map, Option, None}
 use Rattle.std.specs.Prelude.{max, unwrap_or}
 use Rattle.std.specs.List.{filter}
 use Rattle.std.proofs.lemmas.Bool.{cases_Bool}
@@ -8,7 +8,7 @@ use Rattle.std.proofs.lemmas.Bool.Decides.{nat_tests}
 use Rattle.std.proofs.lemmas.List.{at_drop_all, at_drop_more}
 use Rattle.tomex_rvdec.specs.declared.pool.UnitId.{UnitId}
 use Rattle.tomex_config.specs.Configuration.{Configuration, option_of}
-use Rattle.tomex_choices.specs.Extremes.{greatest, least}
+use Rattle.tomex_choices.specs.Extremes.{least}
 use Rattle.tomex_choices.specs.NewMachines.{greatest_units, least_price, options_at}
 use Rattle.tomex_choices.specs.declared.entries.MostUnits.{MostUnits}
 use Rattle.tomex_choices.proofs.Leasts.{least_by, least_by_is}
@@ -52,7 +52,7 @@ all_units_at rows unit latency k so_far past before =
     at_drop_all (λ (cs : List Configuration). greatest_units cs unit latency) rows k past in
     omega (arith, e, before)
 
--- the least price of those with so many
+-- the least price of those with that number of units
 
 abbrev pub is_such : UnitId → ℕ → ℕ → Configuration → Bool
 is_such unit latency units c = (option_of c unit).latency == latency && (option_of c unit).units == units

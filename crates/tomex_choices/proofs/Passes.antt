@@ -1,6 +1,6 @@
 -- One pass over new machines that are sorted by cost, cycles and number keeps those that none beats.
-use Rattle.std.proofs.Common.{◌≡◌, ◌≢◌, ◌∙◌, ℕ, zero, suc, ◌<◌, ◌≤◌, arith, ap, sym, refl, subst, List, [], ◌∷◌, Bool}
-use Rattle.std.proofs.Common.{true, false, inl, inr, cond, not, ◌||◌, ◌==◌, ◌⊎◌, get_or, length, Option, Some, None}
+use Rattle.std.proofs.Common.{◌≡◌, ◌∙◌, ℕ, zero, suc, ◌<◌, ◌≤◌, arith, sym, refl, subst, List, [], ◌∷◌, Bool}
+use Rattle.std.proofs.Common.{true, false, inl, inr, cond, ◌⊎◌, get_or, length, Option, Some, None}
 use Rattle.std.specs.List.{AllPairs, Contains}
 use Rattle.std.specs.List.Sorted.{IsPermutation}
 use Rattle.std.proofs.lemmas.Bool.{cases_Bool}

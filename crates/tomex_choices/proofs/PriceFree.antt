@@ -1,8 +1,8 @@
 -- From the number that is enough on a row's cycles stay the same.
-use Rattle.std.proofs.Common.{◌≡◌, ℕ, ◌+◌, ◌-◌, ◌*◌, ◌≤◌, ◌==◌, arith, ap, sym, refl, subst, ◌∙◌, List, [], ◌∷◌, map}
+use Rattle.std.proofs.Common.{◌≡◌, ℕ, ◌+◌, ◌-◌, ◌*◌, ◌≤◌, ◌==◌, arith, ap, sym, refl, ◌∙◌, List, [], ◌∷◌, map}
 use Rattle.std.proofs.Common.{Bool, true, inl, inr, ◌⊎◌}
-use Rattle.std.specs.Prelude.{sum_by, unwrap_or}
-use Rattle.std.specs.List.{Contains, find, list_all, range_with_len}
+use Rattle.std.specs.Prelude.{unwrap_or}
+use Rattle.std.specs.List.{find, list_all, range_with_len}
 use Rattle.std.proofs.lemmas.Bool.{cases_Bool}
 use Rattle.std.proofs.lemmas.Bool.Decides.{nat_tests}
 use Rattle.std.proofs.lemmas.List.Sums.{sum_by-cons}

@@ -1,7 +1,6 @@
 -- The greatest saving is that of the new machines that none beats.
 use Rattle.std.proofs.Common.{◌≡◌, ℕ, ◌≤◌, ◌<◌, ◌+◌, ◌-◌, ◌*◌, ◌/◌, arith, ap, sym, refl, subst, ◌∙◌, List, [], ◌∷◌}
-use Rattle.std.proofs.Common.{◌++◌}
-use Rattle.std.proofs.Common.{cond, map, Bool, true, false, inl, inr, ◌⊎◌, Option, Some, None, ⊎_elim}
+use Rattle.std.proofs.Common.{cond, map, Bool, true, inl, inr, Option, Some, None}
 use Rattle.std.specs.Prelude.{nat_le, nat_lt, option_to_list}
 use Rattle.std.specs.List.{filter}
 use Rattle.std.proofs.lemmas.Bool.{cases_Bool}

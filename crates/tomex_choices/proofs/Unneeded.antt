@@ -1,5 +1,5 @@
 -- More of parts that no program waits for on a row changes no cycles.
-use Rattle.std.proofs.Common.{◌≡◌, ℕ, ◌≤◌, arith, sym, ◌∙◌, inl, inr, map}
+use Rattle.std.proofs.Common.{◌≡◌, ◌≤◌, arith, sym, ◌∙◌, inl, inr}
 use Rattle.std.proofs.lemmas.List.Elements.{All-contains}
 use Rattle.tomex_config.specs.Configuration.{Configuration, IsWithinLimits}
 use Rattle.tomex_row_runs.proofs.Totals.{total_within}
@@ -10,7 +10,7 @@ use Rattle.tomex_timing.proofs.SameTimes.{serves_runs}
 use Rattle.tomex_timing.proofs.Taken.{peak_within}
 use Rattle.tomex_timing.specs.Needs.{Serves, count_of, peak}
 use Rattle.tomex_timing.specs.Run.{total}
-use Rattle.tomex_timing.specs.Search.{history, times_in, total_of}
+use Rattle.tomex_timing.specs.Search.{history}
 use Rattle.tomex_choices.specs.Floors.{steps_of}
 use Rattle.tomex_choices.specs.Laws.{HasMoreUnneeded, MoreOfTheUnneededChangesNothing}
 use Rattle.tomex_choices.specs.Passing.{Has}

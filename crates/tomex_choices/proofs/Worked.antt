@@ -20,7 +20,6 @@ use Rattle.tomex_choices.specs.Enough.{stays_from}
 use Rattle.tomex_choices.specs.NewMachines.{brought_by, greatest_units, lacking, least_price}
 use Rattle.tomex_choices.specs.Savings.{is_of_use, saving_among, thousandths}
 use Rattle.tomex_choices.specs.declared.new_machine.NewMachine.{NewMachine}
-use Rattle.tomex_choices.specs.declared.saving.Saving.{Saving}
 
 abbrev option : ℕ → ℕ → ℕ → UnitOption
 option count latency price = record { units = count; latency = latency; price = price }

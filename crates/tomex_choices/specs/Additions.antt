@@ -1,5 +1,5 @@
 -- What the new machines of a study's list are good for: the choices that are worth adding, and the saving.
-use Rattle.std.specs.Prelude.{ℕ, ◌==◌, ◌&&◌, Bool, List, Option}
+use Rattle.std.specs.Prelude.{◌==◌, ◌&&◌, Bool, List, Option}
 use Rattle.std.specs.List.{filter, list_any}
 use Rattle.tomex_config.specs.Configuration.{Configuration}
 use Rattle.tomex_study.specs.Study.{DesignSpace}

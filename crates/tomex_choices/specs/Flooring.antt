@@ -1,5 +1,5 @@
 -- The code's own words: floors of a program that are known for some latencies.
-use Rattle.std.specs.Prelude.{ℕ, ◌≡◌, ◌≤◌, Bool, false, if◌then◌else◌, List, map, All, slice_index_or}
+use Rattle.std.specs.Prelude.{ℕ, ◌≡◌, Bool, false, if◌then◌else◌, List, map, All, slice_index_or}
 use Rattle.std.specs.List.{list_any}
 use Rattle.tomex_rvdec.specs.Parts.{place_of_unit}
 use Rattle.tomex_rvdec.specs.declared.pool.UnitId.{UnitId}

@@ -6,6 +6,8 @@ pub mod Savings
 pub mod Additions
 pub mod Enough
 pub mod Floors
+pub mod Points
+pub mod Ends
 pub mod Laws
 -- the code's own words
 pub mod Asking

@@ -1,6 +1,6 @@
 -- The choices that a list lacks, and the new machines that they would bring: each row's with one of them in place of
 -- its own entry in this list. All other entries stay.
-use Rattle.std.specs.Prelude.{ℕ, ◌==◌, ◌&&◌, nat_le, nat_lt, Bool, if◌then◌else◌, List, [], ◌∷◌, ◌++◌, map}
+use Rattle.std.specs.Prelude.{ℕ, ◌==◌, nat_lt, if◌then◌else◌, List, [], ◌∷◌, map}
 use Rattle.std.specs.Prelude.{Option, Some, None, unwrap_or}
 use Rattle.std.specs.List.{filter, flat_map, list_any, range_with_len}
 use Rattle.tomex_rvdec.specs.declared.pool.UnitId.{UnitId}
@@ -34,7 +34,7 @@ options_at rows unit latency = filter (λ o. o.latency == latency) (map (λ c. o
 unfoldable pub greatest_units : List Configuration → UnitId → ℕ → ℕ
 greatest_units rows unit latency = greatest (map (λ o. o.units) (options_at rows unit latency))
 
--- the price of the cheapest that has so many
+-- the price of the cheapest that has that number
 unfoldable pub least_price : List Configuration → UnitId → ℕ → ℕ
 least_price rows unit latency =
     unwrap_or (least (map (λ o. o.price)
@@ -78,8 +78,8 @@ abbrev pub configurations_if : Option Configuration → List Configuration
 configurations_if None = []
 configurations_if (Some c) = c ∷ []
 
--- the choices that a list lacks, rising; of options for each latency, in the order of the first rows that have it; for
--- each of them a configuration that has it
+-- the choices that a list lacks, in increasing order; of options for each latency, in the order of the first rows that
+-- have it; for each of them a configuration that has it
 unfoldable pub lacking : DesignSpace → Part → List Configuration
 lacking s part =
     flat_map (λ c. flat_map (λ n. configurations_if (grown s.rows part c n)) (range_with_len 1 (most_of part)))

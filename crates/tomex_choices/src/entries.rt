@@ -71,7 +71,7 @@ fn lesser(price: u32, least: Option<u32>) -> u32
     }
 }
 
-/// The least price of the options of a latency with so many units, 0 if there is none.
+/// The least price of the options of a latency with that number of units, 0 if there is none.
 fn least_price(rows: &[Config], unit: UnitId, latency: usize, units: u8) -> u32
     requires { units ≡ greatest_units rows.now unit latency }
     ensures price { result ≡ least_price rows.now unit latency }

@@ -1,19 +1,20 @@
-//! The floors of a study.
+//! The floors of a study, and the fewest cycles of a row.
 
 ghost use Rattle.std.specs.Prelude.{◌≡◌, ◌≤◌, length, option_map, IfOk, IfSome};
 ghost use Rattle.std.specs.List.{Contains};
 ghost use Rattle.tomex_floor.specs.Floor.{floors_by_width, latency_of};
 ghost use Rattle.tomex_timing.specs.History.{is_of};
-ghost use Rattle.tomex_choices.specs.Floors.{any_width, floor_at, steps_of, study_floor, weighted_floor};
+ghost use Rattle.tomex_choices.specs.Floors.{any_width, fastest, floor_at, steps_of, study_floor, weighted_floor};
 ghost use Rattle.tomex_choices.specs.Extremes.{lesser};
 ghost use Rattle.tomex_choices.specs.Flooring.{is_used_by, used_latencies, used_latency};
 
+use crate::saving::lesser;
 use std::alloc::{AllocError, Allocator};
 use std::marker::Model;
 use tomex_config::Config;
 use tomex_floor::floors;
 use tomex_rvdec::UnitId;
-use tomex_study::{Program, Study};
+use tomex_study::{Program, Study, Surveyed};
 
 /// A program's floors for the widths from 1 to 4, with these latencies of the kinds of units that it uses.
 #[derive(Clone, Copy, Debug, Drop)]
@@ -43,9 +44,9 @@ impl<'s, A: Allocator> Model for Floored<'s, A> {
     ghost invariant = { λ f. AreFloors f.program.now f.uses f.known.items };
 }
 
-/// The least floors of a study.
+/// The least floors of a study, in cycles times the programs' weights.
 #[derive(Clone, Copy, Debug, PartialEq, Eq)]
-pub(crate) struct Floors {
+pub struct Floors {
     /// Of a row at its own width.
     pub own: u64,
     /// Of a row at the greatest width.
@@ -204,11 +205,8 @@ fn lesser_floors(floors: Floors, least: Option<Floors>) -> Floors
     }
 }
 
-/// The least floors of a study's rows.
-pub(crate) fn floors_of<A: Allocator + Clone>(
-    alloc: A,
-    study: &Study<A>,
-) -> Result<Floors, AllocError>
+/// The least floors of a study's rows: what no machine with the latencies of one of them goes below.
+pub fn floors_of<A: Allocator + Clone>(alloc: A, study: &Study<A>) -> Result<Floors, AllocError>
     ensures own { IfOk result (λ f. f.own ≡ study_floor study.now) }
     ensures any_width { IfOk result (λ f. f.any_width ≡ any_width study.now) }
 {
@@ -223,4 +221,16 @@ pub(crate) fn floors_of<A: Allocator + Clone>(
         own: 0,
         any_width: 0,
     }))
+}
+
+/// The fewest cycles of a row, times the programs' weights.
+#[tactic(auto, unfolding(crate::specs::Floors::fastest))]
+pub fn fastest<A: Allocator>(surveyed: &Surveyed<'_, A>) -> u64
+    ensures { result ≡ fastest surveyed.now }
+{
+    let mut least = None;
+    for row in surveyed.rows() {
+        least = Some(lesser(row.cycles, least));
+    }
+    least.unwrap_or(0)
 }

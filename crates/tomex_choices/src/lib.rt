@@ -18,9 +18,12 @@ mod weighing;
 
 pub use choices::{front_choices, unused};
 pub use counts::{latency_in, most_of};
+pub use floors::{Floors, fastest, floors_of};
 pub use laws::{
-    additions_are_all_that_is_needed, complete_lists_are_complete,
-    floor_bounds_machines_of_all_sizes, more_than_enough_changes_nothing, unused_choices_may_go,
+    additions_are_all_that_is_needed, complete_lists_are_complete, covered_machines_add_no_points,
+    floor_bounds_machines_of_all_sizes, longer_lists_at_once_add_nothing,
+    more_of_the_unneeded_changes_nothing, more_than_enough_changes_nothing,
+    nothing_to_add_is_covered, unused_choices_may_go,
 };
 pub use new_machine::NewMachine;
 pub use saving::Saving;

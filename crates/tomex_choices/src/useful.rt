@@ -36,8 +36,8 @@ fn stays(last: Option<NewMachine>, x: NewMachine) -> bool
 
 /// The new machines that no other one beats, each once.
 ///
-/// A sort and one pass: a machine stays if it takes fewer cycles than every one before it, or is the last one that
-/// stayed but for its latency.
+/// A sort and one pass: a machine stays if it takes fewer cycles than every one before it, or differs from the last one
+/// that stayed only in its latency.
 pub(crate) fn unbeaten<A: Allocator>(
     alloc: A,
     mut machines: Vec<NewMachine, A>,

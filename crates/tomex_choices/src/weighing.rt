@@ -9,7 +9,7 @@ ghost use Rattle.tomex_choices.specs.Additions.{additions, has_entry, saving_of,
 ghost use Rattle.tomex_choices.specs.Asking.{AreFound, IsFound};
 ghost use Rattle.tomex_choices.specs.Choices.{most_of};
 ghost use Rattle.tomex_choices.specs.Enough.{enough};
-ghost use Rattle.tomex_choices.specs.Floors.{any_width, fastest, study_floor};
+ghost use Rattle.tomex_choices.specs.Floors.{any_width, study_floor};
 ghost use Rattle.tomex_choices.specs.NewMachines.{configurations_if, grown};
 ghost use Rattle.tomex_choices.specs.Weighed.{AreWeighed, IsWeighed, added_by, added_if};
 
@@ -19,7 +19,7 @@ use crate::entries::Entries;
 use crate::floors::{Floors, floors_of};
 use crate::found::ListFound;
 use crate::new_machine::NewMachine;
-use crate::saving::{Saving, greatest_saving, lesser};
+use crate::saving::{Saving, greatest_saving};
 use crate::searching::all_found;
 use crate::useful::{unbeaten, useful};
 use std::alloc::{AllocError, Allocator, Global};
@@ -243,17 +243,5 @@ impl<'s, A: Allocator> WeighedChoices<'s, A> {
         ensures { result ≡ any_width self.now }
     {
         self.floors.any_width
-    }
-
-    /// The fewest cycles of a row.
-    #[tactic(auto, unfolding(crate::specs::Floors::fastest))]
-    pub fn fastest(&self) -> u64
-        ensures { result ≡ fastest self.now }
-    {
-        let mut least = None;
-        for row in self.surveyed.rows() {
-            least = Some(lesser(row.cycles, least));
-        }
-        least.unwrap_or(0)
     }
 }

@@ -7,4 +7,4 @@ mod heading;
 mod table;
 
 pub use cells::{push_cost, push_enough, push_entries, push_saving};
-pub use table::choices_table;
+pub use table::{choices_table, push_floor};

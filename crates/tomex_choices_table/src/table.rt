@@ -11,7 +11,7 @@ use crate::cells::{push_cost, push_enough, push_entries, push_saving};
 use crate::heading::Heading;
 use std::alloc::{AllocError, Allocator, Global};
 use std::fmt::Write;
-use tomex_choices::{WeighedChoices, front_choices, unused};
+use tomex_choices::{WeighedChoices, fastest, front_choices, unused};
 use tomex_tables::{Column, table_of};
 use tomex_timing::Part;
 use tomex_worth::{push_name_of_list, push_percent};
@@ -94,7 +94,7 @@ fn all_columns<A: Allocator>(
 
 /// Adds a floor, and its difference from the fewest cycles in percent of these.
 #[tactic(auto, unfolding(crate::specs::ChoicesTable::floor_text))]
-fn push_floor<A: Allocator>(
+pub fn push_floor<A: Allocator>(
     text: &mut String<A>,
     fastest: u64,
     floor: u64,
@@ -151,7 +151,7 @@ pub fn choices_table<A: Allocator>(
     let mut line = String::new(heap);
     push_floors(
         &mut line,
-        weighed.fastest(),
+        fastest(weighed.surveyed()),
         weighed.floor(),
         weighed.any_width(),
     )?;

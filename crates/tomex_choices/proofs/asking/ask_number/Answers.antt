@@ -1,6 +1,5 @@
 -- The configuration was asked with this number.
-use Rattle.std.proofs.Common.{◌≡◌, ◌∙◌, ◌++◌, ◌∷◌, [], ap, arith, cond, length, subst, sym, take, Bool, List, None}
-use Rattle.std.proofs.Common.{Option}
+use Rattle.std.proofs.Common.{◌≡◌, ◌∙◌, ◌++◌, ◌∷◌, [], ap, arith, cond, length, subst, sym, Bool, List, None, Option}
 use Rattle.std.proofs.Common.{Some}
 use Rattle.std.specs.Prelude.{max}
 use Rattle.std.proofs.lemmas.List.{append-nil, length-take-le}
@@ -8,7 +7,6 @@ use Rattle.tomex_config.specs.Configuration.{Configuration, IsWithinLimits}
 use Rattle.tomex_study.specs.Cycles.{totals_on}
 use Rattle.tomex_timing.specs.declared.part.Part.{Part}
 use Rattle.tomex_worth.specs.Changes.{part_at}
-use Rattle.tomex_choices.specs.Asking.{changes_at}
 use Rattle.tomex_choices.specs.NewMachines.{grown, machine_if, machine_of, with_count}
 use Rattle.tomex_choices.specs.declared.new_machine.NewMachine.{NewMachine}
 use Rattle.tomex_choices.proofs.Asked.{change_asked, enough_kept, grown_totals, many_totals, none_of, own_totals}

@@ -1,5 +1,5 @@
 -- One more list, and all of them.
-use Rattle.std.proofs.Common.{◌≡◌, ◌<◌, ◌∙◌, ap, arith, length, refl, subst, ℕ}
+use Rattle.std.proofs.Common.{◌<◌, ◌∙◌, ap, arith, length, refl, subst, ℕ}
 use Rattle.std.proofs.lemmas.Option.{slice_get_read}
 use Rattle.tomex_choices.specs.Asking.{IsAskedOnce, ListOf}
 use Rattle.tomex_choices.proofs.AskedRows.{all_are_asked, list_at, lists_long, one_is_asked}

@@ -1,7 +1,7 @@
 -- The choices so far, and the remaining ones.
 use Rattle.std.proofs.Common.{◌≡◌, ◌++◌, drop}
 use Rattle.std.specs.List.{filter}
-use Rattle.tomex_choices.specs.Choices.{choices, has_use}
+use Rattle.tomex_choices.specs.Choices.{has_use}
 use Rattle.tomex_choices.proofs.choices.choices_used.Given as goal
 
 abbrev pub invariant-loop-config : goal.invariant-loop-config

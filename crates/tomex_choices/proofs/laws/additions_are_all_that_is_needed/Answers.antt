@@ -1,8 +1,9 @@
-use Rattle.tomex_choices.proofs.Needed.{nothing_saved, these_are_needed}
+use Rattle.tomex_choices.proofs.Fronts.{all_that_is_needed}
+use Rattle.tomex_choices.proofs.Needed.{these_save_as_much}
 use Rattle.tomex_choices.proofs.laws.additions_are_all_that_is_needed.Goals as goal
 
-pub returns-clause-needed : goal.returns-clause-needed
-returns-clause-needed c = these_are_needed
+pub returns-clause-points : goal.returns-clause-points
+returns-clause-points c = all_that_is_needed
 
-pub returns-clause-nothing : goal.returns-clause-nothing
-returns-clause-nothing c = nothing_saved
+pub returns-clause-bought : goal.returns-clause-bought
+returns-clause-bought c = these_save_as_much

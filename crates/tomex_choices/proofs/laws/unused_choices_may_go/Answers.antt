@@ -1,4 +1,4 @@
-use Rattle.tomex_choices.proofs.Dropping.{may_go}
+use Rattle.tomex_choices.proofs.Renumbered.{may_go}
 use Rattle.tomex_choices.proofs.laws.unused_choices_may_go.Goals as goal
 
 pub returns : goal.returns

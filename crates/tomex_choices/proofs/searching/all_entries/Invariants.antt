@@ -1,7 +1,6 @@
 -- The lists so far, and the remaining ones.
 use Rattle.std.proofs.Common.{◌≡◌, ◌-◌, ◌++◌, map}
 use Rattle.std.specs.List.{range_with_len}
-use Rattle.tomex_choices.specs.Asking.{ListOf}
 use Rattle.tomex_choices.proofs.searching.all_entries.Given as goal
 
 abbrev pub invariant-loop-place : goal.invariant-loop-place

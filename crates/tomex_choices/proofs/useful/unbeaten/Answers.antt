@@ -1,5 +1,5 @@
 -- After the last machine those that stayed are the ones that none beats.
-use Rattle.std.proofs.Common.{◌≡◌, arith, None, subst, List}
+use Rattle.std.proofs.Common.{◌≡◌, arith, None, subst}
 use Rattle.std.proofs.lemmas.Grind.{common_steps}
 use Rattle.tomex_choices.specs.Passing.{AreUnbeaten}
 use Rattle.tomex_choices.proofs.Passes.{passed, passing}

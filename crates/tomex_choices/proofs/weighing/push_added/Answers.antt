@@ -1,5 +1,5 @@
 -- No number yet, and one more.
-use Rattle.std.proofs.Common.{◌≡◌, ◌<◌, ◌∙◌, ◌++◌, ◌+◌, ap, arith, refl, Option}
+use Rattle.std.proofs.Common.{◌<◌, ◌∙◌, ◌++◌, ap, arith, refl, Option}
 use Rattle.tomex_config.specs.Configuration.{Configuration}
 use Rattle.tomex_timing.specs.declared.part.Part.{Part}
 use Rattle.tomex_worth.specs.Changes.{part_at}

@@ -1,7 +1,6 @@
 -- No configuration yet, and one more.
-use Rattle.std.proofs.Common.{◌≡◌, ◌∙◌, ap, false, sym, true, List}
+use Rattle.std.proofs.Common.{◌≡◌, ◌∙◌, ap, sym}
 use Rattle.std.specs.List.{list_any}
-use Rattle.tomex_config.specs.Configuration.{Configuration}
 use Rattle.tomex_choices.specs.Asking.{is_like}
 use Rattle.tomex_choices.proofs.Firsts.{all_coming, one_came, one_comes}
 use Rattle.tomex_choices.proofs.choices.Likeness.firsts.Goals as goal

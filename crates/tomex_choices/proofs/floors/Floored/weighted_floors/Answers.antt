@@ -1,5 +1,5 @@
 -- A floor times a weight is small.
-use Rattle.std.proofs.Common.{◌≤◌, arith, subst}
+use Rattle.std.proofs.Common.{arith, subst}
 use Rattle.tomex_study.specs.Program.{IsProgram}
 use Rattle.tomex_choices.proofs.SameFloors.{weighed_small}
 use Rattle.tomex_choices.proofs.floors.Floored.weighted_floors.Goals as goal

@@ -1,8 +1,7 @@
 -- The new machines of use of this list are known.
-use Rattle.std.proofs.Common.{◌∙◌, List, ap}
+use Rattle.std.proofs.Common.{◌∙◌, ap}
 use Rattle.std.proofs.lemmas.List.{get_or_default}
 use Rattle.std.proofs.lemmas.Result.{IfOk-weaker}
-use Rattle.tomex_config.specs.Configuration.{Configuration}
 use Rattle.tomex_study.specs.Study.{DesignSpace}
 use Rattle.tomex_timing.specs.Needs.{all_parts}
 use Rattle.tomex_timing.specs.declared.part.Part.TheVariants.{Width}

@@ -2,12 +2,10 @@
 use Rattle.std.proofs.Common.{◌∙◌, ℕ, List, Option, ap, map, true}
 use Rattle.std.specs.Prelude.{unwrap_or}
 use Rattle.tomex_pareto.specs.declared.front_row.FrontRow.{FrontRow}
-use Rattle.tomex_study.specs.Study.{DesignSpace}
-use Rattle.tomex_study.specs.StudyFront.{all_rows}
 use Rattle.tomex_choices.specs.Extremes.{least}
 use Rattle.tomex_choices.specs.Floors.{fastest}
 use Rattle.tomex_choices.proofs.Leasts.{last_least, least_of_all}
-use Rattle.tomex_choices.proofs.weighing.WeighedChoices.fastest.Goals as goal
+use Rattle.tomex_choices.proofs.floors.fastest.Goals as goal
 
 pub returns : goal.returns
 unfolding fastest
@@ -18,5 +16,4 @@ returns g c =
     c.loop-row-test.false
     ∙ (c.loop-row.invariant
     ∙ (least_of_all (λ (r : FrontRow). r.cycles) c.rows-row-items.result.now
-    ∙ (ap (λ (rs : List FrontRow). least (map (λ r. r.cycles) rs)) c.rows-row-items.ensures.value
-    ∙ ap (λ (s : DesignSpace). least (map (λ r. r.cycles) (all_rows s))) c.self.view_is))))
+    ∙ ap (λ (rs : List FrontRow). least (map (λ r. r.cycles) rs)) c.rows-row-items.ensures.value)))
