@@ -19,7 +19,7 @@ use Rattle.tomex_function_changes.specs.Changes.{change_fields, header, nameless
 use Rattle.tomex_function_changes.specs.Shares.{Both, Entry, Fits, change_named, distance, goes_before, has_name}
 use Rattle.tomex_function_changes.specs.Shares.{no_change, plus, share_of}
 
--- a change with what one function more takes of a build's run
+-- a change with what one function more takes in a build's run
 abbrev pub with_share : Side → Share → Change → Change
 with_share Old share change = record { old = plus change.old share; new = change.new }
 with_share New share change = record { old = change.old; new = plus change.new share }

@@ -23,7 +23,7 @@ pub record Fits (share : Share) : Type 0 where
   pub steps : share.steps < 2 ^ 64
   pub cycles : share.cycles < 2 ^ 64
 
--- what a function takes of a run, and the name under which it is shown; steps without a function have none
+-- what a function takes in a run, and the name under which it is shown; steps without a function have none
 pub record Entry : Type 0 where
   pub name : Option (List ℕ)
   pub share : Share

@@ -1,6 +1,6 @@
 //! Two builds of a program on one configuration, function by function: what the steps of each name take in the one run
 //! and in the other.
-//! Tests: tomex_tests_compare.
+//! Tests: tomex_tests_function_changes.
 #![tactic(auto)]
 
 mod builds;

@@ -56,7 +56,7 @@ impl Named {
         }
     }
 
-    /// Adds what a function with a name takes of a build's run.
+    /// Adds what a function with a name takes in a build's run.
     fn add_named(&mut self, name: String, side: Side, share: &Share) -> Result<(), AllocError>
         requires { BothFit (after_share side share.now (get_by_text self.old.by_name (string_bytes name))) }
         ensures names { OnOk result ((q : List ℕ) → get_by_text self.new.by_name q
@@ -70,7 +70,7 @@ impl Named {
         Ok(())
     }
 
-    /// Adds what one function takes of a build's run, which may have no name.
+    /// Adds what one function takes in a build's run, which may have no name.
     pub fn add(&mut self, name: Option<String>, side: Side, share: &Share) -> Result<(), AllocError>
         requires { BothFit (after_share side share.now (change_at self.old (name_of name))) }
         ensures { OnOk result ((q : Option (List ℕ)) → change_at self.new q

@@ -70,7 +70,7 @@ impl Change {
         }
     }
 
-    /// With what one function more takes of a build's run.
+    /// With what one function more takes in a build's run.
     pub fn with(&self, side: Side, more: &Share) -> Change
         requires { BothFit (with_share side more.now self.now) }
         ensures { result ≡ with_share side more.now self.now }

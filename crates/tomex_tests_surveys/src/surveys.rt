@@ -19,7 +19,7 @@ mod shares;
 mod too_large;
 mod worth;
 
-/// 1, 2 or 4 alu stations, a fast and dear or a slow and cheap multiplier, and 1 or 2 buses.
+/// 1, 2 or 4 alu stations, a fast and expensive or a slow and cheap multiplier, and 1 or 2 buses.
 fn rows_of(alloc: Global) -> Result<Vec<Config>, Fail> {
     let mut rows = Vec::new(alloc);
     for row in 0..12usize {

@@ -184,7 +184,7 @@ impl<'s, J: Plan, A: Allocator + Clone, G: Gate> Desk<'s, J, A, G> {
         Ok(())
     }
 
-    /// Tries each row of the lane's list once, rising. None of them is open then.
+    /// Tries each row of the lane's list once, in increasing order. None of them is open then.
     fn try_listed(
         &self,
         knowledge: &mut Knowledge<'s, A>,
