@@ -9,6 +9,7 @@ use Rattle.tomex_command_line.specs.declared.line.Line.TheVariants.{Worth, Choic
 use Rattle.tomex_command_line.specs.declared.line.Line.TheVariants.{Functions, Page, Find, Explain}
 use Rattle.tomex_arguments.specs.declared.fault.LineFault.{LineFault}
 use Rattle.tomex_command_line.specs.Asked.{IsAsked, IsNoCommand}
+use Rattle.tomex_report.specs.declared.choosing.ChoicesView.TheVariants.{Table}
 use Rattle.tomex_report.specs.declared.front_view.FrontView.TheVariants.{Report}
 use Rattle.tomex_report.specs.declared.surveying.SurveyView.TheVariants as views
 use Rattle.tomex_streams.specs.Files.{Known}
@@ -19,6 +20,7 @@ use Rattle.tomex_command.specs.FindLines.{IsFindOf, IsFindFailure}
 use Rattle.tomex_command.specs.FunctionsLines.{IsFunctionsFailure, IsFunctionsOf}
 use Rattle.tomex_command.specs.FrontLines.{IsFrontOf, IsAllFailure, IsExploreFailure, table_view}
 use Rattle.tomex_streams.specs.Sinks.{Seen, IsWhole, IsCut}
+use Rattle.tomex_command.specs.PageLines.{IsPageFailure, IsPageOf}
 use Rattle.tomex_command.specs.PathLines.{IsPathOf, IsPathFailure}
 use Rattle.tomex_command.specs.PipelineLines.{IsPipelineOf, IsPipelineFailure}
 use Rattle.tomex_command.specs.RunLines.{IsRunOf, IsRunFailure}
@@ -43,13 +45,13 @@ IsDone file (Front line) text = IsFrontOf (table_view line.hull) file line.explo
 IsDone file (Plot line) text = IsPlotOf line.all file line.explore.study.now text
 IsDone file (Rows line) text = IsSurveyTextOf views.Rows file line.study.now text
 IsDone file (Worth line) text = IsSurveyTextOf (views.Worth line.config) file line.explore.study.now text
-IsDone file (Choices line) text = IsChoicesOf file line.study.now text
+IsDone file (Choices line) text = IsChoicesOf Table file line.study.now text
 IsDone file (Prices line) text = IsSurveyTextOf views.Prices file line.study.now text
 IsDone file (Weights line) text = IsSurveyTextOf views.Weights file line.study.now text
 IsDone file (Compare line) text =
     IsSurveyTextOf (views.Compare line.builds.old line.builds.new) file line.explore.study.now text
 IsDone file (Functions line) text = IsFunctionsOf file line text
-IsDone file (Page line) text = IsSurveyTextOf (views.Page line.study) file line.study.now text
+IsDone file (Page line) text = IsPageOf line.choices file line.explore text
 IsDone file (Find line) text = IsFindOf file line text
 IsDone file (Explain line) text = IsExplanation (option_map string_bytes line.refusal) text
 
@@ -74,7 +76,7 @@ IsFailure file (Weights line) failure = IsSurveyFailure views.Weights file line.
 IsFailure file (Compare line) failure =
     IsSurveyFailure (views.Compare line.builds.old line.builds.new) file line.explore.study.now failure
 IsFailure file (Functions line) failure = IsFunctionsFailure file line failure
-IsFailure file (Page line) failure = IsSurveyFailure (views.Page line.study) file line.study.now failure
+IsFailure file (Page line) failure = IsPageFailure line.choices file line.explore failure
 IsFailure file (Find line) failure = IsFindFailure file line failure
 IsFailure file (Explain line) failure = IsExplainFailure (option_map string_bytes line.refusal) failure
 

@@ -6,6 +6,7 @@ pub mod ExplainLines
 pub mod FindLines
 pub mod FrontLines
 pub mod FunctionsLines
+pub mod PageLines
 pub mod PipelineLines
 pub mod Reading
 pub mod RunLines

@@ -13,6 +13,7 @@ pub mod explain;
 pub mod explore;
 pub mod find;
 pub mod functions;
+pub mod page;
 pub mod path;
 pub mod pipeline;
 pub mod plot;
@@ -34,6 +35,7 @@ use explain::text_of_explain;
 use explore::{table_view, text_of_front};
 use find::text_of_find;
 use functions::text_of_functions;
+use page::text_of_page;
 use path::text_of_path;
 use pipeline::text_of_pipeline;
 use plot::text_of_plot;
@@ -46,7 +48,7 @@ use survey::text_of_survey;
 use tables::text_of_tables;
 use times::text_of_times;
 use tomex_command_line::{Line, read_line};
-use tomex_report::{FrontView, SurveyView};
+use tomex_report::{ChoicesView, FrontView, SurveyView};
 use tomex_streams::{Files, Meter, Sink, write_all_of};
 
 /// The text that a line asks for.
@@ -94,7 +96,15 @@ fn text_of<
             let view = SurveyView::Worth(line.config as usize);
             text_of_survey(rt, alloc, heap, line.explore, files, meter, view)
         }
-        Line::Choices(line) => text_of_choices(rt, alloc, heap, line, files, meter),
+        Line::Choices(line) => text_of_choices(
+            rt,
+            alloc,
+            heap,
+            line,
+            files,
+            meter,
+            ChoicesView::Table,
+        ),
         Line::Prices(line) => text_of_survey(
             rt,
             alloc,
@@ -118,10 +128,7 @@ fn text_of<
             text_of_survey(rt, alloc, heap, line.explore, files, meter, view)
         }
         Line::Functions(line) => text_of_functions(alloc, heap, line, files),
-        Line::Page(line) => {
-            let view = SurveyView::Page(line.study);
-            text_of_survey(rt, alloc, heap, line, files, meter, view)
-        }
+        Line::Page(line) => text_of_page(rt, alloc, heap, line, files, meter),
         Line::Find(line) => text_of_find(alloc, heap, line, files),
         Line::Explain(line) => text_of_explain(alloc, heap, &line),
     }

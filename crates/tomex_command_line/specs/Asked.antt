@@ -14,11 +14,11 @@ use Rattle.tomex_arguments.specs.declared.fault.LineFault.TheVariants.{Help, Usa
 use Rattle.tomex_command_line.specs.Grammar.{tomex_app}
 use Rattle.tomex_command_line.specs.Values.{IsRunAsked, IsOneRunAsked, IsStallsAsked, IsPathAsked, IsPipelineAsked}
 use Rattle.tomex_command_line.specs.Values.{IsTablesAsked, IsAnimateAsked, IsAllAsked, IsExploreAsked, IsFrontAsked}
-use Rattle.tomex_command_line.specs.Values.{IsPlotAsked, IsWorthAsked, IsCompareAsked, IsFunctionsAsked, IsFindAsked}
-use Rattle.tomex_command_line.specs.Values.{IsExplainAsked}
+use Rattle.tomex_command_line.specs.Values.{IsPlotAsked, IsWorthAsked, IsCompareAsked, IsFunctionsAsked, IsPageAsked}
+use Rattle.tomex_command_line.specs.Values.{IsFindAsked, IsExplainAsked}
 use Rattle.tomex_command_line.specs.Values.{IsNoRun, IsNoOneRun, IsNoStalls, IsNoPath, IsNoPipeline, IsNoTables}
 use Rattle.tomex_command_line.specs.Values.{IsNoAll, IsNoAnimate, IsNoExplore, IsNoFront, IsNoPlot, IsNoWorth}
-use Rattle.tomex_command_line.specs.Values.{IsNoCompare, IsNoFunctions, IsNoFind}
+use Rattle.tomex_command_line.specs.Values.{IsNoCompare, IsNoFunctions, IsNoPage, IsNoFind}
 
 -- the command of that name with these values
 abbrev pub IsCommand : Option (Text × List Row) → Line → Type 0
@@ -70,7 +70,8 @@ IsCommand found (Functions line) =
     (rows : List Row) × (found ≡ Some (codes "functions", rows))
     × IsFunctionsAsked rows line.study.now line.config line.builds.old.now line.builds.new.now
 IsCommand found (Page line) =
-    (rows : List Row) × (found ≡ Some (codes "page", rows)) × IsExploreAsked rows line.study.now line.workers
+    (rows : List Row) × (found ≡ Some (codes "page", rows))
+    × IsPageAsked rows line.explore.study.now line.explore.workers line.choices
 IsCommand found (Find line) =
     (rows : List Row) × (found ≡ Some (codes "find", rows))
     × IsFindAsked rows line.study.now (map string_bytes line.choices.items)
@@ -112,7 +113,7 @@ pub data IsNoLineAsked (found : Option (Text × List Row)) : Type 0 where
   no_compare : (rows : List Row) → found ≡ Some (codes "compare", rows) → IsNoCompare rows → IsNoLineAsked found
   no_functions : (rows : List Row) → found ≡ Some (codes "functions", rows) → IsNoFunctions rows
       → IsNoLineAsked found
-  no_page : (rows : List Row) → found ≡ Some (codes "page", rows) → IsNoExplore rows → IsNoLineAsked found
+  no_page : (rows : List Row) → found ≡ Some (codes "page", rows) → IsNoPage rows → IsNoLineAsked found
   no_find : (rows : List Row) → found ≡ Some (codes "find", rows) → IsNoFind rows → IsNoLineAsked found
   nothing : found ≡ None → IsNoLineAsked found
   no_command : (name : Text) (rows : List Row) → found ≡ Some (name, rows)

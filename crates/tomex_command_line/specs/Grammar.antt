@@ -160,8 +160,12 @@ functions_shape = record (new_shape (codes "functions")) {
       ∷ word_rule (codes "OLD") ∷ word_rule (codes "NEW") ∷ [];
 }
 
+-- `page STUDY [--workers N] [--choices]`
 abbrev pub page_shape : Shape
-page_shape = exploring_shape (codes "page")
+page_shape = record (new_shape (codes "page")) {
+  rules = word_rule (codes "STUDY") ∷ option_rule (codes "workers") 1 32 (codes "1")
+      ∷ flag_rule (codes "choices") ∷ [];
+}
 
 -- `find STUDY [CHOICE]..`
 abbrev pub find_shape : Shape

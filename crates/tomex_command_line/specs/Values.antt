@@ -102,6 +102,14 @@ pub record IsFrontAsked (rows : List Row) (study : List ℕ) (workers : ℕ) (hu
 abbrev pub IsNoFront : List Row → Type 0
 IsNoFront rows = (study : List ℕ) (workers : ℕ) (hull : Bool) → IsFrontAsked rows study workers hull → ⊥
 
+-- the values of `page`
+pub record IsPageAsked (rows : List Row) (study : List ℕ) (workers : ℕ) (choices : Bool) : Type 0 where
+  pub of_study : IsExploreAsked rows study workers
+  pub is_choices : IsFlag rows (codes "choices") choices
+
+abbrev pub IsNoPage : List Row → Type 0
+IsNoPage rows = (study : List ℕ) (workers : ℕ) (choices : Bool) → IsPageAsked rows study workers choices → ⊥
+
 -- the values of `plot`
 pub record IsPlotAsked (rows : List Row) (study : List ℕ) (workers : ℕ) (all : Bool) : Type 0 where
   pub of_study : IsExploreAsked rows study workers

@@ -15,6 +15,7 @@ pub use line::find::FindLine;
 pub use line::front::FrontLine;
 pub use line::functions::FunctionsLine;
 pub use line::one_run::OneRun;
+pub use line::page::PageLine;
 pub use line::path::PathLine;
 pub use line::pipeline::PipelineLine;
 pub use line::plot::PlotLine;

@@ -23,7 +23,7 @@ pub mod find;
 pub mod front;
 pub mod functions;
 pub mod one_run;
-mod page;
+pub mod page;
 pub mod path;
 pub mod pipeline;
 pub mod plot;
@@ -49,6 +49,7 @@ use find::FindLine;
 use front::FrontLine;
 use functions::FunctionsLine;
 use one_run::{OneRun, one_run_of};
+use page::PageLine;
 use path::PathLine;
 use pipeline::PipelineLine;
 use plot::PlotLine;
@@ -81,7 +82,7 @@ pub enum Line<'a> {
     Weights(ExploreLine<'a>),
     Compare(CompareLine<'a>),
     Functions(FunctionsLine<'a>),
-    Page(ExploreLine<'a>),
+    Page(PageLine<'a>),
     Find(FindLine<'a>),
     Explain(ExplainLine),
 }
@@ -193,7 +194,7 @@ fn line_with<'a>(
         CommandName::Weights => Ok(Line::Weights(explore::line_of(alloc, args)?)),
         CommandName::Compare => Ok(Line::Compare(compare::line_of(alloc, args)?)),
         CommandName::Functions => Ok(Line::Functions(functions::line_of(alloc, args)?)),
-        CommandName::Page => Ok(Line::Page(explore::line_of(alloc, args)?)),
+        CommandName::Page => Ok(Line::Page(page::line_of(alloc, args)?)),
         CommandName::Find => Ok(Line::Find(find::line_of(alloc, args)?)),
         CommandName::Explain => Ok(Line::Explain(explain::line_of(alloc, args)?)),
     }

@@ -3,3 +3,6 @@ mod Cycles
 mod Linked
 mod NeedsOf
 mod ShownRows
+mod OnPath
+mod Asked
+mod Widths

@@ -1,6 +1,6 @@
 -- Laws of the page.
-use Rattle.std.specs.Prelude.{◌≡◌, ◌≢◌, ◌<◌, ℕ, ◌+◌, ◌-◌, List, [], ◌∷◌, length, map, slice_index_or, sum_by, All}
-use Rattle.std.specs.Prelude.{Option, Some, None, true}
+use Rattle.std.specs.Prelude.{◌≡◌, ◌≢◌, ◌<◌, ◌≤◌, ℕ, ◌+◌, ◌-◌, List, [], ◌∷◌, ◌++◌, length, map, slice_index_or}
+use Rattle.std.specs.Prelude.{sum_by, All, Option, Some, None, true, false}
 use Rattle.std.specs.List.{Contains, flat_map}
 use Rattle.std.specs.Option.{ForSome}
 use Rattle.tomex_config.specs.Configuration.{Configuration, IsWithinLimits}
@@ -16,9 +16,13 @@ use Rattle.tomex_timing.specs.declared.part.Part.TheVariants.{Width}
 use Rattle.tomex_page_tables.specs.Asked.{steps_of}
 use Rattle.tomex_page_tables.specs.Shown.{no_row, row_of, shown_rows}
 use Rattle.tomex_page_tables.specs.declared.shown.ShownRow.{ShownRow}
-use Rattle.tomex_page.specs.Page.{row_section, row_sections, view_at, view_of}
-use Rattle.tomex_page.specs.Runs.{needs_on}
-use Rattle.tomex_page.specs.Stalls.{pool_parts}
+use Rattle.tomex_path.specs.declared.reason.Reason.{Reason}
+use Rattle.tomex_path.specs.declared.reason.Reason.TheVariants.{For, Branch, Operand, Address, Memory, Order}
+use Rattle.tomex_page_choices.specs.Additions.{choices_table}
+use Rattle.tomex_page.specs.Constants.{choices_help}
+use Rattle.tomex_page.specs.Page.{page_of, row_section, row_sections, view_at, view_of}
+use Rattle.tomex_page.specs.Runs.{needs_on, path_on}
+use Rattle.tomex_page.specs.Stalls.{on_path, pool_parts}
 use Rattle.tomex_page.specs.declared.section.View.{View}
 
 -- what the lines of `before_issue` have: for a branch, the width, each pool and the drain
@@ -31,6 +35,31 @@ cycles_before_issue needs =
 abbrev pub CyclesAddUp : Type 0
 CyclesAddUp = (config : Configuration) (p : Workload) → IsWithinLimits config → 0 < length (steps_of p)
     → cycles_before_issue (needs_on config p) + 1 ≡ (needs_on config p).total
+
+-- the number under Cycles in a reason's line; nothing is counted for the order of a step's events
+abbrev pub cycles_for : Needs → Reason → ℕ
+cycles_for needs (For part) = (need_of needs part).stalls
+cycles_for needs Branch = needs.branch
+cycles_for needs Operand = needs.operand
+cycles_for needs Address = needs.address
+cycles_for needs Memory = needs.memory
+cycles_for needs Order = 0
+
+-- the number under On path is at most the one under Cycles
+abbrev pub OnPathIsWithin : Type 0
+OnPathIsWithin = (config : Configuration) (p : Workload) (reason : Reason) → IsWithinLimits config
+    → on_path (path_on config p) reason ≤ cycles_for (needs_on config p) reason
+
+-- A page for which the choices that lists lack were asked has them and their explanation, and is otherwise the page.
+pub record Adds (name : List ℕ) (s : DesignSpace) : Type 0 where
+  pub before : List ℕ
+  pub between : List ℕ
+  pub after : List ℕ
+  pub page : page_of false name s ≡ before ++ (between ++ after)
+  pub with_choices : page_of true name s ≡ before ++ (choices_table s ++ (between ++ (choices_help ++ after)))
+
+abbrev pub ChoicesAreAdded : Type 0
+ChoicesAreAdded = (name : List ℕ) (s : DesignSpace) → Adds name s
 
 -- the views of the rows after one, if there is one
 abbrev pub views_of : DesignSpace → Option ShownRow → List FrontRow → List View

@@ -1,6 +1,6 @@
 -- A study's report as a page: its picture, what was asked, its front, and a view for each row of the front.
-use Rattle.std.specs.Prelude.{ℕ, ◌-◌, nat_le, if◌then◌else◌, List, [], ◌∷◌, ◌++◌, codes, length, option_map}
-use Rattle.std.specs.Prelude.{slice_get, slice_index_or, Option, Some, None}
+use Rattle.std.specs.Prelude.{ℕ, ◌-◌, nat_le, if◌then◌else◌, Bool, true, false, List, [], ◌∷◌, ◌++◌, codes, length}
+use Rattle.std.specs.Prelude.{option_map, slice_get, slice_index_or, Option, Some, None}
 use Rattle.std.specs.Fmt.{decimal}
 use Rattle.std.specs.List.{flat_map}
 use Rattle.tomex_config.specs.Configuration.{Configuration}
@@ -11,13 +11,16 @@ use Rattle.tomex_study.specs.StudyFront.{front_of_study}
 use Rattle.tomex_study.specs.Program.{Workload}
 use Rattle.tomex_study.specs.Study.{DesignSpace}
 use Rattle.tomex_front_views.specs.LinkedPlot.{linked_picture_of}
-use Rattle.tomex_page_tables.specs.Asked.{lists_table, programs_table, steps_of}
+use Rattle.tomex_page_tables.specs.Asked.{programs_table, steps_of}
+use Rattle.tomex_page_choices.specs.Lists.{lists_table}
+use Rattle.tomex_page_choices.specs.Sentence.{floor_sentence}
+use Rattle.tomex_page_choices.specs.Additions.{choices_table}
 use Rattle.tomex_page_rows.specs.Changed.{changes_table}
 use Rattle.tomex_page.specs.Charts.{chart_of, first_steps}
-use Rattle.tomex_page.specs.Constants.{page_css, page_help}
+use Rattle.tomex_page.specs.Constants.{choices_help, commands_help, page_css, page_help}
 use Rattle.tomex_page_tables.specs.Front.{front_table}
 use Rattle.tomex_page_rows.specs.Parts.{against, parts_table}
-use Rattle.tomex_page.specs.Runs.{needs_on}
+use Rattle.tomex_page.specs.Runs.{floor_on, needs_on, path_on}
 use Rattle.tomex_page_tables.specs.Shown.{most_rows, no_row, row_of, shown_rows}
 use Rattle.tomex_page.specs.Stalls.{stalls_table}
 use Rattle.tomex_page_rows.specs.Stays.{prices_table}
@@ -25,10 +28,12 @@ use Rattle.tomex_page.specs.declared.section.View.{View}
 use Rattle.tomex_page_tables.specs.declared.shown.ShownRow.{ShownRow}
 
 -- a program's run on a configuration: its stalls, and its chart
+unfoldable pub run_stalls : Configuration → Workload → List ℕ
+run_stalls config p = stalls_table config (needs_on config p) (path_on config p) (floor_on config p) p.name
+
 unfoldable pub run_block : Configuration → Workload → List ℕ
 run_block config p =
-    codes "<div>\n" ++ (stalls_table config (needs_on config p) p.name
-    ++ (chart_of p.name (first_steps config (steps_of p)) ++ codes "</div>\n"))
+    codes "<div>\n" ++ (run_stalls config p ++ (chart_of p.name (first_steps config (steps_of p)) ++ codes "</div>\n"))
 
 unfoldable pub section_start : FrontRow → List ℕ
 section_start r =
@@ -105,23 +110,39 @@ page_head name front rows =
     page_start (title_of name front rows) page_css ++ (codes "<header><h1><bdi>" ++ (html_name name
     ++ (codes "</bdi>" ++ (counts_text front rows ++ codes "</h1></header>\n<main>\n<div class=\"c\">\n"))))
 
--- the picture next to what was asked
+-- the picture next to what was asked, and how far the fastest row is from what no machine goes below
 unfoldable pub overview : DesignSpace → List FrontRow → List ℕ
 overview s shown =
     codes "<div class=\"w\">" ++ (linked_picture_of s shown ++ (codes "</div>\n<div>\n"
-    ++ (programs_table s ++ (lists_table s ++ codes "</div>\n</div>\n"))))
+    ++ (programs_table s ++ (lists_table s ++ (floor_sentence s ++ codes "</div>\n</div>\n")))))
 
--- the front, and the rows
-unfoldable pub rows_text : DesignSpace → ℕ → List FrontRow → List ℕ
-rows_text s front shown =
-    left_out front ++ (front_table s shown ++ (codes "<div class=\"v\">\n" ++ (row_sections s shown None shown
-    ++ codes "</div>\n</main>\n")))
+-- if it was asked for, what choices that the lists lack would bring
+unfoldable pub asked_choices : Bool → DesignSpace → List ℕ
+asked_choices true s = choices_table s
+asked_choices false s = []
 
-unfoldable pub page_over : List ℕ → DesignSpace → List FrontRow → List FrontRow → List ℕ
-page_over name s front shown =
-    page_head name (length front) (length s.rows) ++ (overview s shown
-    ++ (rows_text s (length front) shown ++ (page_help ++ page_end)))
+unfoldable pub asked_help : Bool → List ℕ
+asked_help true = choices_help
+asked_help false = []
 
--- the page of a study with this name
-unfoldable pub page_of : List ℕ → DesignSpace → List ℕ
-page_of name s = page_over name s (front_of_study s) (shown_rows (front_of_study s))
+-- the views of the rows that are shown
+unfoldable pub views_text : DesignSpace → List FrontRow → List ℕ
+views_text s shown =
+    codes "<div class=\"v\">\n" ++ (row_sections s shown None shown ++ codes "</div>\n</main>\n")
+
+-- what comes before the choices that the lists lack, and what comes after them
+unfoldable pub page_start_of : List ℕ → DesignSpace → ℕ → List FrontRow → List ℕ
+page_start_of name s front shown =
+    page_head name front (length s.rows) ++ (overview s shown ++ (left_out front ++ front_table s shown))
+
+unfoldable pub page_rest : DesignSpace → List FrontRow → Bool → List ℕ
+page_rest s shown asked =
+    views_text s shown ++ (page_help ++ (asked_help asked ++ (commands_help ++ page_end)))
+
+unfoldable pub page_over : List ℕ → DesignSpace → List FrontRow → List FrontRow → Bool → List ℕ
+page_over name s front shown asked =
+    page_start_of name s (length front) shown ++ (asked_choices asked s ++ page_rest s shown asked)
+
+-- the page of a study with this name; if that was asked for, with what choices that the lists lack would bring
+unfoldable pub page_of : Bool → List ℕ → DesignSpace → List ℕ
+page_of asked name s = page_over name s (front_of_study s) (shown_rows (front_of_study s)) asked

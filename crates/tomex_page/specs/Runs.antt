@@ -1,7 +1,10 @@
 -- A program's run on a configuration, as pages show it.
-use Rattle.std.specs.Prelude.{List, map}
+use Rattle.std.specs.Prelude.{ℕ, List, map}
 use Rattle.tomex_config.specs.Configuration.{Configuration}
 use Rattle.tomex_config.specs.Cost.{all_pools}
+use Rattle.tomex_floor.specs.Floor.{floor_of, latency_of}
+use Rattle.tomex_path.specs.Path.{path_of}
+use Rattle.tomex_path.specs.declared.link.Link.{Link}
 use Rattle.tomex_study.specs.Program.{Workload}
 use Rattle.tomex_timing.specs.History.{greatest_end, last_issue}
 use Rattle.tomex_timing.specs.Needs.{all_units, peak, stalls, stalls_by}
@@ -35,3 +38,10 @@ needs_in config h = record {
 -- the needs of a program on a configuration
 unfoldable pub needs_on : Configuration → Workload → Needs
 needs_on config p = needs_in config (history config (steps_of p))
+
+-- the path of its run, and the fewest cycles that it takes with these latencies and this width, whatever else is there
+unfoldable pub path_on : Configuration → Workload → List Link
+path_on config p = path_of config (history config (steps_of p))
+
+unfoldable pub floor_on : Configuration → Workload → ℕ
+floor_on config p = floor_of (latency_of config) config.width (steps_of p)

@@ -1,13 +1,13 @@
 //! The constant pieces of a page.
 
 ghost use Rattle.std.specs.Prelude.{◌≡◌};
-ghost use Rattle.tomex_page.specs.Constants.{page_css, page_help};
+ghost use Rattle.tomex_page.specs.Constants.{choices_help, commands_help, page_css, page_help};
 
 const PAGE_CSS: &str = "\
 :root{--shade:#edf3fa;--dot:#a9b8c9;--bar:#7ba3d0}
 @media screen and (prefers-color-scheme:dark){:root{--shade:#1c2733;--dot:#5b6b7c;--bar:#4678ad}}
 .c,.l{display:grid;gap:1rem 2.5rem;align-items:start}
-.c .w+.w{margin-top:1rem}
+.w+.w{margin-top:1rem}
 .c>*,section>*,.l>*{min-width:0}
 .a td,.a thead th{text-align:right}
 .a th:first-child{text-align:left}
@@ -26,10 +26,11 @@ section :target{scroll-margin-top:3rem}
 section>p,.l{grid-column:1/-1}
 .t{width:100%}
 .t td,.t th{padding-top:0;padding-bottom:0}
-.t td:last-child{width:55%;padding-right:0}
+.t td:last-child{width:45%;padding-right:0}
 .t th:last-child{text-align:left}
-.t i{display:block;height:.75em;background:var(--bar);print-color-adjust:exact;-webkit-print-color-adjust:\
+.t i,.t b{display:block;height:.75em;background:var(--bar);print-color-adjust:exact;-webkit-print-color-adjust:\
 exact}
+.t b{margin-top:-.75em;background:var(--link)}
 .t th[scope=rowgroup]{padding-top:.6rem;font:inherit;font-size:.85rem;color:var(--soft)}
 pre{margin:.3rem 0;overflow-x:auto;font-size:.75rem;line-height:1.35}
 footer{border-top:1px solid var(--line);padding-top:1rem}
@@ -45,16 +46,31 @@ const PAGE_HELP: &str = "\
 <p>A row is a configuration, by its number. It is on the front if no other one costs as much or less and \
 takes as many cycles or fewer, and is better in one of the two. Dots are rows that aren't. A point of the \
 picture, or a row's number, leads to the row; there, follow <i>next</i> once, then Enter goes on.</p>
-<p>A unit option is written units@latency. Rate: of two rows that are a trade, cycles for each unit of cost. \
-A price stays within A..B: with any value from A to B, all other prices as stated, the row is on the front.\
-</p>
+<p>A unit option is written units@latency. Without the choices on no front row the front is the same. Rate: \
+of two rows that are a trade, cycles for each unit of cost. A price stays within A..B: with any value from A \
+to B, all other prices as stated, the row is on the front.</p>
 <p>A cycle in which an instruction waits counts once, for the first thing that is wanting. Before its issue: \
 an older branch, the issue width, a station. In its station: an operand, its address, an older access to its \
 bytes, a unit, at last a bus. Drain is the time after the last issue. Peak is how many of a part were ever in \
 use at once: a part without stalls is large enough, and any number of it down to its peak costs no cycle.</p>
+<p>No machine with the row's latencies and width takes fewer cycles than the floor: there, more of anything \
+but width saves nothing. Else try first the part with the most cycles on the path, which stand out in its \
+bar: for so long the instructions of the run's critical path had waited for it. That foretells well what one \
+more of it saves; it is no bound.</p>
 <p>In charts an instruction issues (I), computes its address (A), is in its unit (E), has its result on a bus \
 (W), waits for a bus (-) or for anything else (=).</p>
-<p>Each number is one that a command of tomex prints: front, worth, prices, stalls, pipeline.</p></footer>
+";
+
+const CHOICES_HELP: &str = "\
+<p>Would join the front: choices that a list lacks, with which some row's machine would be on it; more units \
+at the price of the most that are there. With all of them the cycles that a cost buys fall by that percentage \
+at most, first at the cost beside it. From enough on no greater number changes any program's cycles on any \
+row. Each list is asked alone: what several bring together, the floor alone bounds.</p>
+";
+
+const COMMANDS_HELP: &str = "\
+<p>Each number is one that a command of tomex prints: front, worth, prices, choices, stalls, path, \
+pipeline.</p></footer>
 ";
 
 /// The style of a study's report.
@@ -71,4 +87,20 @@ pub fn page_help() -> &'static str
     ensures { result.now ≡ page_help }
 {
     PAGE_HELP
+}
+
+/// That of the choices which the lists lack.
+#[tactic(auto, unfolding(crate::specs::Constants::choices_help))]
+pub fn choices_help() -> &'static str
+    ensures { result.now ≡ choices_help }
+{
+    CHOICES_HELP
+}
+
+/// Where the page's numbers are from.
+#[tactic(auto, unfolding(crate::specs::Constants::commands_help))]
+pub fn commands_help() -> &'static str
+    ensures { result.now ≡ commands_help }
+{
+    COMMANDS_HELP
 }

@@ -1,7 +1,7 @@
 //! Laws of the page. These functions do nothing: their contracts are the laws.
 
-ghost use Rattle.tomex_page.specs.Laws.{CyclesAddUp, LinkedRowsAreShown, LinksLeadToViews, SectionsAreViews};
-ghost use Rattle.tomex_page.specs.Laws.{ViewsAreApart, ViewsAreOfRows};
+ghost use Rattle.tomex_page.specs.Laws.{ChoicesAreAdded, CyclesAddUp, LinkedRowsAreShown, LinksLeadToViews};
+ghost use Rattle.tomex_page.specs.Laws.{OnPathIsWithin, SectionsAreViews, ViewsAreApart, ViewsAreOfRows};
 
 /// The first lines of a program's stalls, up to the drain, are together with 1 all cycles of its run.
 pub fn cycles_add_up()
@@ -16,4 +16,16 @@ pub fn links_lead_to_views()
     ensures links { LinksLeadToViews }
     ensures shown { LinkedRowsAreShown }
     ensures apart { ViewsAreApart }
+{}
+
+/// Of the cycles in which instructions wait for a part or for what is no part, those that lie on the path are some or
+/// all of them.
+pub fn on_path_is_within_all()
+    ensures { OnPathIsWithin }
+{}
+
+/// With what choices that the lists lack would bring, a page has that table and its explanation, and is otherwise the
+/// page without them.
+pub fn choices_are_added()
+    ensures { ChoicesAreAdded }
 {}

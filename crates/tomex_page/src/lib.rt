@@ -5,6 +5,7 @@
 //! Tests: tomex_cases, tomex_tests_commands.
 #![tactic(auto)]
 
+mod bars;
 mod charts;
 mod constants;
 mod laws;
@@ -14,5 +15,5 @@ mod runs;
 mod section;
 mod stalls;
 
-pub use laws::{cycles_add_up, links_lead_to_views};
-pub use page::study_page;
+pub use laws::{choices_are_added, cycles_add_up, links_lead_to_views, on_path_is_within_all};
+pub use page::{page_with_choices, study_page};

@@ -9,7 +9,8 @@ use std::alloc::{AllocError, Allocator, Global};
 use std::fmt::Write;
 use tomex_front_views::push_linked_picture;
 use tomex_html::{push_name, push_page_start};
-use tomex_page_tables::{MOST_ROWS, push_lists_table, push_programs_table};
+use tomex_page_choices::{push_floor_sentence, push_lists_table};
+use tomex_page_tables::{MOST_ROWS, push_programs_table};
 use tomex_pareto::FrontRow;
 use tomex_study::Surveyed;
 
@@ -56,7 +57,7 @@ pub fn push_page_head<A: Allocator>(
     write!(text, "</h1></header>\n<main>\n<div class=\"c\">\n")
 }
 
-/// Adds the picture of all rows next to what was asked.
+/// Adds the picture of all rows next to what was asked, and how far the fastest row is from the study's floors.
 ///
 /// `shown` are the rows of the front that are shown.
 #[tactic(auto, unfolding(crate::specs::Page::overview))]
@@ -74,7 +75,8 @@ pub fn push_overview<A: Allocator + Clone>(
     push_linked_picture(text, alloc.clone()?, heap, surveyed, shown)?;
     text.push_str("</div>\n<div>\n")?;
     push_programs_table(text, study)?;
-    push_lists_table(text, heap, study)?;
+    push_lists_table(text, heap, surveyed)?;
+    push_floor_sentence(text, alloc.clone()?, surveyed)?;
     write!(text, "</div>\n</div>\n")
 }
 

@@ -3,14 +3,17 @@
 ghost use Rattle.std.specs.Prelude.{◌≡◌, IfOk, OnOk};
 ghost use Rattle.std.specs.List.{flat_map};
 ghost use Rattle.tomex_csv_text.specs.Growth.{Appends};
-ghost use Rattle.tomex_page.specs.Page.{run_block};
-ghost use Rattle.tomex_page.specs.Runs.{needs_on};
+ghost use Rattle.tomex_page.specs.Page.{run_block, run_stalls};
+ghost use Rattle.tomex_page.specs.Runs.{floor_on, needs_on, path_on};
+ghost use Rattle.tomex_path_views.specs.Shares.{AreShort};
 
 use crate::charts::push_chart;
 use crate::stalls::push_stalls_table;
 use std::alloc::{AllocError, Allocator, Global};
 use std::fmt::Write;
 use tomex_config::Config;
+use tomex_floor::floors;
+use tomex_path::{RunPath, path};
 use tomex_study::Program;
 use tomex_timing::Needs;
 use tomex_timing::evaluate::needs;
@@ -26,6 +29,51 @@ fn needs_on<A: Allocator>(
     needs(alloc, program.steps(), config)
 }
 
+/// The path of a program's run on a configuration.
+fn path_on<A: Allocator + Clone>(
+    alloc: A,
+    program: &Program<A>,
+    config: &Config,
+) -> Result<RunPath<A>, AllocError>
+    ensures path { IfOk result (λ p. p.links.items ≡ path_on config.now program.now) }
+    ensures short { IfOk result (λ p. AreShort p.links.items) }
+{
+    program.keeps_limits();
+    path(alloc, program.run(), config)
+}
+
+/// The floor of a program for a configuration's latencies and its width.
+fn floor_on<A: Allocator + Clone>(
+    alloc: A,
+    program: &Program<A>,
+    config: &Config,
+) -> Result<u64, AllocError>
+    ensures { IfOk result (λ n. n ≡ floor_on config.now program.now) }
+{
+    program.keeps_limits();
+    config.keeps_limits();
+    let floors = floors(alloc, program.run(), config)?;
+    Ok(floors[usize::from(config.width()) - 1])
+}
+
+/// Adds the stalls of a program's run on a configuration.
+#[tactic(auto, unfolding(crate::specs::Page::run_stalls))]
+fn push_run_stalls<A: Allocator, B: Allocator + Clone>(
+    text: &mut String<A>,
+    alloc: &B,
+    heap: Global,
+    config: &Config,
+    program: &Program<B>,
+) -> Result<(), AllocError>
+    ensures { OnOk result (Appends (run_stalls config.now program.now) text.old text.new) }
+{
+    let needs = needs_on(alloc.clone()?, program, config)?;
+    let path = path_on(alloc.clone()?, program, config)?;
+    let floor = floor_on(alloc.clone()?, program, config)?;
+    let links = path.links.as_slice();
+    push_stalls_table(text, heap, config, &needs, links, floor, program.name())
+}
+
 /// Adds a program's run on a configuration.
 #[tactic(auto, unfolding(crate::specs::Page::run_block))]
 fn push_run<A: Allocator, B: Allocator + Clone>(
@@ -37,9 +85,8 @@ fn push_run<A: Allocator, B: Allocator + Clone>(
 ) -> Result<(), AllocError>
     ensures { OnOk result (Appends (run_block config.now program.now) text.old text.new) }
 {
-    let needs = needs_on(alloc.clone()?, program, config)?;
     text.push_str("<div>\n")?;
-    push_stalls_table(text, heap, config, &needs, program.name())?;
+    push_run_stalls(text, alloc, heap, config, program)?;
     push_chart(text, alloc, heap, program, config)?;
     write!(text, "</div>\n")
 }

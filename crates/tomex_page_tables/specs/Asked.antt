@@ -1,5 +1,5 @@
--- What was asked: the programs, and the lists of parts with their prices. A study's value has rows and no lists, so a
--- list's entries are those of the rows, in the order of the first rows that have them.
+-- What was asked: the programs, and the entries of lists of parts with their prices. A study's value has rows and no
+-- lists, so a list's entries are those of the rows, in the order of the first rows that have them.
 use Rattle.std.specs.Prelude.{ℕ, ◌-◌, ◌*◌, not, List, [], ◌∷◌, ◌++◌, codes, length, slice_get, Option, Some, None}
 use Rattle.std.specs.Fmt.{decimal}
 use Rattle.std.specs.List.{filter, flat_map}
@@ -12,11 +12,11 @@ use Rattle.tomex_rvexec.specs.Trace.{steps_from}
 use Rattle.tomex_steps.specs.declared.step.Step.{Step}
 use Rattle.tomex_study.specs.Program.{Workload}
 use Rattle.tomex_study.specs.Study.{DesignSpace}
-use Rattle.tomex_timing.specs.Needs.{all_parts, count_of}
+use Rattle.tomex_timing.specs.Needs.{count_of}
 use Rattle.tomex_timing.specs.declared.part.Part.{Part}
 use Rattle.tomex_timing.specs.declared.part.Part.TheVariants.{Stations, Units, Buses, Width}
 use Rattle.tomex_worth.specs.Changes.{same_entry}
-use Rattle.tomex_worth.specs.Worth.{entry_text, name_of_list}
+use Rattle.tomex_worth.specs.Worth.{entry_text}
 use Rattle.tomex_html.specs.Tables.{number_cell, table_head, table_row}
 use Rattle.tomex_page_tables.specs.Pieces.{some}
 use Rattle.tomex_page_tables.specs.declared.choices.Facet.{Facet}
@@ -78,17 +78,3 @@ entries_text s facet part = some (facet_text s.prices facet part) (firsts part s
 abbrev pub prices_text : DesignSpace → Part → List ℕ
 prices_text s (Units unit) = entries_text s Cost (Units unit)
 prices_text s part = decimal (price_of_part s.prices part)
-
-abbrev pub list_cells : DesignSpace → Part → List ℕ
-list_cells s part = td (entries_text s Choice part) ++ td (prices_text s part)
-
-unfoldable pub list_row : DesignSpace → Part → List ℕ
-list_row s part = table_row (name_of_list part) (list_cells s part)
-
-abbrev pub list_names : List (List ℕ)
-list_names = codes "Part" ∷ codes "Choices" ∷ codes "Price" ∷ []
-
-unfoldable pub lists_table : DesignSpace → List ℕ
-lists_table s =
-    table_head (codes " class=\"x\"") (codes "Parts, and the price of each") list_names
-    ++ (flat_map (list_row s) all_parts ++ table_end)

@@ -1,17 +1,15 @@
-//! What was asked: the programs, and the lists of parts with their prices.
+//! What was asked: the table of the programs, and how a row for a part's list begins.
 
 ghost use Rattle.std.specs.Prelude.{◌≡◌, ◌++◌, length, OnOk};
 ghost use Rattle.std.specs.List.{flat_map};
 ghost use Rattle.tomex_csv_text.specs.Growth.{Appends};
 ghost use Rattle.tomex_html.specs.Html.{td};
-ghost use Rattle.tomex_page_tables.specs.Asked.{end_text, list_cells, list_row, lists_table, program_row};
-ghost use Rattle.tomex_page_tables.specs.Asked.{programs_table};
+ghost use Rattle.tomex_page_tables.specs.Asked.{end_text, program_row, programs_table};
 ghost use Rattle.tomex_html.specs.Tables.{number_cell, row_start};
 ghost use Rattle.tomex_timing.specs.Needs.{all_parts};
 ghost use Rattle.tomex_worth.specs.Worth.{name_of_list};
 
-use crate::choices::{Facet, push_entries, push_prices};
-use std::alloc::{AllocError, Allocator, Global};
+use std::alloc::{AllocError, Allocator};
 use std::fmt::Write;
 use tomex_html::{push_number, push_row_start, push_table_end, push_table_head};
 use tomex_rvexec::Step;
@@ -94,68 +92,9 @@ pub fn push_list_start<A: Allocator>(text: &mut String<A>, part: Part) -> Result
     write!(text, "</th>")
 }
 
-/// Adds the entries of a part's list, and what they cost.
-fn push_list_cells<A: Allocator, B: Allocator>(
-    text: &mut String<A>,
-    heap: Global,
-    study: &Study<B>,
-    part: Part,
-) -> Result<(), AllocError>
-    ensures { OnOk result (Appends (list_cells study.now part) text.old text.new) }
-{
-    text.push_str("<td>")?;
-    push_entries(text, heap, study, Facet::Choice, part)?;
-    text.push_str("</td><td>")?;
-    push_prices(text, heap, study, part)?;
-    text.push_str("</td>")
-}
-
-#[tactic(auto, unfolding(crate::specs::Asked::list_row, tomex_html::specs::Tables::table_row))]
-fn push_list_row<A: Allocator, B: Allocator>(
-    text: &mut String<A>,
-    heap: Global,
-    study: &Study<B>,
-    part: Part,
-) -> Result<(), AllocError>
-    ensures { OnOk result (Appends (list_row study.now part) text.old text.new) }
-{
-    push_list_start(text, part)?;
-    push_list_cells(text, heap, study, part)?;
-    text.push_str("</tr>\n")
-}
-
-fn push_list_rows<A: Allocator, B: Allocator>(
-    text: &mut String<A>,
-    heap: Global,
-    study: &Study<B>,
-    parts: &[Part],
-) -> Result<(), AllocError>
-    ensures { OnOk result (Appends (flat_map (list_row study.now) parts.now) text.old text.new) }
-{
-    for part in parts {
-        push_list_row(text, heap, study, *part)?;
-    }
-    Ok(())
-}
-
 /// All parts.
 pub fn all_parts() -> &'static [Part]
     ensures { result.now ≡ all_parts }
 {
     &Part::ALL
-}
-
-/// Adds the table of the lists of parts.
-#[tactic(auto, unfolding(crate::specs::Asked::lists_table))]
-pub fn push_lists_table<A: Allocator, B: Allocator>(
-    text: &mut String<A>,
-    heap: Global,
-    study: &Study<B>,
-) -> Result<(), AllocError>
-    ensures { OnOk result (Appends (lists_table study.now) text.old text.new) }
-{
-    let names = ["Part", "Choices", "Price"];
-    push_table_head(text, " class=\"x\"", "Parts, and the price of each", &names)?;
-    push_list_rows(text, heap, study, all_parts())?;
-    push_table_end(text)
 }

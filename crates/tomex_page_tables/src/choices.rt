@@ -137,7 +137,7 @@ fn push_joined<A: Allocator>(
 
 /// Adds the texts of the first entries, with a sign if there are more.
 #[tactic(auto, unfolding(crate::specs::Pieces::some))]
-fn push_some<A: Allocator>(
+pub fn push_some<A: Allocator>(
     text: &mut String<A>,
     prices: &Prices,
     facet: Facet,

@@ -1,4 +1,4 @@
-//! Tables of a study's report as a page: the programs and the lists of parts, and the front.
+//! Tables of a study's report as a page: the programs, and the front; and the texts of what a list of parts has.
 //!
 //! Source: the HTML Living Standard, in its XML syntax.
 //! Tests: tomex_cases.
@@ -12,8 +12,8 @@ mod settings;
 mod shown;
 mod tables;
 
-pub use asked::{all_parts, push_list_start, push_lists_table, push_programs_table};
-pub use choices::cost_of_part;
+pub use asked::{all_parts, push_list_start, push_programs_table};
+pub use choices::{Facet, cost_of_part, push_entries, push_prices, push_some};
 pub use front::{push_front_table, push_percent_cell, push_row_link, push_signed_cell};
 pub use laws::{costs_of_parts_add_up, differences_add_up};
 pub use shown::{MOST_ROWS, ShownRow, row_of, shown_rows};

@@ -1,6 +1,6 @@
 -- What the proofs of the crate share.
 pub mod Sums
-mod Bounds
+pub mod Bounds
 mod Signs
 mod Visits
 mod Reports

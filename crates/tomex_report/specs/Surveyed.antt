@@ -37,7 +37,7 @@ survey_text (Worth row) s = worth_table_of s row
 survey_text Prices s = prices_table_of s
 survey_text Weights s = weights_table_of s
 survey_text (Compare old new) s = compared s (place_of old.now s) (place_of new.now s)
-survey_text (Page name) s = page_of name.now s
+survey_text (Page name) s = page_of false name.now s
 
 -- the view is of a configuration that the study doesn't have
 abbrev pub lacks_row : SurveyView → DesignSpace → Bool

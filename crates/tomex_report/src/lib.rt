@@ -18,7 +18,7 @@ mod surveying;
 
 pub use answer_error::AnswerError;
 pub use answering::{answer, answer_all, answer_all_under, answer_shown};
-pub use choosing::answer_choices;
+pub use choosing::{ChoicesView, answer_choices};
 pub use crew::Crew;
 pub use front_text::front_report;
 pub use front_view::FrontView;

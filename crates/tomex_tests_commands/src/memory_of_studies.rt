@@ -38,7 +38,7 @@ const TWELVE: &str =
     [[unit.mul]]\nlatency = 3\nprice = 40\n[[unit.mul]]\nlatency = 6\nprice = 15\n";
 
 /// Lines on all rows of a study, or on pages, and the least number of blocks that they need.
-static OF_TWELVE: [(&str, u64); 10] = [
+static OF_TWELVE: [(&str, u64); 11] = [
     // The study's bytes and its file's, names, the program, rows, costs and the text; stretches, totals, the plateaus,
     // all rows, marks and the front.
     ("tomex rows study", 14),
@@ -51,6 +51,7 @@ static OF_TWELVE: [(&str, u64); 10] = [
     ("tomex compare study mul mul", 14),
     ("tomex plot study --rows", 14),
     ("tomex page study", 14),
+    ("tomex page study --choices", 14),
     ("tomex animate study 4 mul --cycles 2", 14),
 ];
 

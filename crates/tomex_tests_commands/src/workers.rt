@@ -63,7 +63,7 @@ fn is_shared<R: AllocGlobal + Threads + Wait + Sync>(rt: &R, line: &str) -> Resu
 }
 
 /// The commands that explore a study, or find the cycles of all its rows, by two workers.
-static LINES: [&str; 11] = [
+static LINES: [&str; 12] = [
     "tomex explore study --workers 2",
     "tomex front study --workers 2",
     "tomex plot study --workers 2",
@@ -75,6 +75,7 @@ static LINES: [&str; 11] = [
     "tomex compare study mul mul --workers 2",
     "tomex plot study --rows --workers 2",
     "tomex page study --workers 2",
+    "tomex page study --choices --workers 2",
 ];
 
 #[test]

@@ -61,7 +61,10 @@ fn line_on_all_rows(alloc: Global, line: &Line) -> Result<String, AllocError> {
             let builds = compare.builds;
             format!(in alloc; "compare {study} {} {} {workers}", builds.old, builds.new)
         }
-        Line::Page(page) => format!(in alloc; "page {} {}", page.study, page.workers),
+        Line::Page(page) => {
+            let (study, workers) = (page.explore.study, page.explore.workers);
+            format!(in alloc; "page {study} {workers} {}", page.choices)
+        }
         other => line_on_a_program(alloc, other),
     }
 }
@@ -155,7 +158,7 @@ fn text_of(alloc: Global, line: &str) -> Result<String, AllocError> {
 }
 
 /// Lines, and the beginnings of their results.
-static READ: [(&str, &str); 94] = [
+static READ: [(&str, &str); 95] = [
     ("run mul.bin", "run mul.bin 0 65536 262144"),
     (
         "run a --base 4294967292 --size 4 --limit 1",
@@ -276,8 +279,9 @@ static READ: [(&str, &str); 94] = [
     ("functions a 16383 b c", "functions a 16383 b c"),
     ("functions --help", "help Prints, for one of the study"),
     ("functions -h", "help Prints what each function takes"),
-    ("page a", "page a 1"),
-    ("page a --workers 32", "page a 32"),
+    ("page a", "page a 1 false"),
+    ("page a --workers 32", "page a 32 false"),
+    ("page --choices a --workers 2", "page a 2 true"),
     ("page --help", "help Prints a report of a study"),
     ("page -h", "help Prints a study's report"),
     (
@@ -354,7 +358,7 @@ fn help_is_whole(rt: HostRuntime) -> Result<(), Fail> {
     Ok(())
 }
 
-static REFUSED: [&str; 47] = [
+static REFUSED: [&str; 49] = [
     "run a --base 4294967293",
     "run a --base -4",
     "run a --base 0x10",
@@ -370,6 +374,8 @@ static REFUSED: [&str; 47] = [
     "times study 0",
     "choices",
     "weights",
+    "page study --choices --choices",
+    "page study --choices=1",
     "compare study a",
     "compare study a b c",
     "functions study 0 a",

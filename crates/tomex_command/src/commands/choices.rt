@@ -1,4 +1,4 @@
-//! What `choices` prints.
+//! What is printed of a study with what its lists lack.
 ghost use Rattle.std.specs.Prelude.{IfOk, IfErr};
 ghost use Rattle.tomex_command.specs.ChoicesLines.{IsChoicesFailure, IsChoicesOf};
 
@@ -8,10 +8,10 @@ use crate::metered::Metered;
 use std::alloc::{Allocator, Global};
 use std::thread::Threads;
 use tomex_command_line::ExploreLine;
-use tomex_report::{Crew, answer_choices};
+use tomex_report::{ChoicesView, Crew, answer_choices};
 use tomex_streams::{Files, Meter};
 
-/// The table of the choices of a study's lists.
+/// The text of a study with what its lists lack, as `choices` prints it, and `page` with the choices.
 pub fn text_of_choices<
     R: Threads + Sync,
     F: Files,
@@ -24,8 +24,10 @@ pub fn text_of_choices<
     line: ExploreLine<'_>,
     files: &F,
     meter: &M,
+    view: ChoicesView<'_>,
 ) -> Result<Vec<u8, A>, Failure>
-    ensures text { IfOk result (λ text. IsChoicesOf (F.file files.now) line.entry.study.now text.items) }
+    ensures text { IfOk result
+        (λ text. IsChoicesOf view.entry (F.file files.now) line.entry.study.now text.items) }
     ensures failure { IfErr result
         (λ failure. IsChoicesFailure (F.file files.now) line.entry.study.now failure) }
 {
@@ -36,7 +38,7 @@ pub fn text_of_choices<
         workers: line.workers as usize,
         gate: &gate,
     };
-    let text = answer_choices(rt, alloc, heap, study, contents, crew);
+    let text = answer_choices(rt, alloc, heap, study, contents, crew, view);
     meter.clear();
     Ok(text?)
 }

@@ -1,12 +1,26 @@
-//! `page STUDY [--workers N]`
-ghost use Rattle.std.specs.Prelude.{◌≡◌, IfOk};
-ghost use Rattle.clap.specs.Simple.{shape_of};
+//! `page STUDY [--workers N] [--choices]`
+ghost use Rattle.std.specs.Prelude.{◌≡◌, IfOk, IfErr};
+ghost use Rattle.tomex_arguments.specs.Faults.{IsRefusedIf};
 ghost use Rattle.tomex_command_line.specs.Grammar.{page_shape};
+ghost use Rattle.clap.specs.Simple.{shape_of};
+ghost use Rattle.clap.specs.Words.{found_of};
+ghost use Rattle.clap.specs.Walk.{rows_of};
+ghost use Rattle.tomex_command_line.specs.Values.{IsNoPage, IsPageAsked};
 
-use super::explore::study_and_workers;
-use super::texts::Texts;
-use clap::Command;
+use super::explore::{ExploreLine, line_of as explore_of, on_rows};
+use super::texts::{Texts, with_argument};
+use super::values::flag;
+use clap::{ArgMatches, Command};
 use std::alloc::{AllocError, Global};
+use tomex_arguments::{LineFault, flag_of};
+
+/// A request for a study's report as a web page.
+#[derive(Clone, Copy)]
+pub struct PageLine<'a> {
+    pub explore: ExploreLine<'a>,
+    /// True if it has what choices that the lists lack would bring.
+    pub choices: bool,
+}
 
 const ABOUT: &str = "Prints a study's report as a web page";
 
@@ -15,8 +29,12 @@ const LONG_ABOUT: &str =
 all configurations, the study's lists and programs, the front with each row's
 difference from the one above, and a view for each row of the front: what its
 parts cost, what a change of one part brings, for which prices it stays on the
-front, its stalls, and what its first instructions do. A row is a
-configuration, by its number.
+front, its stalls and which of them lie on the critical path, each program's
+floor, and what its first instructions do. A row is a configuration, by its
+number.
+
+With --choices it also has what `choices` prints of choices that the lists lack.
+That takes about ten times as long.
 
 The page is one HTML file, without scripts, that loads nothing. It shows at most
 64 rows of the front, evenly chosen, and says so.
@@ -31,8 +49,9 @@ const AFTER_LONG_HELP: &str = "Exit status:
   2  the command line was refused
   3  memory, a thread, a file or a device was refused
 
-Example, in the folder `examples`:
-  tomex page explore.toml --workers 4 > explore.html";
+Examples, in the folder `examples`:
+  tomex page explore.toml --workers 4 > explore.html
+  tomex page explore.toml --workers 4 --choices > choices.html";
 
 const TEXTS: Texts = Texts {
     about: ABOUT,
@@ -40,8 +59,25 @@ const TEXTS: Texts = Texts {
     after_long_help: AFTER_LONG_HELP,
 };
 
+const CHOICES_HELP: &str = "Add what choices that the lists lack would bring";
+
 pub(super) fn grammar<'a>(alloc: Global) -> Result<Command<'a>, AllocError>
     ensures { IfOk result (λ c. shape_of c ≡ page_shape) }
 {
-    study_and_workers(alloc, "page", TEXTS)
+    let command = on_rows(alloc, "page", TEXTS);
+    with_argument(command, flag(alloc, "choices", CHOICES_HELP))
+}
+
+pub(super) fn line_of<'a>(
+    alloc: Global,
+    matches: &ArgMatches<'a>,
+) -> Result<PageLine<'a>, LineFault>
+    ensures line { IfOk result (λ line. IsPageAsked (rows_of (found_of matches.now))
+        line.explore.study.now line.explore.workers line.choices) }
+    ensures refused { IfErr result (IsRefusedIf (IsNoPage (rows_of (found_of matches.now)))) }
+{
+    Ok(PageLine {
+        explore: explore_of(alloc, matches)?,
+        choices: flag_of(matches, "choices"),
+    })
 }

@@ -9,6 +9,5 @@ unfolding overview
 returns g c =
     on_ok_weaker c.write.result (λ last.
     (c.in_ok-push_str.ensures.bytes ▸ c.in_ok-push_linked_picture.ensures ▸ c.in_ok-push_str-2.ensures.bytes
-    ▸ (rw c.study-study.ensures at c.in_ok-push_programs_table.ensures)
-    ▸ (rw c.study-study.ensures at c.in_ok-push_lists_table.ensures) ▸ last_piece last).is)
-    c.write.ensures.bytes
+    ▸ (rw c.study-study.ensures at c.in_ok-push_programs_table.ensures) ▸ c.in_ok-push_lists_table.ensures
+    ▸ c.in_ok-push_floor_sentence.ensures ▸ last_piece last).is) c.write.ensures.bytes

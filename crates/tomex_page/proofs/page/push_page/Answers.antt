@@ -1,13 +1,11 @@
 -- One piece after the other.
 use Rattle.std.proofs.lemmas.Result.{on_ok_weaker}
 use Rattle.tomex_csv_text.proofs.Pieces.{◌▸◌, last_piece}
-use Rattle.tomex_page.specs.Page.{page_over}
+use Rattle.tomex_page.specs.Page.{asked_choices, page_over, page_rest}
 use Rattle.tomex_page.proofs.page.push_page.Goals as goal
 
 pub returns : goal.returns
-unfolding page_over
+unfolding page_over asked_choices page_rest
 returns g c =
-    on_ok_weaker c.push_page_end.result (λ last.
-    ((rw (c.front.ensures.value, c.rows.ensures.count) at c.in_ok-push_page_head.ensures)
-    ▸ c.in_ok-push_overview.ensures ▸ c.in_ok-push_rows.ensures
-    ▸ (rw c.page_help.ensures at c.in_ok-push_str.ensures.bytes) ▸ last_piece last).is) c.push_page_end.ensures
+    on_ok_weaker c.push_rest.result (λ last.
+    (c.in_ok-push_start.ensures ▸ last_piece last).is) c.push_rest.ensures

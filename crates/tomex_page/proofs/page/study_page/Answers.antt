@@ -1,5 +1,5 @@
 -- The rows that are shown are rows of the front, and those of the definition.
-use Rattle.std.proofs.Common.{◌∙◌, ◌++◌, ◌<◌, ap, subst, sym, List, ℕ, length, All}
+use Rattle.std.proofs.Common.{◌∙◌, ◌++◌, ◌<◌, ap, subst, sym, List, ℕ, length, All, false}
 use Rattle.std.specs.List.{Contains}
 use Rattle.tomex_pareto.specs.declared.front_row.FrontRow.{FrontRow}
 use Rattle.tomex_study.specs.StudyFront.{front_of_study}
@@ -29,6 +29,6 @@ returns g c =
     let are = c.as_slice.ensures.value ∙ (c.in_ok-shown.ensures ∙ ap shown_rows c.front.ensures.value) in
     ap (λ v. v.items) c.into_bytes.ensures.value
     ∙ (c.in_ok-push_page.ensures
-    ∙ (ap (λ (z : List ℕ). z ++ page_over c.args.name.now c.args.surveyed.now front c.as_slice.result.now)
+    ∙ (ap (λ (z : List ℕ). z ++ page_over c.args.name.now c.args.surveyed.now front c.as_slice.result.now false)
     c.new-text.ensures.bytes
-    ∙ ap (page_over c.args.name.now c.args.surveyed.now front) are))
+    ∙ ap (λ (rows : List FrontRow). page_over c.args.name.now c.args.surveyed.now front rows false) are))

@@ -8,6 +8,5 @@ pub returns : goal.returns
 unfolding run_block
 returns g c =
     on_ok_weaker c.write.result (λ last.
-    (c.in_ok-push_str.ensures.bytes
-    ▸ (rw (c.in_ok-needs.ensures, c.name.ensures.value) at c.in_ok-push_stalls_table.ensures)
-    ▸ c.in_ok-push_chart.ensures ▸ last_piece last).is) c.write.ensures.bytes
+    (c.in_ok-push_str.ensures.bytes ▸ c.in_ok-push_run_stalls.ensures ▸ c.in_ok-push_chart.ensures
+    ▸ last_piece last).is) c.write.ensures.bytes

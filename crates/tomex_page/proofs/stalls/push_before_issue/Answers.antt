@@ -7,7 +7,6 @@ use Rattle.tomex_page.proofs.stalls.push_before_issue.Goals as goal
 pub returns : goal.returns
 unfolding before_issue
 returns g c =
-    on_ok_weaker c.push_cause-2.result (λ last.
+    on_ok_weaker c.push_drain.result (λ last.
     (c.in_ok-push_group.ensures ▸ c.in_ok-push_cause.ensures ▸ c.in_ok-push_part.ensures
-    ▸ (rw c.pool_parts.ensures at c.in_ok-push_parts.ensures) ▸ last_piece last).is)
-    (rw c.drain.ensures at c.push_cause-2.ensures)
+    ▸ (rw c.pool_parts.ensures at c.in_ok-push_parts.ensures) ▸ last_piece last).is) c.push_drain.ensures

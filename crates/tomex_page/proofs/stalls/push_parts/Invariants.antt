@@ -7,5 +7,5 @@ use Rattle.tomex_page.proofs.stalls.push_parts.Given as goal
 
 abbrev pub invariant-loop-part : goal.invariant-loop-part
 invariant-loop-part g l =
-    string_bytes l.text ++ flat_map (stall_row l.config l.needs) (drop l.part-index l.parts)
-    ≡ string_bytes l.fn.text ++ flat_map (stall_row l.config l.needs) l.parts
+    string_bytes l.text ++ flat_map (stall_row l.config l.needs l.path) (drop l.part-index l.parts)
+    ≡ string_bytes l.fn.text ++ flat_map (stall_row l.config l.needs l.path) l.parts

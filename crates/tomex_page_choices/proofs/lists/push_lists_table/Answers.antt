@@ -1,8 +1,8 @@
 -- One piece after the other.
 use Rattle.std.proofs.lemmas.Result.{on_ok_weaker}
 use Rattle.tomex_csv_text.proofs.Pieces.{◌▸◌, last_piece}
-use Rattle.tomex_page_tables.specs.Asked.{lists_table}
-use Rattle.tomex_page_tables.proofs.asked.push_lists_table.Goals as goal
+use Rattle.tomex_page_choices.specs.Lists.{lists_table}
+use Rattle.tomex_page_choices.proofs.lists.push_lists_table.Goals as goal
 
 pub returns : goal.returns
 unfolding lists_table

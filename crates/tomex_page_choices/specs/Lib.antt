@@ -1,0 +1,4 @@
+-- What a page has of the choices of a study's lists.
+pub mod Lists
+pub mod Sentence
+pub mod Additions
