@@ -1,9 +1,8 @@
 -- Nothing is worth adding exactly if rows are as good as each machine that a longer or finer list has.
 use Rattle.std.proofs.Common.{◌≡◌, ℕ, ◌+◌, ◌≤◌, ◌<◌, ◌==◌, arith, ap, sym, refl, subst, ◌∙◌, List, [], ◌∷◌, ◌++◌, map}
-use Rattle.std.proofs.Common.{Bool, true, false, inl, inr, cond, length, Option, Some, None}
-use Rattle.std.specs.Prelude.{nat_le, nat_lt, unwrap_or}
+use Rattle.std.proofs.Common.{Bool, true, false, inl, inr, Option, Some, None}
+use Rattle.std.specs.Prelude.{nat_lt, unwrap_or}
 use Rattle.std.specs.List.{Contains, filter, list_any}
-use Rattle.std.proofs.lemmas.Bool.{both_ways}
 use Rattle.std.proofs.lemmas.Bool.Decides.{nat_tests}
 use Rattle.std.proofs.lemmas.List.Elements.{All-contains}
 use Rattle.tomex_rvdec.specs.declared.pool.UnitId.{UnitId}
@@ -21,20 +20,20 @@ use Rattle.tomex_timing.specs.declared.part.Part.TheVariants.{Stations, Units, B
 use Rattle.tomex_choices.specs.Additions.{additions, has_entry, useful}
 use Rattle.tomex_choices.specs.Choices.{most_of}
 use Rattle.tomex_choices.specs.Extremes.{least}
-use Rattle.tomex_choices.specs.Laws.{AdditionsAreAllThatIsNeeded, CoveredIsNothingToAdd, CoveredMachinesAddNoPoints}
-use Rattle.tomex_choices.specs.Laws.{AreLongerCovered, IsDearer, IsLonger, NothingToAddIsCovered, added_machines}
+use Rattle.tomex_choices.specs.Laws.{CoveredIsNothingToAdd, CoveredMachinesAddNoPoints}
+use Rattle.tomex_choices.specs.Laws.{AreLongerCovered, IsDearer, IsLonger, NothingToAddIsCovered}
 use Rattle.tomex_choices.specs.NewMachines.{greatest_units, grown, lacking, least_price, more_units, new_machines}
-use Rattle.tomex_choices.specs.NewMachines.{options_at, with_count}
+use Rattle.tomex_choices.specs.NewMachines.{options_at}
 use Rattle.tomex_choices.specs.Passing.{Has}
 use Rattle.tomex_choices.specs.Points.{IsCovered, row_of}
-use Rattle.tomex_choices.specs.Savings.{as_row, complete, is_as_good, is_of_use}
+use Rattle.tomex_choices.specs.Savings.{is_as_good, is_of_use}
 use Rattle.tomex_choices.specs.declared.new_machine.NewMachine.{NewMachine}
 use Rattle.tomex_choices.proofs.Asked.{is_grown, is_more}
 use Rattle.tomex_choices.proofs.Configurations.{count_within, option_within, other_units, own_price}
 use Rattle.tomex_choices.proofs.EnoughFrom.{any_from, from_range}
 use Rattle.tomex_choices.proofs.Longer.{complete_is_complete, same_again}
-use Rattle.tomex_choices.proofs.Members.{from_filter, from_map, has_either, has_left, has_map, has_right, least_has}
-use Rattle.tomex_choices.proofs.Needed.{Origin, as_good, none_added, none_pass, origin_of}
+use Rattle.tomex_choices.proofs.Members.{from_filter, from_map, has_either, has_left, least_has}
+use Rattle.tomex_choices.proofs.Needed.{as_good, none_added, none_pass, origin_of}
 use Rattle.tomex_choices.proofs.Passes.{contains_from, has_from}
 use Rattle.tomex_choices.proofs.Points.{HasAsGood, front_kept}
 

@@ -1,18 +1,15 @@
 -- More of several parts at once, at the ends of whose lists no program waits for them, is covered by a row.
-use Rattle.std.proofs.Common.{◌≡◌, ℕ, suc, ◌+◌, ◌*◌, ◌≤◌, arith, ap, sym, refl, List, [], ◌∷◌, map, true, inl, inr}
+use Rattle.std.proofs.Common.{◌≡◌, ℕ, suc, ◌+◌, ◌*◌, ◌≤◌, arith, ap, refl, List, [], ◌∷◌, map, true, inl, inr}
 use Rattle.std.specs.List.{Contains}
 use Rattle.std.proofs.Math.Nat.{mul-le-mul_right}
 use Rattle.std.proofs.lemmas.Bool.Decides.{nat_tests}
-use Rattle.tomex_rvdec.specs.declared.pool.PoolId.{PoolId}
-use Rattle.tomex_rvdec.specs.declared.pool.UnitId.{UnitId}
 use Rattle.tomex_config.specs.Configuration.{Configuration, option_of, stations_of}
 use Rattle.tomex_config.specs.Cost.{PriceList, all_pools, all_units, cost_of, options_cost, price_of, stations_cost}
-use Rattle.tomex_floor.specs.Floor.{latency_of}
 use Rattle.tomex_pareto.specs.Front.{rows_from}
 use Rattle.tomex_pareto.specs.declared.front_row.FrontRow.{FrontRow}
 use Rattle.tomex_study.specs.Cycles.{cycles_of, cycles_on}
 use Rattle.tomex_study.specs.Program.{Workload}
-use Rattle.tomex_study.specs.Study.{DesignSpace, IsStudy}
+use Rattle.tomex_study.specs.Study.{DesignSpace}
 use Rattle.tomex_study.specs.StudyFront.{all_rows}
 use Rattle.tomex_timing.specs.Needs.{count_of}
 use Rattle.tomex_timing.specs.declared.part.Part.{Part}
@@ -61,7 +58,8 @@ module _ (c d : Configuration) (counts : (part : Part) → count_of c part ≤ c
   stations_no_less : (prices : PriceList) → stations_cost c prices ≤ stations_cost d prices
   stations_no_less prices =
       sums_rise (λ pool. stations_of c pool * price_of prices pool) (λ pool. stations_of d pool * price_of prices pool)
-      all_pools (λ pool h. times (stations_of c pool) (stations_of d pool) (price_of prices pool) (counts (Stations pool)))
+      all_pools
+      (λ pool h. times (stations_of c pool) (stations_of d pool) (price_of prices pool) (counts (Stations pool)))
 
   options_no_less : options_cost c ≤ options_cost d
   options_no_less =

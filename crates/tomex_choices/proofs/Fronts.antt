@@ -1,5 +1,5 @@
 -- Fronts of complete lists: what is worth adding gives them, and no longer or finer list has better ones.
-use Rattle.std.proofs.Common.{◌≡◌, ℕ, ◌≤◌, arith, ap, sym, subst, List, ◌++◌, map, inl, inr, Some}
+use Rattle.std.proofs.Common.{◌≡◌, ℕ, ◌≤◌, arith, ap, subst, List, ◌++◌, map, inl, inr, Some}
 use Rattle.std.specs.List.{Contains, filter, list_any}
 use Rattle.tomex_config.specs.Configuration.{Configuration, IsWithinLimits}
 use Rattle.tomex_config.specs.Cost.{cost_of}

@@ -8,7 +8,6 @@ use Rattle.tomex_pareto.specs.Front.{by_cost, front_of}
 use Rattle.tomex_pareto.specs.Pareto.{Dominates}
 use Rattle.tomex_pareto.specs.declared.front_row.FrontRow.{FrontRow}
 use Rattle.tomex_pareto.proofs.Pareto.{IsFree, has_moved, kept, kept_all, kept_only, ordered_moves}
-use Rattle.tomex_pareto.proofs.Pareto.{Has as HasRow}
 use Rattle.tomex_choices.specs.Passing.{Has}
 use Rattle.tomex_choices.specs.Points.{HaveSamePoints, IsFrontKept, front_points, point_of}
 use Rattle.tomex_choices.proofs.Dropping.{as_row, from_row}

@@ -1,25 +1,34 @@
 -- The choices of some rows, computed by the definitions themselves: the rows of examples/study.toml, an alu station at
 -- 10, the fast multiplier at 40, the slow one at 15, a bus at 25.
-use Rattle.std.proofs.Common.{◌≡◌, refl, ℕ, zero, suc, List, [], ◌∷◌, map, Some, None}
-use Rattle.std.specs.Prelude.{codes, false, true}
+use Rattle.std.proofs.Common.{◌≡◌, ◌⊎◌, arith, refl, ℕ, zero, suc, List, [], ◌∷◌, inl, inr, map, Some, None}
+use Rattle.std.specs.Prelude.{codes, false, nat_le, true}
 use Rattle.std.specs.Fmt.{digits}
+use Rattle.std.specs.List.{Contains, filter, list_all}
+use Rattle.std.proofs.lemmas.Bool.Decides.{nat_tests}
 use Rattle.tomex_rvdec.specs.declared.pool.PoolId.TheVariants as pools
 use Rattle.tomex_rvdec.specs.declared.pool.UnitId.TheVariants as units
 use Rattle.tomex_config.specs.Configuration.{Configuration, plain_option}
 use Rattle.tomex_config.specs.Cost.{PriceList}
 use Rattle.tomex_config.specs.declared.config.UnitOption.{UnitOption}
-use Rattle.tomex_pareto.specs.Front.{rows_from}
+use Rattle.tomex_pareto.specs.Front.{front_of, rows_from}
 use Rattle.tomex_pareto.specs.declared.front_row.FrontRow.{FrontRow}
 use Rattle.tomex_study.specs.Cycles.{cycles_on}
 use Rattle.tomex_study.specs.Study.{DesignSpace, costs_of}
+use Rattle.tomex_timing.specs.Needs.{count_of}
 use Rattle.tomex_timing.specs.declared.part.Part.{Part}
 use Rattle.tomex_timing.specs.declared.part.Part.TheVariants.{Stations, Units, Buses, Width}
+use Rattle.tomex_worth.specs.Changes.{same_entry}
 use Rattle.tomex_worth.specs.Worth.{entry_text}
 use Rattle.tomex_choices.specs.Choices.{choices}
+use Rattle.tomex_choices.specs.Ends.{HasMoreAtEnd, IsAtEnd, IsBeyondEnds}
 use Rattle.tomex_choices.specs.Enough.{stays_from}
+use Rattle.tomex_choices.specs.Laws.{has_no_unwanted}
 use Rattle.tomex_choices.specs.NewMachines.{brought_by, greatest_units, lacking, least_price}
-use Rattle.tomex_choices.specs.Savings.{is_of_use, saving_among, thousandths}
+use Rattle.tomex_choices.specs.Points.{front_points}
+use Rattle.tomex_choices.specs.Savings.{complete, is_of_use, saving_among, thousandths}
 use Rattle.tomex_choices.specs.declared.new_machine.NewMachine.{NewMachine}
+use Rattle.tomex_choices.proofs.EnoughFrom.{all_at}
+use Rattle.tomex_choices.proofs.Passes.{has_from}
 
 abbrev option : ℕ → ℕ → ℕ → UnitOption
 option count latency price = record { units = count; latency = latency; price = price }
@@ -134,11 +143,80 @@ cheapest_saving = refl
 no_saving : saving_among all (machine 1 40 14 ∷ machine 2 90 8 ∷ []) ≡ None
 no_saving = refl
 
--- 25, 24, 25 and 25 cycles at widths 1 to 4: enough from 3 on
-abbrev rising : ℕ → ℕ
-rising (suc zero) = 25
-rising (suc (suc zero)) = 24
-rising n = 25
+-- with those that are of use the front has the same points as with all of them, each of them once
+few_points : front_points (complete all (filter (is_of_use all new) new))
+    ≡ (40, 14) ∷ (50, 13) ∷ (60, 11) ∷ (75, 10) ∷ (85, 8) ∷ (95, 7) ∷ (115, 5) ∷ []
+unfolding front_of
+few_points = refl
 
-settles : map (stays_from rising 4) (1 ∷ 2 ∷ 3 ∷ 4 ∷ []) ≡ false ∷ false ∷ true ∷ true ∷ []
+all_points : front_points (complete all new)
+    ≡ (40, 14) ∷ (50, 13) ∷ (60, 11) ∷ (75, 10) ∷ (85, 8) ∷ (85, 8) ∷ (95, 7) ∷ (95, 7) ∷ (95, 7) ∷ (115, 5) ∷ []
+unfolding front_of
+all_points = refl
+
+-- the rows that are left without four alu stations and without two buses
+abbrev unwanted : Part → List Configuration
+unwanted (Stations pools.Alu) = config 4 fast 1 ∷ []
+unwanted Buses = config 1 fast 2 ∷ []
+unwanted part = []
+
+left : filter (has_no_unwanted unwanted) rows
+    ≡ config 1 fast 1 ∷ config 1 slow 1 ∷ config 2 fast 1 ∷ config 2 slow 1 ∷ []
+left = refl
+
+-- more alu stations and buses than any row has, at once
+at_end : (part : Part) (most : ℕ) (c : Configuration) → list_all (λ d. nat_le (count_of d part) most) rows ≡ true
+    → count_of c part ≡ most → IsAtEnd study part c
+at_end part most c all is d row same =
+    let low : nat_le (count_of d part) most ≡ true =
+    all_at (λ d. nat_le (count_of d part) most) rows d all (has_from rows d row) in
+    grind (arith, nat_tests)
+
+abbrev two_parts : List Part
+two_parts = Stations pools.Alu ∷ Buses ∷ []
+
+entries : (part : Part) → (same_entry (config 16 fast 8) (config 4 fast 2) part ≡ true)
+    ⊎ Contains two_parts part × HasMoreAtEnd study part (config 4 fast 2) (config 16 fast 8)
+entries (Stations pools.Alu) =
+    inr (
+      (0, omega arith, refl),
+      record {
+        is_end = at_end (Stations pools.Alu) 4 (config 4 fast 2) refl refl;
+        more = omega arith;
+        latency = refl;
+        price = omega arith;
+      },
+    )
+entries (Stations pools.Mul) = inl refl
+entries (Stations pools.Div) = inl refl
+entries (Stations pools.Load) = inl refl
+entries (Stations pools.Store) = inl refl
+entries (Stations pools.Bru) = inl refl
+entries (Units units.Alu) = inl refl
+entries (Units units.Mul) = inl refl
+entries (Units units.Div) = inl refl
+entries (Units units.Mem) = inl refl
+entries (Units units.Bru) = inl refl
+entries Buses =
+    inr (
+      (1, omega arith, refl),
+      record {
+        is_end = at_end Buses 2 (config 4 fast 2) refl refl;
+        more = omega arith;
+        latency = refl;
+        price = omega arith;
+      },
+    )
+entries Width = inl refl
+
+beyond : IsBeyondEnds study two_parts (config 16 fast 8)
+beyond = record { row = config 4 fast 2; is_row = (9, omega arith, refl); entries = entries }
+
+-- 25, 24, 25 and 25 cycles at widths 1 to 4: enough from 3 on
+abbrev uneven : ℕ → ℕ
+uneven (suc zero) = 25
+uneven (suc (suc zero)) = 24
+uneven n = 25
+
+settles : map (stays_from uneven 4) (1 ∷ 2 ∷ 3 ∷ 4 ∷ []) ≡ false ∷ false ∷ true ∷ true ∷ []
 settles = refl

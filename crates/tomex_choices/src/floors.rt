@@ -24,9 +24,10 @@ pub(crate) struct KnownFloors {
     pub floors: [u64; 4],
 }
 
-/// A program, and what is known of its floors.
+/// A program, and its floors as far as they were asked for: they are computed once for each set of latencies of the
+/// kinds of units that it uses. Contracts see it as the program.
 #[derive(Drop)]
-struct Floored<'s, A: Allocator> {
+pub struct Floored<'s, A: Allocator> {
     program: &'s Program<A>,
     /// For each kind of unit whether the program uses it.
     uses: [bool; 5],
@@ -109,7 +110,7 @@ fn known_for(known: &[KnownFloors], latencies: [u8; 5]) -> Option<[u64; 4]>
 
 impl<'s, A: Allocator + Clone> Floored<'s, A> {
     /// A program, of whose floors nothing is known. Allocates nothing.
-    fn new(alloc: A, program: &'s Program<A>) -> Floored<'s, A>
+    pub fn new(alloc: A, program: &'s Program<A>) -> Floored<'s, A>
         ensures { result ≡ program.now }
     {
         Floored {
@@ -125,8 +126,16 @@ impl<'s, A: Allocator + Clone> Floored<'s, A> {
         }
     }
 
-    /// The program's floors for a configuration's latencies and the widths from 1 to 4.
-    fn floors_for(&mut self, alloc: &A, config: &Config) -> Result<[u64; 4], AllocError>
+    /// The program.
+    pub fn program(&self) -> &'s Program<A>
+        ensures { result.now ≡ self.now }
+    {
+        self.program
+    }
+
+    /// The program's floors, in cycles, for a configuration's latencies and the widths from 1 to 4. The first time that
+    /// such latencies are asked for, it is one walk over the run.
+    pub fn floors_for(&mut self, alloc: &A, config: &Config) -> Result<[u64; 4], AllocError>
         ensures program { self.new ≡ self.old }
         ensures floors { IfOk result (λ f. f ≡ floors_by_width (latency_of config.now) (steps_of self.old)) }
     {
@@ -178,7 +187,7 @@ fn floors_on<A: Allocator + Clone>(
 }
 
 /// The programs, of whose floors nothing is known.
-fn all_floored<'s, A: Allocator + Clone>(
+pub fn all_floored<'s, A: Allocator + Clone>(
     alloc: A,
     programs: &'s [Program<A>],
 ) -> Result<Vec<Floored<'s, A>, A>, AllocError>

@@ -28,7 +28,7 @@ pub fn additions_are_all_that_is_needed()
 {}
 
 /// No choice is worth adding to a list exactly if, however the list is made longer or finer, for each machine that the
-/// study has then some row costs no more and takes no more cycles. All choices that it lacks together save nothing then.
+/// study has then some row costs no more and takes no more cycles. Then all choices that it lacks save nothing.
 pub fn nothing_to_add_is_covered()
     ensures covered { NothingToAddIsCovered }
     ensures nothing { CoveredIsNothingToAdd }

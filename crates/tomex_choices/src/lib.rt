@@ -18,7 +18,7 @@ mod weighing;
 
 pub use choices::{front_choices, unused};
 pub use counts::{latency_in, most_of};
-pub use floors::{Floors, fastest, floors_of};
+pub use floors::{Floored, Floors, all_floored, fastest, floors_of};
 pub use laws::{
     additions_are_all_that_is_needed, complete_lists_are_complete, covered_machines_add_no_points,
     floor_bounds_machines_of_all_sizes, longer_lists_at_once_add_nothing,

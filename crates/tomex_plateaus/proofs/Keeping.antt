@@ -11,12 +11,12 @@ use Rattle.tomex_plateaus.specs.declared.plateaus.TheConstants.{MOST}
 use Rattle.tomex_plateaus.specs.Plateaus.{IsPlateauOf}
 
 pub one_more : (steps : List Step) (found all : List Plateau) (oldest : ℕ) (p : Plateau)
-    → AreKept (record { steps = steps; found = found; oldest = oldest }) → IsPlateauOf steps p → length found < 2048
+    → AreKept (record { steps = steps; found = found; oldest = oldest }) → IsPlateauOf steps p → length found < 8192
     → all ≡ found ++ p ∷ []
     → AreKept (record { steps = steps; found = all; oldest = oldest })
 one_more steps found all oldest p kept one low is =
     let long = length_push found p in
-    let few : length (found ++ p ∷ []) ≤ 2048 = omega arith in
+    let few : length (found ++ p ∷ []) ≤ 8192 = omega arith in
     record {
       short = kept.short;
       are = rw is (All-push (IsPlateauOf steps) found p kept.are one);
@@ -26,14 +26,14 @@ one_more steps found all oldest p kept one low is =
 
 pub another_one : (steps : List Step) (found : List Plateau) (oldest : ℕ) (p : Plateau)
     → AreKept (record { steps = steps; found = found; oldest = oldest }) → IsPlateauOf steps p
-    → AreKept (record { steps = steps; found = set found oldest p; oldest = (oldest + 1) % 2048 })
+    → AreKept (record { steps = steps; found = set found oldest p; oldest = (oldest + 1) % 8192 })
 another_one steps found oldest p kept one =
-    let few : length found ≤ 2048 = kept.few in
+    let few : length found ≤ 8192 = kept.few in
     record {
       short = kept.short;
       are = All-set (IsPlateauOf steps) found oldest p one kept.are;
       few = rw length-set few;
-      place = (let l : (oldest + 1) % 2048 < 2048 = omega arith in l);
+      place = (let l : (oldest + 1) % 8192 < 8192 = omega arith in l);
     }
 
 -- the list with one more plateau, before it is full and after

@@ -14,7 +14,7 @@ use tomex_config::Config;
 use tomex_timing::Run;
 
 /// The most plateaus that are kept.
-const MOST: usize = 2048;
+const MOST: usize = 8192;
 
 /// Plateaus of a program, from the demands of its runs.
 #[derive(Drop)]
@@ -24,8 +24,8 @@ pub struct Plateaus<'s, A: Allocator> {
     found: Vec<Plateau, A>,
     /// The place of the oldest, once the list is full.
     oldest: usize,
-    /// Where a search begins: the place of the plateau that was found or kept last. Neighbours often lie on one plateau.
-    /// It changes only how long a search takes.
+    /// Where a search begins: the place of the plateau that was found or kept last. Neighbours often lie on one
+    /// plateau. It changes only how long a search takes.
     latest: Cell<usize>,
 }
 

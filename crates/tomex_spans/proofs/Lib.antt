@@ -9,3 +9,4 @@ pub mod NewCosts
 pub mod Parts
 pub mod Factors
 pub mod Shares
+pub mod Settled

@@ -62,5 +62,12 @@ narrowed r s j =
 abbrev pub span : ℕ → ℕ → LineRow → List LineRow → ValueSpan
 span least limit r rows = fold (narrowed r) (record { first = least; end = suc limit }) rows
 
+-- a span without values, and one for all of those
+abbrev pub no_values : ValueSpan
+no_values = record { first = 0; end = 0 }
+
+abbrev pub settled : ValueSpan → ValueSpan
+settled s = if nat_lt s.first s.end then s else no_values
+
 abbrev pub holds : ValueSpan → ℕ → Bool
 holds s q = nat_le s.first q && nat_lt q s.end

@@ -11,4 +11,4 @@ mod spans;
 pub use laws::{rows_are_on_the_front_within_their_spans, rows_stay_within_their_spans};
 pub use line_row::LineRow;
 pub use percents::percent_by;
-pub use spans::{ValueSpan, span};
+pub use spans::{ValueSpan, settled_span, span};

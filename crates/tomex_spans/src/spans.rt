@@ -1,8 +1,8 @@
 //! The values at which no row dominates a given one.
 
 ghost use Rattle.std.specs.Prelude.{◌≡◌, ℕ, ◌&&◌, ◌<◌, ◌^◌, nat_le, suc, All};
-ghost use Rattle.tomex_spans.specs.Spans.{HasRoom, end_left, first_left, holds, narrowed, need, span};
-ghost use Rattle.tomex_spans.specs.Spans.{stays};
+ghost use Rattle.tomex_spans.specs.Spans.{HasRoom, end_left, first_left, holds, narrowed, need, no_values};
+ghost use Rattle.tomex_spans.specs.Spans.{settled, span, stays};
 
 use crate::line_row::LineRow;
 
@@ -83,4 +83,44 @@ pub fn span(least: u64, limit: u64, row: LineRow, rows: &[LineRow]) -> ValueSpan
         span = narrowed(row, span, *rival);
     }
     span
+}
+
+/// A span without values.
+fn no_values() -> ValueSpan
+    ensures { result ≡ no_values }
+{
+    ValueSpan { first: 0, end: 0 }
+}
+
+/// A span, or the one for all that have no values.
+fn settled(span: ValueSpan) -> ValueSpan
+    ensures { result ≡ settled span }
+{
+    if span.first < span.end {
+        span
+    } else {
+        no_values()
+    }
+}
+
+/// The same values. If there are none, both ends are 0, and the rows after those that leave none aren't looked at: of
+/// many rows most are soon found to be dominated at each value.
+pub fn settled_span(least: u64, limit: u64, row: LineRow, rows: &[LineRow]) -> ValueSpan
+    requires limit { suc limit < 2 ^ 64 }
+    requires row { HasRoom row }
+    requires rows { All HasRoom rows.now }
+    ensures span { result ≡ settled (span least limit row rows.now) }
+    ensures exact { (q : ℕ) → holds result q ≡ (nat_le least q && nat_le q limit && stays q rows.now row) }
+{
+    let mut span = ValueSpan {
+        first: least,
+        end: limit + 1,
+    };
+    for rival in rows {
+        if span.end <= span.first {
+            return no_values();
+        }
+        span = narrowed(row, span, *rival);
+    }
+    settled(span)
 }

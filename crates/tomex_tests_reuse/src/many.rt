@@ -8,16 +8,28 @@ use std::thread::Threads;
 use tomex_config::{Config, Prices};
 use tomex_image::{Window, load};
 use tomex_sweep::{FrontRow, Gate, OpenGate, Program, Study, explore, run_all};
-use tomex_tests_fixtures::machines::one_unit_each;
+use tomex_tests_fixtures::machines::{config_of, unit};
 
 /// `addi x1,x0,2; addi x1,x1,-1; bne x1,x0,-4; ebreak`: five steps, which use the alu and the branch unit.
 const TWICE: [u8; 16] = [
     0x93, 0x00, 0x20, 0x00, 0x93, 0x80, 0xf0, 0xff, 0xe3, 0x9e, 0x00, 0xfe, 0x73, 0x00, 0x10, 0x00,
 ];
 
-/// A row with an alu and a branch unit of these latencies.
-fn config_with(alu: u8, bru: u8) -> Result<Config, Fail> {
-    one_unit_each([1; 6], [alu, 1, 1, 1, bru], 1)
+/// How many instructions issue in a cycle, and how many stations the alu has: three machines on which the program waits
+/// for different parts, whatever the latencies are.
+static WIDTHS_AND_STATIONS: [(u8, u8); 3] = [(1, 1), (1, 2), (2, 2)];
+
+/// The row of a number below 12,288. It has an alu and a branch unit, whose latencies differ from row to row.
+fn row_of(number: u32) -> Result<Config, Fail> {
+    let latencies = [
+        (number % 64) as u8 + 1,
+        1,
+        1,
+        1,
+        (number / 64 % 64) as u8 + 1,
+    ];
+    let (width, stations) = WIDTHS_AND_STATIONS[(number / 4096 % 3) as usize];
+    config_of([stations, 1, 1, 1, 1, 1], latencies.map(unit), 1, width)
 }
 
 /// The study of the short loop on rows.
@@ -34,10 +46,10 @@ fn study_on(alloc: Global, rows: Vec<Config>) -> Result<Study, Fail> {
 }
 
 /// Rows on which the program takes different cycles, each from another plateau.
-fn latencies(alloc: Global, count: u32) -> Result<Vec<Config>, Fail> {
+fn distinct_rows(alloc: Global, count: u32) -> Result<Vec<Config>, Fail> {
     let mut rows = Vec::new(alloc);
     for number in 0..count {
-        rows.push(config_with((number % 64) as u8 + 1, (number / 64 % 64) as u8 + 1)?)?;
+        rows.push(row_of(number)?)?;
     }
     Ok(rows)
 }
@@ -64,20 +76,20 @@ fn counted<R: AllocGlobal + Threads + Wait + Sync>(
     Ok((gate.0.load(Ordering::SeqCst), front))
 }
 
-/// Rows again, after 2,054 others, and the evaluations that they need: the plateaus of the first
+/// Rows again, after 8,198 others, and the evaluations that they need: the plateaus of the first
 /// six were replaced, those of these two were not.
-static AGAIN: [(u32, u64); 4] = [(0, 1), (5, 1), (6, 0), (2053, 0)];
+static AGAIN: [(u32, u64); 4] = [(0, 1), (5, 1), (6, 0), (8197, 0)];
 
-/// The oldest plateau is replaced if there are more than 2,048; it is learnt again if its row comes
+/// The oldest plateau is replaced if there are more than 8,192; it is learnt again if its row comes
 /// again.
 #[test]
 fn the_oldest_plateau_goes_first(rt: HostRuntime) -> Result<(), Fail> {
     for (number, more) in &AGAIN {
-        let mut rows = latencies(rt.alloc(), 2054)?;
-        rows.push(config_with((*number % 64) as u8 + 1, (*number / 64 % 64) as u8 + 1)?)?;
+        let mut rows = distinct_rows(rt.alloc(), 8198)?;
+        rows.push(row_of(*number)?)?;
         let study = study_on(rt.alloc(), rows)?;
         let (runs, front) = counted(&rt, &study)?;
-        assert!(rt; runs == 2054 + *more);
+        assert!(rt; runs == 8198 + *more);
         assert!(rt; front.as_slice() == run_all(rt.alloc(), &study)?.front.as_slice());
     }
     Ok(())
@@ -93,7 +105,7 @@ fn is_of_each_128th(front: &[FrontRow]) -> bool {
 fn a_study_has_as_many_rows_as_it_may(rt: HostRuntime) -> Result<(), Fail> {
     let mut rows = Vec::new(rt.alloc());
     for number in 0..16_384u32 {
-        rows.push(config_with((number % 64) as u8 + 1, (number / 64 % 2) as u8 + 1)?)?;
+        rows.push(row_of(number % 128)?)?;
     }
     let study = study_on(rt.alloc(), rows)?;
     let front = explore(&rt, rt.alloc(), &study, 3, &OpenGate)?.front;

@@ -6,8 +6,9 @@ use Rattle.std.proofs.lemmas.Bool.{and_from, and_parts, cases_Bool, cases_lt, le
 use Rattle.std.proofs.lemmas.Bool.{false≢true, or_left, or_right}
 use Rattle.tomex_pareto.specs.Front.{is_on}
 use Rattle.tomex_pareto.specs.declared.front_row.FrontRow.{FrontRow}
-use Rattle.tomex_spans.specs.Spans.{holds, stays}
+use Rattle.tomex_spans.specs.Spans.{holds, span, stays}
 use Rattle.tomex_spans.proofs.AllRivals.{stay_within}
+use Rattle.tomex_spans.proofs.Settled.{settled_holds}
 use Rattle.tomex_study.specs.Study.{DesignSpace, IsStudy}
 use Rattle.tomex_study.specs.StudyFront.{all_rows, front_of_study}
 use Rattle.tomex_weights.specs.declared.spans.TheConstants.{GREATEST_WEIGHT}
@@ -91,13 +92,15 @@ lists_all s r is one comes =
 comes_at_first : (s : DesignSpace) (place : ℕ) (r : FrontRow) → IsStudy s → place < length s.programs
     → Contains (all_rows s) r → has_weights (span_of s place r) ≡ true → ComesToFront s r
 comes_at_first s place r is low one some =
-    let span = span_of s place r in
-    let q = span.first in
+    let weights = span_of s place r in
+    let q = weights.first in
     let rows = rows_by_weight s place in
     let own = by_weight s place r in
-    let held : holds span q ≡ true = and_from (nat_le q q) (nat_lt q span.end) (le-leb q q (omega arith)) some in
+    let held : holds weights q ≡ true =
+    and_from (nat_le q q) (nat_lt q weights.end) (le-leb q q (omega arith)) some in
+    let whole = span 1 GREATEST_WEIGHT own rows in
     let all = and_parts (nat_le 1 q && nat_le q GREATEST_WEIGHT) (stays q rows own)
-    (sym (stay_within 1 GREATEST_WEIGHT q rows own) ∙ held) in
+    (sym (stay_within 1 GREATEST_WEIGHT q rows own) ∙ (sym (settled_holds whole q) ∙ held)) in
     let two = and_parts (nat_le 1 q) (nat_le q GREATEST_WEIGHT) all.0 in
     let above = leb-true 1 q two.0 in
     let below = leb-true q GREATEST_WEIGHT two.1 in

@@ -1,5 +1,5 @@
 -- The weight of a program that takes equally many cycles on all rows changes no span.
-use Rattle.std.proofs.Common.{◌≡◌, ◌∙◌, ◌<◌, ◌*◌, ◌==◌, ℕ, suc, arith, ap, inl, inr, not, refl, subst, sym, true}
+use Rattle.std.proofs.Common.{◌≡◌, ◌∙◌, ◌<◌, ◌*◌, ◌==◌, ℕ, suc, arith, ap, inl, inr, not, refl, subst, sym}
 use Rattle.std.proofs.Common.{false, List, [], ◌∷◌, map}
 use Rattle.std.specs.List.{AllByRecursion, Contains, list_any}
 use Rattle.std.proofs.lemmas.Bool.{cases_Bool, eqb-true, or_parts, true≢false}
@@ -7,9 +7,9 @@ use Rattle.tomex_pareto.specs.declared.front_row.FrontRow.{FrontRow}
 use Rattle.tomex_pareto.proofs.Pareto.{Has, among}
 use Rattle.tomex_spans.specs.declared.line_row.LineRow.{LineRow}
 use Rattle.tomex_spans.specs.declared.spans.ValueSpan.{ValueSpan}
-use Rattle.tomex_spans.specs.Spans.{stays}
-use Rattle.tomex_spans.proofs.Ends.{some_end, stays_is}
+use Rattle.tomex_spans.specs.Spans.{span}
 use Rattle.tomex_spans.proofs.EqualTimes.{IsAllOrNone, all_or_none}
+use Rattle.tomex_spans.proofs.Settled.{held_some, settled_if_some}
 use Rattle.tomex_study.specs.Study.{DesignSpace}
 use Rattle.tomex_study.specs.StudyFront.{all_rows}
 use Rattle.tomex_weights.specs.declared.spans.TheConstants.{GREATEST_WEIGHT}
@@ -17,7 +17,7 @@ use Rattle.tomex_weights.specs.Laws.{HoldsAllIfIrrelevant}
 use Rattle.tomex_weights.specs.Programs.{is_relevant}
 use Rattle.tomex_weights.specs.Reweighted.{own_cycles, weight_at}
 use Rattle.tomex_weights.specs.Spans.{by_weight, rows_by_weight, span_of}
-use Rattle.tomex_weights.proofs.Whole.{holds_stated, weight_range}
+use Rattle.tomex_weights.proofs.Whole.{holds_stated}
 
 not_other : (n t : ℕ) → not (n == t) ≡ false → n ≡ t
 not_other n t e = elim (cases_Bool (n == t)) [
@@ -62,17 +62,15 @@ whole_if_some s place r one fails some =
     let first = own_cycles s place 0 in
     let same = all_same s place fails in
     let times : own.times ≡ first = own_same s place first (all_rows s) r (among (all_rows s) r one) same in
-    whole_span (span_of s place r)
+    let whole = span 1 GREATEST_WEIGHT own rows in
+    let is = settled_if_some whole some in
+    is
+    ∙ whole_span whole
     (all_or_none own rows (record { first = 1; end = suc GREATEST_WEIGHT })
-    (subst (λ (n : ℕ). AllByRecursion (λ (j : LineRow). j.times ≡ n) rows) (sym times) same)) some
+    (subst (λ (n : ℕ). AllByRecursion (λ (j : LineRow). j.times ≡ n) rows) (sym times) same))
+    (subst (λ (s : ValueSpan). 0 < s.end) is some)
 
 pub holds_all : HoldsAllIfIrrelevant
 holds_all s place r is low one on fails =
-    let rows = rows_by_weight s place in
-    let own = by_weight s place r in
-    let range = weight_range s place is low in
     let now = 100 * weight_at s place in
-    let here : stays now rows own ≡ true =
-    sym (stays_is 1 GREATEST_WEIGHT now rows own (omega (arith, range.0)) (omega (arith, range.1)))
-    ∙ (holds_stated s place r is low one ∙ on) in
-    whole_if_some s place r one fails (some_end 1 GREATEST_WEIGHT now rows own (omega (arith, range.0)) here)
+    whole_if_some s place r one fails (held_some (span_of s place r) now (holds_stated s place r is low one ∙ on))

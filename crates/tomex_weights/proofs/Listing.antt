@@ -13,7 +13,8 @@ use Rattle.tomex_study.specs.Cycles.{cycles_of}
 use Rattle.tomex_study.specs.Study.{DesignSpace, IsStudy}
 use Rattle.tomex_study.specs.StudyFront.{all_rows}
 use Rattle.tomex_study.proofs.Rows.{row_there, rows_long}
-use Rattle.tomex_weights.specs.Listed.{ProgramSpans, all_spans_of, has_weights, is_listed, no_span, spans_by}
+use Rattle.tomex_spans.specs.Spans.{no_values}
+use Rattle.tomex_weights.specs.Listed.{ProgramSpans, all_spans_of, has_weights, is_listed, spans_by}
 use Rattle.tomex_weights.specs.Programs.{relevant_programs_of}
 use Rattle.tomex_weights.specs.Spans.{span_of}
 
@@ -42,16 +43,16 @@ module _ (s : DesignSpace) (r : FrontRow) (is : IsStudy s) (one : Contains (all_
       (λ k d within. rw (length-map (all_rows s) (span_of s (get_or (relevant_programs_of s) k d))) low)
 
   same_spans : (places : List ℕ)
-      → list_any (λ (c : ProgramSpans). has_weights (get_or c.spans r.row no_span)) (map (spans_by s) places)
+      → list_any (λ (c : ProgramSpans). has_weights (get_or c.spans r.row no_values)) (map (spans_by s) places)
       ≡ list_any (λ place. has_weights (span_of s place r)) places
   same_spans [] = refl
   same_spans (place ∷ rest) =
       let there = at_number s r is one in
-      let own = get_or-map (span_of s place) (all_rows s) r.row r no_span there.low
+      let own = get_or-map (span_of s place) (all_rows s) r.row r no_values there.low
       ∙ ap (span_of s place) there.at in
       ap₂ ◌||◌ (ap has_weights own) (same_spans rest)
 
-  pub comes_is : list_any (λ (c : ProgramSpans). has_weights (get_or c.spans r.row no_span)) (all_spans_of s)
+  pub comes_is : list_any (λ (c : ProgramSpans). has_weights (get_or c.spans r.row no_values)) (all_spans_of s)
       ≡ list_any (λ place. has_weights (span_of s place r)) (relevant_programs_of s)
   unfolding all_spans_of
   comes_is = same_spans (relevant_programs_of s)

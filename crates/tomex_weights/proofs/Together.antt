@@ -1,5 +1,5 @@
 -- Weights that move together, each by a share of the way to an end of its span.
-use Rattle.std.proofs.Common.{◌≡◌, ◌∙◌, ◌+◌, ◌-◌, ◌*◌, ◌<◌, ◌≤◌, ℕ, suc, ap, arith, refl, sym, true}
+use Rattle.std.proofs.Common.{◌≡◌, ◌∙◌, ◌+◌, ◌-◌, ◌*◌, ◌<◌, ◌≤◌, ℕ, suc, ap, arith, refl, subst, sym, true}
 use Rattle.std.proofs.Common.{List, [], ◌∷◌, get_or, length, map}
 use Rattle.std.specs.Prelude.{sum_by}
 use Rattle.std.specs.List.{Contains, range_with_len}
@@ -11,11 +11,13 @@ use Rattle.tomex_config.specs.Configuration.{Configuration, plain}
 use Rattle.tomex_pareto.specs.Front.{front_of, is_on, rows_from}
 use Rattle.tomex_pareto.specs.declared.front_row.FrontRow.{FrontRow}
 use Rattle.tomex_pareto.proofs.OnFront.{on_front}
-use Rattle.tomex_pareto.proofs.Pareto.{Has, free_undominated, has_contains}
+use Rattle.tomex_pareto.proofs.Pareto.{free_undominated, has_contains}
 use Rattle.tomex_pareto.proofs.Rows.{rows_apart}
+use Rattle.tomex_spans.specs.declared.spans.ValueSpan.{ValueSpan}
 use Rattle.tomex_spans.specs.Spans.{measure_at, span, stays, swapped}
 use Rattle.tomex_spans.proofs.Ends.{some_end, stays_is}
 use Rattle.tomex_spans.proofs.NewCosts.{free_keeps, on_costed, premium}
+use Rattle.tomex_spans.proofs.Settled.{settled_holds, settled_some}
 use Rattle.tomex_spans.proofs.Shares.{Counts, DoCount, one_counts, slack, stays_less}
 use Rattle.tomex_spans.proofs.Swapped.{free_swapped, swapped_back}
 use Rattle.tomex_timing.specs.Run.{total}
@@ -165,13 +167,16 @@ module _ (s : DesignSpace) (weights : Weights) (shares : ℕ → ℕ) (whole : �
       let rows = rows_by_weight s place in
       let range = weight_range s place is low in
       let above : 1 ≤ now = omega (arith, range.0) in
+      let all = span 1 GREATEST_WEIGHT line rows in
+      let held = sym (settled_holds all now) ∙ (holds_stated s place r is low one ∙ is_on_stated) in
       let here : stays now rows line ≡ true = sym (stays_is 1 GREATEST_WEIGHT now rows line above
-      (omega (arith, range.1))) ∙ (holds_stated s place r is low one ∙ is_on_stated) in
+      (omega (arith, range.1))) ∙ held in
       let some = some_end 1 GREATEST_WEIGHT now rows line above here in
-      let last : suc ((span_of s place r).end - 1) ≡ (span_of s place r).end = omega (arith, some) in
-      rw (slack_is place low) at (one_counts 1 GREATEST_WEIGHT now ((span_of s place r).end - 1) line
-      (by_weight s place j) rows above here last (line_there s place j there) cheap (weights place) whole (shares place)
-      moves.up moves.down)
+      let last : suc (all.end - 1) ≡ all.end = omega (arith, some) in
+      let way = subst (λ (span : ValueSpan). IsShareOfWay span now (weights place) (shares place) whole)
+      (settled_some all now held) moves in
+      rw (slack_is place low) at (one_counts 1 GREATEST_WEIGHT now (all.end - 1) line (by_weight s place j) rows above
+      here last (line_there s place j there) cheap (weights place) whole (shares place) way.up way.down)
     where
       slack_is : (place : ℕ) → place < length s.programs
           → slack (stated_weights s place) (by_weight s place r) (by_weight s place j) ≡ gap

@@ -7,8 +7,10 @@ use Rattle.tomex_pareto.proofs.OnFront.{contains_map, distinct_map}
 use Rattle.tomex_pareto.proofs.Rows.{rows_numbered}
 use Rattle.tomex_spans.specs.Laws.{HaveNumbers}
 use Rattle.tomex_spans.specs.declared.line_row.LineRow.{LineRow}
+use Rattle.tomex_spans.specs.Spans.{span}
 use Rattle.tomex_spans.proofs.AllRivals.{are_on_front_within}
 use Rattle.tomex_spans.proofs.Ends.{in_range}
+use Rattle.tomex_spans.proofs.Settled.{settled_holds}
 use Rattle.tomex_study.specs.Cycles.{cycles_of}
 use Rattle.tomex_study.specs.Study.{DesignSpace}
 use Rattle.tomex_study.specs.StudyFront.{all_rows, front_of_study}
@@ -33,4 +35,5 @@ on_within s place q r is low above below one =
     let on = are_on_front_within 1 GREATEST_WEIGHT q rows (by_weight s place r) (lines_numbered s place)
     (line_there s place r one) in
     ap (λ (all : List FrontRow). is_on (front_of all) r.row) (rows_reweighted s place q low)
-    ∙ sym (on.cycles ∙ in_range 1 GREATEST_WEIGHT q _ above below)
+    ∙ sym (settled_holds (span 1 GREATEST_WEIGHT (by_weight s place r) rows) q
+    ∙ (on.cycles ∙ in_range 1 GREATEST_WEIGHT q _ above below))

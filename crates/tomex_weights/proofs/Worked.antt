@@ -10,7 +10,7 @@ use Rattle.tomex_pareto.specs.Front.{by_cost, front_of, is_on}
 use Rattle.tomex_pareto.specs.declared.front_row.FrontRow.{FrontRow}
 use Rattle.tomex_row_columns.specs.RowColumns.{column_of, heading_column, percent_text, row_columns}
 use Rattle.tomex_spans.specs.Percent.{least_of, percent_by}
-use Rattle.tomex_spans.specs.Spans.{span, swapped}
+use Rattle.tomex_spans.specs.Spans.{settled, span, swapped}
 use Rattle.tomex_spans.specs.declared.line_row.LineRow.{LineRow}
 use Rattle.tomex_spans.specs.declared.spans.ValueSpan.{ValueSpan}
 use Rattle.tomex_tables.specs.Table.{TableColumn, aligned_in, spaced_in, table_line, table_of, width_of}
@@ -46,10 +46,10 @@ abbrev by_matrix : Machine → LineRow
 by_matrix m = record { row = m.row; rest = 100 * m.primes; times = m.matrix; other = m.cost }
 
 abbrev primes_span : Machine → ValueSpan
-primes_span m = span 1 GREATEST_WEIGHT (by_primes m) (map by_primes machines)
+primes_span m = settled (span 1 GREATEST_WEIGHT (by_primes m) (map by_primes machines))
 
 abbrev matrix_span : Machine → ValueSpan
-matrix_span m = span 1 GREATEST_WEIGHT (by_matrix m) (map by_matrix machines)
+matrix_span m = settled (span 1 GREATEST_WEIGHT (by_matrix m) (map by_matrix machines))
 
 abbrev is_on_front : Machine → Bool
 is_on_front m = is_on (front_of (map row_of machines)) m.row

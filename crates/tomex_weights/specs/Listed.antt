@@ -38,7 +38,3 @@ pub record IsOfProgram (s : DesignSpace) (p : ProgramSpans) : Type 0 where
 -- and those of each relevant program
 unfoldable pub all_spans_of : DesignSpace → List ProgramSpans
 all_spans_of s = map (spans_by s) (relevant_programs_of s)
-
--- a place without a span
-abbrev pub no_span : ValueSpan
-no_span = record { first = 0; end = 0 }

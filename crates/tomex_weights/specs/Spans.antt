@@ -3,7 +3,7 @@ use Rattle.std.specs.Prelude.{ℕ, ◌-◌, ◌*◌, List, map}
 use Rattle.tomex_pareto.specs.declared.front_row.FrontRow.{FrontRow}
 use Rattle.tomex_spans.specs.declared.line_row.LineRow.{LineRow}
 use Rattle.tomex_spans.specs.declared.spans.ValueSpan.{ValueSpan}
-use Rattle.tomex_spans.specs.Spans.{span}
+use Rattle.tomex_spans.specs.Spans.{settled, span}
 use Rattle.tomex_study.specs.Study.{DesignSpace}
 use Rattle.tomex_study.specs.StudyFront.{all_rows}
 use Rattle.tomex_weights.specs.declared.spans.TheConstants.{GREATEST_WEIGHT}
@@ -24,4 +24,4 @@ rows_by_weight s place = map (by_weight s place) (all_rows s)
 
 -- the weights, from 0.01 to 1000.00, for which a row is on the front; it may be on the front as stated or not
 abbrev pub span_of : DesignSpace → ℕ → FrontRow → ValueSpan
-span_of s place r = span 1 GREATEST_WEIGHT (by_weight s place r) (rows_by_weight s place)
+span_of s place r = settled (span 1 GREATEST_WEIGHT (by_weight s place r) (rows_by_weight s place))

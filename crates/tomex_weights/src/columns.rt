@@ -1,7 +1,8 @@
 //! The spans of all rows, for each program on whose weight the front may depend.
 
 ghost use Rattle.std.specs.Prelude.{◌≡◌, ◌<◌, length, map, slice_index_or, All, IfOk};
-ghost use Rattle.tomex_weights.specs.Listed.{all_spans_of, no_span, spans_by};
+ghost use Rattle.tomex_spans.specs.Spans.{no_values};
+ghost use Rattle.tomex_weights.specs.Listed.{all_spans_of, spans_by};
 
 use crate::line_rows::rows_by_weight;
 use crate::programs::relevant_programs;
@@ -30,7 +31,7 @@ impl WeightColumn {
     /// The span of the row of this number.
     pub(crate) fn at(&self, row: usize) -> ValueSpan
         requires { row < length self.now.spans }
-        ensures { result ≡ slice_index_or self.now.spans row no_span }
+        ensures { result ≡ slice_index_or self.now.spans row no_values }
     {
         self.spans[row]
     }

@@ -3,8 +3,9 @@
 ghost use Rattle.std.specs.Prelude.{◌≡◌, ◌<◌, length, slice_index_or, All, IfOk};
 ghost use Rattle.std.specs.List.{filter, list_any, Contains};
 ghost use Rattle.tomex_pareto.specs.Front.{is_on};
+ghost use Rattle.tomex_spans.specs.Spans.{no_values};
 ghost use Rattle.tomex_study.specs.StudyFront.{all_rows};
-ghost use Rattle.tomex_weights.specs.Listed.{all_spans_of, has_weights, is_listed, listed_rows_of, no_span};
+ghost use Rattle.tomex_weights.specs.Listed.{all_spans_of, has_weights, is_listed, listed_rows_of};
 
 use crate::columns::WeightColumn;
 use std::alloc::{AllocError, Allocator};
@@ -22,7 +23,7 @@ pub(crate) fn has_weights(span: ValueSpan) -> bool
 /// True if a row is on the front for some weight of one of these programs.
 fn comes_by_weights(columns: &[WeightColumn], row: usize) -> bool
     requires { All (λ c. row < length c.spans) columns.now }
-    ensures { result ≡ list_any (λ c. has_weights (slice_index_or c.spans row no_span)) columns.now }
+    ensures { result ≡ list_any (λ c. has_weights (slice_index_or c.spans row no_values)) columns.now }
 {
     for column in columns {
         if has_weights(column.at(row)) {

@@ -11,14 +11,15 @@ ghost use Rattle.tomex_weights.specs.Spans.{rows_by_weight, span_of};
 use crate::line_rows::by_weight;
 use std::alloc::Allocator;
 use tomex_pareto::FrontRow;
-use tomex_spans::{LineRow, ValueSpan, span};
+use tomex_spans::{LineRow, ValueSpan, settled_span};
 use tomex_study::Surveyed;
 
 /// The greatest weight that is tried, in hundredths: the greatest one that a study may state.
 pub const GREATEST_WEIGHT: u64 = 100_000;
 
 /// The weights of the program at a place, in hundredths, and no others, for which a row is on the front, all other
-/// weights as stated. It may be on the front as stated or not. `rows` are all rows of the study by that weight.
+/// weights as stated; both ends are 0 if there are none. It may be on the front as stated or not. `rows` are all rows of
+/// the study by that weight.
 pub fn span_of<A: Allocator>(
     surveyed: &Surveyed<'_, A>,
     place: usize,
@@ -34,5 +35,5 @@ pub fn span_of<A: Allocator>(
         → is_on (front_of_study (reweighted surveyed.now place q)) row.row ≡ holds result q }
 {
     surveyed.keeps_limits();
-    span(1, GREATEST_WEIGHT, by_weight(surveyed, place, row), rows)
+    settled_span(1, GREATEST_WEIGHT, by_weight(surveyed, place, row), rows)
 }

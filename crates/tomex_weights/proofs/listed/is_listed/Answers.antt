@@ -5,7 +5,8 @@ use Rattle.std.proofs.lemmas.Bool.{or_left}
 use Rattle.tomex_pareto.specs.Front.{is_on}
 use Rattle.tomex_pareto.specs.declared.front_row.FrontRow.{FrontRow}
 use Rattle.tomex_study.specs.StudyFront.{front_of_study}
-use Rattle.tomex_weights.specs.Listed.{ProgramSpans, has_weights, is_listed, no_span}
+use Rattle.tomex_spans.specs.Spans.{no_values}
+use Rattle.tomex_weights.specs.Listed.{ProgramSpans, has_weights, is_listed}
 use Rattle.tomex_weights.specs.Programs.{relevant_programs_of}
 use Rattle.tomex_weights.specs.Spans.{span_of}
 use Rattle.tomex_weights.proofs.Listing.{comes_is, spans_long}
@@ -34,7 +35,7 @@ returns-else-is_on g c =
     sym (c.is_on.ensures ∙ ap (λ (front : List FrontRow). is_on front c.args.row.row) c.front.ensures.value)
     ∙ c.if-is_on.false in
     c.comes_by_weights.ensures
-    ∙ (ap (list_any (λ (p : ProgramSpans). has_weights (get_or p.spans c.args.row.row no_span))) c.requires.columns
+    ∙ (ap (list_any (λ (p : ProgramSpans). has_weights (get_or p.spans c.args.row.row no_values))) c.requires.columns
     ∙ (comes_is s c.args.row c.keeps_limits.ensures c.requires.row
     ∙ sym (ap (λ (b : Bool).
     b || list_any (λ place. has_weights (span_of s place c.args.row)) (relevant_programs_of s)) off)))

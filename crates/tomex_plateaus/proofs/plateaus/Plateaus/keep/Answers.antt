@@ -5,13 +5,13 @@ use Rattle.tomex_plateaus.proofs.plateaus.Plateaus.keep.Goals as goal
 
 pub invariant_of-self-then-len-lt-MOST : goal.invariant_of-self-then-len-lt-MOST
 invariant_of-self-then-len-lt-MOST g c =
-    let low : length c.self.inside.found.items < 2048 = omega arith in
+    let low : length c.self.inside.found.items < 8192 = omega arith in
     one_more _ _ _ _ c.args.plateau c.self.invariant (rw (← c.self.view_is) at c.requires) low
     c.in_ok-push.ensures.items
 
 pub returns-then-len-lt-MOST-clause-kept : goal.returns-then-len-lt-MOST-clause-kept
 returns-then-len-lt-MOST-clause-kept g c =
-    let low : length c.self.inside.found.items < 2048 = omega arith in
+    let low : length c.self.inside.found.items < 8192 = omega arith in
     one_more _ _ _ _ c.args.plateau c.self.invariant (rw (← c.self.view_is) at c.requires) low
     c.in_ok-push.ensures.items
 
