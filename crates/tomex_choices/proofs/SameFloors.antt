@@ -11,7 +11,7 @@ use Rattle.tomex_rvdec.specs.declared.pool.UnitId.{UnitId}
 use Rattle.tomex_rvdec.specs.declared.pool.UnitId.TheVariants as units
 use Rattle.tomex_steps.specs.Steps.{step_unit}
 use Rattle.tomex_steps.specs.declared.step.Step.{Step}
-use Rattle.tomex_config.specs.Configuration.{Configuration, IsWithinLimits, with_width}
+use Rattle.tomex_config.specs.Configuration.{Configuration, IsWithinLimits, is_between, with_width}
 use Rattle.tomex_floor.specs.Floor.{floor_address, floor_from, floor_issue, floor_of, floor_times, floors_by_width}
 use Rattle.tomex_floor.specs.Floor.{floors_of, latency_of}
 use Rattle.tomex_floor.proofs.Above.{floor_is_bound}
@@ -120,6 +120,18 @@ floor_of_width latency steps (suc (suc (suc zero))) some few = refl
 floor_of_width latency steps (suc (suc (suc (suc zero)))) some few = refl
 floor_of_width latency steps zero some few = absurd (omega arith)
 floor_of_width latency steps (suc (suc (suc (suc (suc w))))) some few = absurd (omega arith)
+
+pub own_floor_is : (c : Configuration) (steps : List Step) (floors : List ℕ) (width : ℕ) → IsWithinLimits c
+    → floors ≡ floors_by_width (latency_of c) steps → width ≡ c.width
+    → get_or floors (width - 1) 0 ≡ floor_of (latency_of c) c.width steps
+own_floor_is c steps floors width within are is =
+    rw (are, is) (floor_of_width (latency_of c) steps c.width (low c.width within.width) (high c.width within.width))
+  where
+    low : (w : ℕ) → is_between 1 4 w ≡ true → 1 ≤ w
+    low w within = grind (arith, nat_tests)
+
+    high : (w : ℕ) → is_between 1 4 w ≡ true → w ≤ 4
+    high w within = grind (arith, nat_tests)
 
 -- no floor is greater than the most cycles of a run
 pub floor_bound : (p : Workload) (c : Configuration) (w : ℕ) → IsProgram p → IsWithinLimits c → 1 ≤ w → w ≤ 4

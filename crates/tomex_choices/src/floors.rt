@@ -2,7 +2,7 @@
 
 ghost use Rattle.std.specs.Prelude.{◌≡◌, ◌≤◌, length, option_map, IfOk, IfSome};
 ghost use Rattle.std.specs.List.{Contains};
-ghost use Rattle.tomex_floor.specs.Floor.{floors_by_width, latency_of};
+ghost use Rattle.tomex_floor.specs.Floor.{floor_of, floors_by_width, latency_of};
 ghost use Rattle.tomex_timing.specs.History.{is_of};
 ghost use Rattle.tomex_choices.specs.Floors.{any_width, fastest, floor_at, steps_of, study_floor, weighted_floor};
 ghost use Rattle.tomex_choices.specs.Extremes.{lesser};
@@ -146,6 +146,17 @@ impl<'s, A: Allocator + Clone> Floored<'s, A> {
         let floors = floors(alloc.clone()?, self.program.run(), config)?;
         self.known.push(KnownFloors { latencies, floors })?;
         Ok(floors)
+    }
+
+    /// The program's floor, in cycles, for a configuration's latencies and its own width.
+    pub fn own_floor(&mut self, alloc: &A, config: &Config) -> Result<u64, AllocError>
+        ensures program { self.new ≡ self.old }
+        ensures floor { IfOk result
+            (λ n. n ≡ floor_of (latency_of config.now) config.now.width (steps_of self.old)) }
+    {
+        config.keeps_limits();
+        let floors = self.floors_for(alloc, config)?;
+        Ok(floors[usize::from(config.width()) - 1])
     }
 
     /// The program's floors at a configuration's own width and at the greatest one, times its weight.

@@ -5,4 +5,3 @@ mod NeedsOf
 mod ShownRows
 mod OnPath
 mod Asked
-mod Widths

@@ -68,14 +68,14 @@ section_tables s shown v =
     ++ (changes_table s shown v.here.row ++ prices_table s v.here.row))
 
 -- the programs' runs on a row
-unfoldable pub section_runs : DesignSpace → Configuration → List ℕ
-section_runs s config =
-    codes "<div class=\"l\">\n" ++ (flat_map (run_block config) s.programs ++ codes "</div>\n</section>\n")
+unfoldable pub section_runs : List Workload → Configuration → List ℕ
+section_runs programs config =
+    codes "<div class=\"l\">\n" ++ (flat_map (run_block config) programs ++ codes "</div>\n</section>\n")
 
 -- a row's view
 unfoldable pub row_section : DesignSpace → List FrontRow → View → List ℕ
 row_section s shown v =
-    section_head shown v ++ (section_tables s shown v ++ section_runs s v.here.config)
+    section_head shown v ++ (section_tables s shown v ++ section_runs s.programs v.here.config)
 
 abbrev pub view_at : DesignSpace → Option ShownRow → FrontRow → List FrontRow → View
 view_at s before r rows = record { before = before; here = row_of s r; after = slice_get rows 0 }

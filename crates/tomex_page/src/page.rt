@@ -11,7 +11,7 @@ use crate::overview::{push_left_out, push_overview, push_page_head};
 use crate::section::push_sections;
 use std::alloc::{AllocError, Allocator, Global};
 use std::fmt::Write;
-use tomex_choices::WeighedChoices;
+use tomex_choices::{WeighedChoices, all_floored};
 use tomex_html::push_page_end;
 use tomex_page_choices::push_choices_table;
 use tomex_page_rows::PriceBook;
@@ -33,8 +33,9 @@ fn push_views<A: Allocator, B: Allocator + Clone>(
     ensures { OnOk result (Appends (views_text surveyed.now shown.now) text.old text.new) }
 {
     let book = PriceBook::new(heap, surveyed, shown)?;
+    let mut programs = all_floored(alloc.clone()?, surveyed.study().programs())?;
     text.push_str("<div class=\"v\">\n")?;
-    push_sections(text, alloc, heap, surveyed, &book, shown)?;
+    push_sections(text, alloc, heap, surveyed, &mut programs, &book, shown)?;
     write!(text, "</div>\n</main>\n")
 }
 
@@ -137,8 +138,8 @@ fn push_page_with_choices<A: Allocator + Clone>(
 /// prices with which it stays on the front, and for each program its floor, its stalls with those on its path, and the
 /// chart of its first instructions.
 ///
-/// `name` is the study's, and may have any characters. The work is that of three evaluations of each program on each
-/// row that is shown, and of one for each set of latencies. Small temporary data is allocated from `heap`.
+/// `name` is the study's, and may have any characters. The work is that of two evaluations of each program on each row
+/// that is shown, and of two for each set of latencies. Small temporary data is allocated from `heap`.
 pub fn study_page<A: Allocator + Clone>(
     alloc: A,
     heap: Global,

@@ -11,8 +11,8 @@ use crate::charts::push_chart;
 use crate::stalls::push_stalls_table;
 use std::alloc::{AllocError, Allocator, Global};
 use std::fmt::Write;
+use tomex_choices::Floored;
 use tomex_config::Config;
-use tomex_floor::floors;
 use tomex_path::{RunPath, path};
 use tomex_study::Program;
 use tomex_timing::Needs;
@@ -43,17 +43,16 @@ fn path_on<A: Allocator + Clone>(
 }
 
 /// The floor of a program for a configuration's latencies and its width.
+#[tactic(auto, unfolding(crate::specs::Runs::floor_on))]
 fn floor_on<A: Allocator + Clone>(
-    alloc: A,
-    program: &Program<A>,
+    alloc: &A,
+    program: &mut Floored<'_, A>,
     config: &Config,
 ) -> Result<u64, AllocError>
-    ensures { IfOk result (λ n. n ≡ floor_on config.now program.now) }
+    ensures program { program.new ≡ program.old }
+    ensures floor { IfOk result (λ n. n ≡ floor_on config.now program.old) }
 {
-    program.keeps_limits();
-    config.keeps_limits();
-    let floors = floors(alloc, program.run(), config)?;
-    Ok(floors[usize::from(config.width()) - 1])
+    program.own_floor(alloc, config)
 }
 
 /// Adds the stalls of a program's run on a configuration.
@@ -63,13 +62,15 @@ fn push_run_stalls<A: Allocator, B: Allocator + Clone>(
     alloc: &B,
     heap: Global,
     config: &Config,
-    program: &Program<B>,
+    floored: &mut Floored<'_, B>,
 ) -> Result<(), AllocError>
-    ensures { OnOk result (Appends (run_stalls config.now program.now) text.old text.new) }
+    ensures program { floored.new ≡ floored.old }
+    ensures text { OnOk result (Appends (run_stalls config.now floored.old) text.old text.new) }
 {
+    let floor = floor_on(alloc, floored, config)?;
+    let program = floored.program();
     let needs = needs_on(alloc.clone()?, program, config)?;
     let path = path_on(alloc.clone()?, program, config)?;
-    let floor = floor_on(alloc.clone()?, program, config)?;
     let links = path.links.as_slice();
     push_stalls_table(text, heap, config, &needs, links, floor, program.name())
 }
@@ -81,28 +82,31 @@ fn push_run<A: Allocator, B: Allocator + Clone>(
     alloc: &B,
     heap: Global,
     config: &Config,
-    program: &Program<B>,
+    floored: &mut Floored<'_, B>,
 ) -> Result<(), AllocError>
-    ensures { OnOk result (Appends (run_block config.now program.now) text.old text.new) }
+    ensures program { floored.new ≡ floored.old }
+    ensures text { OnOk result (Appends (run_block config.now floored.old) text.old text.new) }
 {
     text.push_str("<div>\n")?;
-    push_run_stalls(text, alloc, heap, config, program)?;
-    push_chart(text, alloc, heap, program, config)?;
+    push_run_stalls(text, alloc, heap, config, floored)?;
+    push_chart(text, alloc, heap, floored.program(), config)?;
     write!(text, "</div>\n")
 }
 
-/// Adds the runs of some programs on a configuration.
+/// Adds the runs of some programs on a configuration. A floor is computed once for each set of latencies.
 pub fn push_runs<A: Allocator, B: Allocator + Clone>(
     text: &mut String<A>,
     alloc: &B,
     heap: Global,
     config: &Config,
-    programs: &[Program<B>],
+    programs: &mut Vec<Floored<'_, B>, B>,
 ) -> Result<(), AllocError>
-    ensures { OnOk result (Appends (flat_map (run_block config.now) programs.now) text.old text.new) }
+    ensures programs { programs.new.items ≡ programs.old.items }
+    ensures text { OnOk result
+        (Appends (flat_map (run_block config.now) programs.old.items) text.old text.new) }
 {
-    for program in programs {
-        push_run(text, alloc, heap, config, program)?;
+    for place in 0..programs.len() {
+        push_run(text, alloc, heap, config, &mut programs[place])?;
     }
     Ok(())
 }

@@ -11,6 +11,7 @@ ghost use Rattle.tomex_page_rows.specs.Stays.{AreFound};
 use crate::runs::push_runs;
 use std::alloc::{AllocError, Allocator, Global};
 use std::fmt::Write;
+use tomex_choices::Floored;
 use tomex_config::Config;
 use tomex_html::{Links, push_links};
 use tomex_page_rows::{
@@ -18,7 +19,7 @@ use tomex_page_rows::{
 };
 use tomex_page_tables::{ShownRow, row_of};
 use tomex_pareto::FrontRow;
-use tomex_study::{Study, Surveyed};
+use tomex_study::Surveyed;
 
 /// A row between its neighbours among the rows that are shown.
 #[derive(Drop)]
@@ -108,13 +109,14 @@ fn push_section_runs<A: Allocator, B: Allocator + Clone>(
     text: &mut String<A>,
     alloc: &B,
     heap: Global,
-    study: &Study<B>,
     config: &Config,
+    programs: &mut Vec<Floored<'_, B>, B>,
 ) -> Result<(), AllocError>
-    ensures { OnOk result (Appends (section_runs study.now config.now) text.old text.new) }
+    ensures programs { programs.new.items ≡ programs.old.items }
+    ensures text { OnOk result (Appends (section_runs programs.old.items config.now) text.old text.new) }
 {
     text.push_str("<div class=\"l\">\n")?;
-    push_runs(text, alloc, heap, config, study.programs())?;
+    push_runs(text, alloc, heap, config, programs)?;
     write!(text, "</div>\n</section>\n")
 }
 
@@ -125,34 +127,41 @@ fn push_section<A: Allocator, B: Allocator + Clone>(
     alloc: &B,
     heap: Global,
     surveyed: &Surveyed<'_, B>,
+    programs: &mut Vec<Floored<'_, B>, B>,
     book: &PriceBook,
     shown: &[FrontRow],
     place: usize,
     view: &View,
 ) -> Result<(), AllocError>
+    requires programs { programs.old.items ≡ surveyed.now.programs }
     requires book { AreFound surveyed.now shown.now book.now }
     requires place { place < length shown.now }
     requires within { All (λ r. r.row < length surveyed.now.rows) shown.now }
     requires here { view.now.here.row ≡ slice_index_or shown.now place no_row }
-    ensures { OnOk result (Appends (row_section surveyed.now shown.now view.now) text.old text.new) }
+    ensures programs { programs.new.items ≡ programs.old.items }
+    ensures text { OnOk result (Appends (row_section surveyed.now shown.now view.now) text.old text.new) }
 {
     push_head(text, shown, view)?;
     push_tables(text, heap, surveyed, book, shown, place, view)?;
-    push_section_runs(text, alloc, heap, surveyed.study(), &view.here.config)
+    push_section_runs(text, alloc, heap, &view.here.config, programs)
 }
 
-/// Adds a view for each row that is shown.
+/// Adds a view for each row that is shown. `programs` are the study's.
 pub fn push_sections<A: Allocator, B: Allocator + Clone>(
     text: &mut String<A>,
     alloc: &B,
     heap: Global,
     surveyed: &Surveyed<'_, B>,
+    programs: &mut Vec<Floored<'_, B>, B>,
     book: &PriceBook,
     shown: &[FrontRow],
 ) -> Result<(), AllocError>
+    requires programs { programs.old.items ≡ surveyed.now.programs }
     requires book { AreFound surveyed.now shown.now book.now }
     requires within { All (λ r. r.row < length surveyed.now.rows) shown.now }
-    ensures { OnOk result (Appends (row_sections surveyed.now shown.now None shown.now) text.old text.new) }
+    ensures programs { programs.new.items ≡ programs.old.items }
+    ensures text { OnOk result
+        (Appends (row_sections surveyed.now shown.now None shown.now) text.old text.new) }
 {
     let study = surveyed.study();
     let mut before = None;
@@ -162,7 +171,9 @@ pub fn push_sections<A: Allocator, B: Allocator + Clone>(
             here: row_of(study, *row),
             after: shown.get(place + 1).copied(),
         };
-        push_section(text, alloc, heap, surveyed, book, shown, place, &view)?;
+        push_section(
+            text, alloc, heap, surveyed, programs, book, shown, place, &view,
+        )?;
         before = Some(row_of(study, *row));
     }
     Ok(())

@@ -2,6 +2,7 @@
 
 use std::alloc::{AllocError, Global};
 use std::test::Fail;
+use tomex_choices::Floored;
 use tomex_config::{Config, UnitOption, cost};
 use tomex_floor::floors;
 use tomex_rvdec::{PoolId, UnitId};
@@ -186,6 +187,26 @@ fn floor_on(alloc: Global, study: &Study, config: &Config, widest: bool) -> Resu
         floor = floor.wrapping_add(own.wrapping_mul(u64::from(program.weight())));
     }
     Ok(floor)
+}
+
+/// True if the floors that are kept by latencies are those of each row, many of which have the same latencies.
+fn are_kept(alloc: Global, program: &Program, rows: &[Config]) -> Result<bool, Fail> {
+    let mut floored = Floored::new(alloc, program);
+    let mut right = true;
+    for config in rows {
+        let own = floors(alloc, program.run(), config)?[usize::from(config.width()) - 1];
+        right = right && floored.own_floor(&alloc, config)? == own;
+    }
+    Ok(right)
+}
+
+/// True if they are, for each program.
+pub(super) fn all_kept(alloc: Global, study: &Study) -> Result<bool, Fail> {
+    let mut right = true;
+    for program in study.programs() {
+        right = right && are_kept(alloc, program, study.rows())?;
+    }
+    Ok(right)
 }
 
 /// The least of these of all rows.

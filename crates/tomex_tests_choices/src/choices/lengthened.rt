@@ -136,7 +136,8 @@ fn all_weighed(alloc: Global, study: &Study, weighed: &WeighedChoices<'_>) -> Re
     }
     Ok(
         weighed.floor() == by_hand::floor(alloc, study, false)?
-            && weighed.any_width() == by_hand::floor(alloc, study, true)?,
+            && weighed.any_width() == by_hand::floor(alloc, study, true)?
+            && by_hand::all_kept(alloc, study)?,
     )
 }
 

@@ -1,9 +1,9 @@
-//! Each allocation refused in turn: of what finds the new machines, and of the table's text.
+//! Each allocation refused in turn: of what finds the new machines, of the table's text, and of what keeps floors.
 
 use std::alloc::{AllocError, Global};
 use std::test::Fail;
 use std::thread::Threads;
-use tomex_choices::weigh_choices;
+use tomex_choices::{all_floored, weigh_choices};
 use tomex_choices_table::choices_table;
 use tomex_study::{OpenGate, Study};
 use tomex_study_reader::read_study;
@@ -69,11 +69,32 @@ fn blocks_of_writing<R: Threads + Sync>(rt: &R, other: Global) -> Result<Option<
     Ok(refusals_of!(other, heap => table_in(rt, ample(other)?, heap, other, 1)?))
 }
 
+/// The floor of the first program on the first row, or 0 if there is none.
+fn first_floor(heap: &Heap, study: &Study<Heap>) -> Result<u64, AllocError> {
+    let mut programs = all_floored(heap.clone()?, study.programs())?;
+    match (programs.get_mut(0), study.config(0)) {
+        (Some(program), Some(config)) => program.own_floor(heap, config),
+        _ => Ok(0),
+    }
+}
+
+/// The number of blocks that it takes. The floor is that of the table.
+fn blocks_of_keeping(other: Global) -> Result<Option<u64>, AllocError> {
+    let study = study_in(other)?;
+    Ok(
+        refusals_of!(other, heap => match first_floor(&heap, &study) {
+        Ok(floor) => Try::right_if(floor == 8),
+        Err(AllocError) => Try::Refused,
+    }),
+    )
+}
+
 #[test]
 fn each_refusal_is_reported(rt: HostRuntime) -> Result<(), Fail> {
     let other = rt.alloc();
     assert!(rt; blocks_of_finding(&rt, other, 1)? > Some(13));
     assert!(rt; blocks_of_finding(&rt, other, 2)? > Some(26));
     assert!(rt; blocks_of_writing(&rt, other)? > Some(0));
+    assert!(rt; blocks_of_keeping(other)? > Some(1));
     Ok(())
 }

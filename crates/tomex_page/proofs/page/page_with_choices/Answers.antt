@@ -22,7 +22,8 @@ push_page_with_choices-requires-clause-within g c =
     let value = c.front.ensures.value ∙ ap front_of_study c.surveyed.ensures in
     let are = c.as_slice.ensures.value ∙ (c.in_ok-shown.ensures ∙ ap shown_rows value) in
     let within : All IsRowOf c.front.result.now = rw c.surveyed.ensures at c.front.ensures.within in
-    shown_all IsRowOf front _ (subst (All IsRowOf) value within) (subst (All (Contains front)) (sym are) (shown_in front))
+    shown_all IsRowOf front _ (subst (All IsRowOf) value within)
+    (subst (All (Contains front)) (sym are) (shown_in front))
 
 pub returns : goal.returns
 unfolding page_of

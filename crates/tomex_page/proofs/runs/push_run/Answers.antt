@@ -4,9 +4,9 @@ use Rattle.tomex_csv_text.proofs.Pieces.{◌▸◌, last_piece}
 use Rattle.tomex_page.specs.Page.{run_block}
 use Rattle.tomex_page.proofs.runs.push_run.Goals as goal
 
-pub returns : goal.returns
+pub returns-clause-text : goal.returns-clause-text
 unfolding run_block
-returns g c =
+returns-clause-text g c =
     on_ok_weaker c.write.result (λ last.
-    (c.in_ok-push_str.ensures.bytes ▸ c.in_ok-push_run_stalls.ensures ▸ c.in_ok-push_chart.ensures
+    (c.in_ok-push_str.ensures.bytes ▸ c.in_ok-push_run_stalls.ensures.text ▸ c.in_ok-push_chart.ensures
     ▸ last_piece last).is) c.write.ensures.bytes
