@@ -4,6 +4,8 @@ use std::alloc::{AllocError, Global};
 use std::test::Fail;
 use tomex_arguments::{LineFault, not_text, reading_fault};
 use tomex_command::{Failure, report_failure, report_line_fault};
+use tomex_report::AnswerError;
+use tomex_sweep::SweepError;
 use tomex_tests_fixtures::in_memory::Narrow;
 
 /// True if a fault that is reported, to an output that takes a limited number of bytes, has this
@@ -76,7 +78,8 @@ fn faults_of_a_line_are_reported(rt: HostRuntime) -> Result<(), Fail> {
 #[test]
 fn a_refused_thread_is_reported(rt: HostRuntime) -> Result<(), Fail> {
     let mut err = Narrow::new(rt.alloc(), 100, 3);
-    assert!(rt; report_failure(rt.alloc(), &Failure::Worker, &mut err) == 3);
+    let failure = Failure::from(AnswerError::Sweep(SweepError::Worker));
+    assert!(rt; report_failure(rt.alloc(), &failure, &mut err) == 3);
     assert!(rt; err.bytes.as_slice() == b"tomex: thread refused\n".as_slice());
     Ok(())
 }
