@@ -1,9 +1,11 @@
 //! The page of a study.
 
-ghost use Rattle.std.specs.Prelude.{◌≡◌, ◌<◌, false, length, true, All, IfOk, OnOk};
+ghost use Rattle.std.specs.Prelude.{◌≡◌, ◌<◌, false, length, string_bytes, true, All, IfOk, OnOk};
 ghost use Rattle.std.specs.List.{Contains};
 ghost use Rattle.tomex_csv_text.specs.Growth.{Appends};
-ghost use Rattle.tomex_page.specs.Page.{asked_help, page_of, page_over, page_rest, page_start_of, views_text};
+ghost use Rattle.tomex_page.specs.Page.{asked_choices, asked_help, page_of, page_over, page_rest, page_start_of};
+ghost use Rattle.tomex_page.specs.Page.{views_text};
+ghost use Rattle.tomex_page_choices.specs.Additions.{choices_table};
 ghost use Rattle.tomex_study.specs.StudyFront.{front_of_study};
 
 use crate::constants::{choices_help, commands_help, page_help};
@@ -92,7 +94,8 @@ fn push_rest<A: Allocator, B: Allocator + Clone>(
     push_page_end(text)
 }
 
-/// Adds the page of a study with this name and these rows of its front.
+/// Adds the page of a study with this name and these rows of its front. `choices` is what choices that the lists lack
+/// would bring, if that was asked for, and else is empty.
 #[tactic(auto, unfolding(crate::specs::Page::page_over))]
 fn push_page<A: Allocator + Clone>(
     text: &mut String<A>,
@@ -101,35 +104,39 @@ fn push_page<A: Allocator + Clone>(
     name: &str,
     surveyed: &Surveyed<'_, A>,
     shown: &[FrontRow],
+    choices: &str,
+    asked: bool,
 ) -> Result<(), AllocError>
     requires shown { All (Contains (front_of_study surveyed.now)) shown.now }
     requires within { All (λ r. r.row < length surveyed.now.rows) shown.now }
+    requires choices { choices.now ≡ asked_choices asked surveyed.now }
     ensures { OnOk result (Appends
-        (page_over name.now surveyed.now (front_of_study surveyed.now) shown.now false) text.old text.new) }
+        (page_over name.now surveyed.now (front_of_study surveyed.now) shown.now asked) text.old text.new) }
 {
     push_start(text, alloc, heap, name, surveyed, shown)?;
-    push_rest(text, alloc, heap, surveyed, shown, false)
+    text.push_str(choices)?;
+    push_rest(text, alloc, heap, surveyed, shown, asked)
 }
 
-/// Adds the same page with what choices that the lists lack would bring.
-#[tactic(auto, unfolding(crate::specs::Page::page_over))]
-fn push_page_with_choices<A: Allocator + Clone>(
-    text: &mut String<A>,
-    alloc: &A,
+/// The page of a study with this name, with or without what choices that the lists lack would bring.
+fn whole_page<A: Allocator + Clone>(
+    alloc: A,
     heap: Global,
     name: &str,
-    weighed: &WeighedChoices<'_, A>,
-    shown: &[FrontRow],
-) -> Result<(), AllocError>
-    requires shown { All (Contains (front_of_study weighed.now)) shown.now }
-    requires within { All (λ r. r.row < length weighed.now.rows) shown.now }
-    ensures { OnOk result (Appends
-        (page_over name.now weighed.now (front_of_study weighed.now) shown.now true) text.old text.new) }
+    surveyed: &Surveyed<'_, A>,
+    choices: &str,
+    asked: bool,
+) -> Result<Vec<u8, A>, AllocError>
+    requires { choices.now ≡ asked_choices asked surveyed.now }
+    ensures { IfOk result (λ text. text.items ≡ page_of asked name.now surveyed.now) }
 {
-    let surveyed = weighed.surveyed();
-    push_start(text, alloc, heap, name, surveyed, shown)?;
-    push_choices_table(text, heap, weighed)?;
-    push_rest(text, alloc, heap, surveyed, shown, true)
+    let shown = shown_rows(heap, surveyed.front())?;
+    let rows = shown.as_slice();
+    let mut text = String::new(alloc.clone()?);
+    push_page(
+        &mut text, &alloc, heap, name, surveyed, rows, choices, asked,
+    )?;
+    Ok(text.into_bytes())
 }
 
 /// A study's report as a page: the picture of all rows, the programs and the lists of parts with the choices that no
@@ -148,10 +155,19 @@ pub fn study_page<A: Allocator + Clone>(
 ) -> Result<Vec<u8, A>, AllocError>
     ensures { IfOk result (λ text. text.items ≡ page_of false name.now surveyed.now) }
 {
-    let shown = shown_rows(heap, surveyed.front())?;
-    let mut text = String::new(alloc.clone()?);
-    push_page(&mut text, &alloc, heap, name, surveyed, shown.as_slice())?;
-    Ok(text.into_bytes())
+    whole_page(alloc, heap, name, surveyed, "", false)
+}
+
+/// The text of what choices that the lists lack would bring.
+fn choices_text<A: Allocator>(
+    heap: Global,
+    weighed: &WeighedChoices<'_, A>,
+) -> Result<String, AllocError>
+    ensures { IfOk result (λ text. string_bytes text ≡ choices_table weighed.now) }
+{
+    let mut text = String::new(heap);
+    push_choices_table(&mut text, heap, weighed)?;
+    Ok(text)
 }
 
 /// The same page with what choices that the lists lack would bring.
@@ -163,8 +179,13 @@ pub fn page_with_choices<A: Allocator + Clone>(
 ) -> Result<Vec<u8, A>, AllocError>
     ensures { IfOk result (λ text. text.items ≡ page_of true name.now weighed.now) }
 {
-    let shown = shown_rows(heap, weighed.surveyed().front())?;
-    let mut text = String::new(alloc.clone()?);
-    push_page_with_choices(&mut text, &alloc, heap, name, weighed, shown.as_slice())?;
-    Ok(text.into_bytes())
+    let choices = choices_text(heap, weighed)?;
+    whole_page(
+        alloc,
+        heap,
+        name,
+        weighed.surveyed(),
+        choices.as_str(),
+        true,
+    )
 }

@@ -1,11 +1,12 @@
 -- One piece after the other.
 use Rattle.std.proofs.lemmas.Result.{on_ok_weaker}
 use Rattle.tomex_csv_text.proofs.Pieces.{◌▸◌, last_piece}
-use Rattle.tomex_page.specs.Page.{asked_choices, page_over, page_rest}
+use Rattle.tomex_page.specs.Page.{page_over}
 use Rattle.tomex_page.proofs.page.push_page.Goals as goal
 
 pub returns : goal.returns
-unfolding page_over asked_choices page_rest
+unfolding page_over
 returns g c =
     on_ok_weaker c.push_rest.result (λ last.
-    (c.in_ok-push_start.ensures ▸ last_piece last).is) c.push_rest.ensures
+    (c.in_ok-push_start.ensures ▸ (rw c.requires.choices at c.in_ok-push_str.ensures.bytes) ▸ last_piece last).is)
+    c.push_rest.ensures

@@ -1,34 +1,8 @@
--- The rows that are shown are rows of the front, and those of the definition.
-use Rattle.std.proofs.Common.{◌∙◌, ◌++◌, ◌<◌, ap, subst, sym, List, ℕ, length, All, false}
-use Rattle.std.specs.List.{Contains}
-use Rattle.tomex_pareto.specs.declared.front_row.FrontRow.{FrontRow}
-use Rattle.tomex_study.specs.StudyFront.{front_of_study}
-use Rattle.tomex_page_tables.specs.Shown.{shown_rows}
-use Rattle.tomex_page.specs.Page.{page_of, page_over}
-use Rattle.tomex_page.proofs.ShownRows.{shown_all, shown_in}
+-- Nothing was asked for.
+use Rattle.std.proofs.Common.{refl}
+use Rattle.tomex_page.specs.Page.{asked_choices}
 use Rattle.tomex_page.proofs.page.study_page.Goals as goal
 
-pub push_page-requires-clause-shown : goal.push_page-requires-clause-shown
-push_page-requires-clause-shown g c =
-    let front = front_of_study c.args.surveyed.now in
-    let are = c.as_slice.ensures.value ∙ (c.in_ok-shown.ensures ∙ ap shown_rows c.front.ensures.value) in
-    subst (All (Contains front)) (sym are) (shown_in front)
-
-pub push_page-requires-clause-within : goal.push_page-requires-clause-within
-push_page-requires-clause-within g c =
-    let front = front_of_study c.args.surveyed.now in
-    let IsRowOf : FrontRow → Type 0 = λ r. r.row < length c.args.surveyed.now.rows in
-    let are = c.as_slice.ensures.value ∙ (c.in_ok-shown.ensures ∙ ap shown_rows c.front.ensures.value) in
-    shown_all IsRowOf front _ (subst (All IsRowOf) c.front.ensures.value c.front.ensures.within)
-    (subst (All (Contains front)) (sym are) (shown_in front))
-
-pub returns : goal.returns
-unfolding page_of
-returns g c =
-    let front = front_of_study c.args.surveyed.now in
-    let are = c.as_slice.ensures.value ∙ (c.in_ok-shown.ensures ∙ ap shown_rows c.front.ensures.value) in
-    ap (λ v. v.items) c.into_bytes.ensures.value
-    ∙ (c.in_ok-push_page.ensures
-    ∙ (ap (λ (z : List ℕ). z ++ page_over c.args.name.now c.args.surveyed.now front c.as_slice.result.now false)
-    c.new-text.ensures.bytes
-    ∙ ap (λ (rows : List FrontRow). page_over c.args.name.now c.args.surveyed.now front rows false) are))
+pub whole_page-requires : goal.whole_page-requires
+unfolding asked_choices
+whole_page-requires g c = refl
