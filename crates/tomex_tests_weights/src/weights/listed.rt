@@ -22,7 +22,8 @@ fn comes(
         return Ok(true);
     }
     for column in columns {
-        let first = column.spans.get(row).ok_or("no such row")?.first;
+        // No weight is 0, and the ends of a span without weights are.
+        let first = column.spans.get(row).ok_or("no such row")?.first.max(1);
         let weights = replaced(alloc, study, column.place, first)?;
         if plain.is_on(alloc, weights.as_slice(), row)? {
             return Ok(true);
