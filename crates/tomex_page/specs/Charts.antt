@@ -1,9 +1,9 @@
 -- The chart of a run's first instructions, cycle by cycle.
 use Rattle.std.specs.Prelude.{ℕ, nat_le, if◌then◌else◌, List, ◌++◌, codes}
-use Rattle.tomex_config.specs.Configuration.{Configuration}
 use Rattle.tomex_steps.specs.declared.step.Step.{Step}
 use Rattle.tomex_run_views.specs.Chart.{picture_of, signs_of}
-use Rattle.tomex_run_views.specs.Excerpt.{TimedSteps, excerpt_of}
+use Rattle.tomex_run_views.specs.Excerpt.{TimedSteps, excerpt_with}
+use Rattle.tomex_timing.specs.declared.times.Times.{Times}
 
 -- the most instructions that a chart shows
 abbrev pub chart_steps : ℕ
@@ -30,6 +30,6 @@ chart_start name =
 unfoldable pub chart_of : List ℕ → TimedSteps → List ℕ
 chart_of name e = chart_start name ++ (picture_text e ++ codes "</details>\n")
 
--- the first steps of a run
-abbrev pub first_steps : Configuration → List Step → TimedSteps
-first_steps config steps = excerpt_of config steps 1 chart_steps
+-- the first steps of a run with these times
+abbrev pub first_steps : List Step → List Times → TimedSteps
+first_steps steps times = excerpt_with steps times 1 chart_steps

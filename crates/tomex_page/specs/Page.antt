@@ -25,6 +25,7 @@ use Rattle.tomex_page_tables.specs.Shown.{most_rows, no_row, row_of, shown_rows}
 use Rattle.tomex_page.specs.Stalls.{stalls_table}
 use Rattle.tomex_page_rows.specs.Stays.{prices_table}
 use Rattle.tomex_page.specs.declared.section.View.{View}
+use Rattle.tomex_timing.specs.Search.{times_in}
 use Rattle.tomex_page_tables.specs.declared.shown.ShownRow.{ShownRow}
 
 -- a program's run on a configuration: its stalls, and its chart
@@ -33,7 +34,8 @@ run_stalls config p = stalls_table config (needs_on config p) (path_on config p)
 
 unfoldable pub run_block : Configuration → Workload → List ℕ
 run_block config p =
-    codes "<div>\n" ++ (run_stalls config p ++ (chart_of p.name (first_steps config (steps_of p)) ++ codes "</div>\n"))
+    codes "<div>\n" ++ (run_stalls config p
+    ++ (chart_of p.name (first_steps (steps_of p) (times_in config (steps_of p))) ++ codes "</div>\n"))
 
 unfoldable pub section_start : FrontRow → List ℕ
 section_start r =

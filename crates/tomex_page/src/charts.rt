@@ -4,12 +4,13 @@ ghost use Rattle.std.specs.Prelude.{OnOk};
 ghost use Rattle.tomex_csv_text.specs.Growth.{Appends};
 ghost use Rattle.tomex_page.specs.Charts.{chart_of, chart_start, first_steps, picture_text, chart_block, too_wide};
 ghost use Rattle.tomex_page_tables.specs.Asked.{steps_of};
+ghost use Rattle.tomex_run_views.specs.Excerpt.{AreTimesOf};
 
 use std::alloc::{AllocError, Allocator, Global};
 use std::fmt::Write;
-use tomex_config::Config;
 use tomex_run_views::{Excerpt, push_picture, signs_of};
 use tomex_study::Program;
+use tomex_timing::Times;
 
 /// The most instructions of a chart.
 const CHART_STEPS: u32 = 32;
@@ -81,17 +82,17 @@ fn push_chart_of<A: Allocator, B: Allocator>(
     write!(text, "</details>\n")
 }
 
-/// Adds the chart of the first instructions of a program's run on a configuration.
-pub fn push_chart<A: Allocator, B: Allocator + Clone>(
+/// Adds the chart of the first instructions of a program's run, given the times of all its steps.
+pub fn push_chart<A: Allocator, B: Allocator>(
     text: &mut String<A>,
-    alloc: &B,
     heap: Global,
     program: &Program<B>,
-    config: &Config,
+    times: Vec<Times, B>,
 ) -> Result<(), AllocError>
+    requires { AreTimesOf (steps_of program.now) times.items }
     ensures { OnOk result (
-        Appends (chart_of program.now.name (first_steps config.now (steps_of program.now))) text.old text.new) }
+        Appends (chart_of program.now.name (first_steps (steps_of program.now) times.items)) text.old text.new) }
 {
-    let excerpt = Excerpt::of_first(alloc, program, config, CHART_STEPS)?;
+    let excerpt = Excerpt::of_first(program, times, CHART_STEPS);
     push_chart_of(text, heap, program.name(), &excerpt)
 }

@@ -1,11 +1,13 @@
 //! A program's run on a configuration: its stalls, and its chart.
 
-ghost use Rattle.std.specs.Prelude.{◌≡◌, IfOk, OnOk};
+ghost use Rattle.std.specs.Prelude.{◌≡◌, ◌*◌, ◌≤◌, length, IfOk, OnOk};
 ghost use Rattle.std.specs.List.{flat_map};
 ghost use Rattle.tomex_csv_text.specs.Growth.{Appends};
 ghost use Rattle.tomex_page.specs.Page.{run_block, run_stalls};
 ghost use Rattle.tomex_page.specs.Runs.{floor_on, needs_on, path_on};
+ghost use Rattle.tomex_page_tables.specs.Asked.{steps_of};
 ghost use Rattle.tomex_path_views.specs.Shares.{AreShort};
+ghost use Rattle.tomex_timing.specs.Search.{times_in, total_of};
 
 use crate::charts::push_chart;
 use crate::stalls::push_stalls_table;
@@ -13,7 +15,7 @@ use std::alloc::{AllocError, Allocator, Global};
 use std::fmt::Write;
 use tomex_choices::Floored;
 use tomex_config::Config;
-use tomex_path::{RunPath, path};
+use tomex_path::{Link, RunPath, path};
 use tomex_study::Program;
 use tomex_timing::Needs;
 use tomex_timing::evaluate::needs;
@@ -29,7 +31,7 @@ fn needs_on<A: Allocator>(
     needs(alloc, program.steps(), config)
 }
 
-/// The path of a program's run on a configuration.
+/// The path of a program's run on a configuration, and the times of its steps.
 fn path_on<A: Allocator + Clone>(
     alloc: A,
     program: &Program<A>,
@@ -37,6 +39,9 @@ fn path_on<A: Allocator + Clone>(
 ) -> Result<RunPath<A>, AllocError>
     ensures path { IfOk result (λ p. p.links.items ≡ path_on config.now program.now) }
     ensures short { IfOk result (λ p. AreShort p.links.items) }
+    ensures times { IfOk result (λ p. p.times.items ≡ times_in config.now (steps_of program.now)) }
+    ensures pairs { IfOk result (λ p. length p.times.items ≡ length (steps_of program.now)) }
+    ensures bound { IfOk result (λ p. total_of p.times.items ≤ 67 * length (steps_of program.now)) }
 {
     program.keeps_limits();
     path(alloc, program.run(), config)
@@ -55,7 +60,7 @@ fn floor_on<A: Allocator + Clone>(
     program.own_floor(alloc, config)
 }
 
-/// Adds the stalls of a program's run on a configuration.
+/// Adds the stalls of a program's run on a configuration, given its path.
 #[tactic(auto, unfolding(crate::specs::Page::run_stalls))]
 fn push_run_stalls<A: Allocator, B: Allocator + Clone>(
     text: &mut String<A>,
@@ -63,16 +68,17 @@ fn push_run_stalls<A: Allocator, B: Allocator + Clone>(
     heap: Global,
     config: &Config,
     floored: &mut Floored<'_, B>,
+    path: &[Link],
 ) -> Result<(), AllocError>
+    requires path { path.now ≡ path_on config.now floored.old }
+    requires short { AreShort path.now }
     ensures program { floored.new ≡ floored.old }
     ensures text { OnOk result (Appends (run_stalls config.now floored.old) text.old text.new) }
 {
     let floor = floor_on(alloc, floored, config)?;
     let program = floored.program();
     let needs = needs_on(alloc.clone()?, program, config)?;
-    let path = path_on(alloc.clone()?, program, config)?;
-    let links = path.links.as_slice();
-    push_stalls_table(text, heap, config, &needs, links, floor, program.name())
+    push_stalls_table(text, heap, config, &needs, path, floor, program.name())
 }
 
 /// Adds a program's run on a configuration.
@@ -88,8 +94,9 @@ fn push_run<A: Allocator, B: Allocator + Clone>(
     ensures text { OnOk result (Appends (run_block config.now floored.old) text.old text.new) }
 {
     text.push_str("<div>\n")?;
-    push_run_stalls(text, alloc, heap, config, floored)?;
-    push_chart(text, alloc, heap, floored.program(), config)?;
+    let RunPath { times, links } = path_on(alloc.clone()?, floored.program(), config)?;
+    push_run_stalls(text, alloc, heap, config, floored, links.as_slice())?;
+    push_chart(text, heap, floored.program(), times)?;
     write!(text, "</div>\n")
 }
 

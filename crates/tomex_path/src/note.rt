@@ -184,8 +184,8 @@ pub(crate) fn notes_of<A: Allocator + Clone>(
     ensures notes { IfOk result (λ n. (steps : List Step) → AreFacts steps facts.now
         → n.notes.items ≡ notes_in config.now steps) }
 {
-    let mut times = Vec::new(alloc.clone()?);
-    let mut notes = Vec::new(alloc.clone()?);
+    let mut times = Vec::with_capacity(alloc.clone()?, facts.len())?;
+    let mut notes = Vec::with_capacity(alloc.clone()?, facts.len())?;
     let mut recent = Recent::new(alloc, alloc);
     config.keeps_limits();
     for step in facts {

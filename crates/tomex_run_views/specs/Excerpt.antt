@@ -1,5 +1,5 @@
 -- An excerpt of a run: some neighbouring steps, and their times on a configuration.
-use Rattle.std.specs.Prelude.{◌≡◌, ◌-◌, ◌<◌, ◌≤◌, ◌^◌, ℕ, List, drop, length, take}
+use Rattle.std.specs.Prelude.{◌≡◌, ◌-◌, ◌*◌, ◌<◌, ◌≤◌, ◌^◌, ℕ, List, drop, length, take}
 use Rattle.tomex_steps.specs.declared.step.Step.{Step}
 use Rattle.tomex_config.specs.Configuration.{Configuration}
 use Rattle.tomex_timing.specs.Search.{times_in, total_of}
@@ -18,13 +18,22 @@ pub record TimedSteps : Type 0 where
 abbrev pub excerpt : {X : Type 0} → ℕ → ℕ → List X → List X
 excerpt number count xs = take count (drop (number - 1) xs)
 
--- the steps of a run that are shown, and their times on a configuration
-abbrev pub excerpt_of : Configuration → List Step → ℕ → ℕ → TimedSteps
-excerpt_of config steps number count = record {
+-- the steps of a run that are shown, and of the run's times those of these steps
+abbrev pub excerpt_with : List Step → List Times → ℕ → ℕ → TimedSteps
+excerpt_with steps times number count = record {
   number = number;
   steps = excerpt number count steps;
-  times = excerpt number count (times_in config steps);
+  times = excerpt number count times;
 }
+
+-- with their times on a configuration
+abbrev pub excerpt_of : Configuration → List Step → ℕ → ℕ → TimedSteps
+excerpt_of config steps number count = excerpt_with steps (times_in config steps) number count
+
+-- times of a run's steps on some configuration: one for each, and no later than a run can take
+pub record AreTimesOf (steps : List Step) (times : List Times) : Type 0 where
+  pub pairs : length times ≡ length steps
+  pub bound : total_of times ≤ 67 * length steps
 
 -- the limits of each excerpt of a program's run: its numbers are those of a run, and its cycles too
 pub record IsExcerpt (e : TimedSteps) : Type 0 where

@@ -3,10 +3,10 @@
 ghost use Rattle.std.specs.Prelude.{◌≡◌, ◌-◌, ◌<◌, ◌≤◌, IfErr, IfOk, IsErrOf, drop, length, take};
 ghost use Rattle.tomex_rvexec.specs.Run.{start_of};
 ghost use Rattle.tomex_rvexec.specs.Trace.{steps_from};
-ghost use Rattle.tomex_run_views.specs.Excerpt.{HasNoExcerpt, IsExcerpt, IsExcerptOf, excerpt_of};
+ghost use Rattle.tomex_run_views.specs.Excerpt.{AreTimesOf, HasNoExcerpt, IsExcerpt, IsExcerptOf, excerpt_with};
 
 use crate::excerpt_error::ExcerptError;
-use std::alloc::{AllocError, Allocator};
+use std::alloc::Allocator;
 use std::marker::Model;
 use tomex_config::Config;
 use tomex_rvexec::Step;
@@ -88,30 +88,22 @@ impl<'a, A: Allocator + Clone> Excerpt<'a, A> {
     }
 }
 
-impl<'a, A: Allocator + Clone> Excerpt<'a, A> {
-    /// The first steps of a program's run on a configuration, at most `count` of them. All steps of the run are timed.
-    pub fn of_first(
-        alloc: &A,
-        program: &'a Program<A>,
-        config: &Config,
-        count: u32,
-    ) -> Result<Excerpt<'a, A>, AllocError>
-        ensures { IfOk result (λ e. e ≡ excerpt_of config.now
-            (steps_from program.now.limit (start_of program.now.image)) 1 count) }
+impl<'a, A: Allocator> Excerpt<'a, A> {
+    /// The first steps of a program's run, at most `count` of them, given the times of all its steps. Allocates nothing.
+    pub fn of_first(program: &'a Program<A>, run_times: Vec<Times, A>, count: u32) -> Excerpt<'a, A>
+        requires { AreTimesOf (steps_from program.now.limit (start_of program.now.image)) run_times.items }
+        ensures { result ≡ excerpt_with
+            (steps_from program.now.limit (start_of program.now.image)) run_times.items 1 count }
     {
-        let steps = program.steps();
-        let run_times = times(alloc.clone()?, steps, config)?;
         let count = count as usize;
-        Ok(Excerpt {
+        Excerpt {
             number: 1,
-            steps: part_of(steps, 0, count),
+            steps: part_of(program.steps(), 0, count),
             run_times,
             count,
-        })
+        }
     }
-}
 
-impl<'a, A: Allocator> Excerpt<'a, A> {
     /// A law: there is a time for each step, at most 262,144 of them, and their numbers and cycles are below 2^32.
     pub fn keeps_limits(&self)
         ensures { IsExcerpt self.now }

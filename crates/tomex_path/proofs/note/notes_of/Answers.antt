@@ -12,8 +12,8 @@ use Rattle.tomex_path.proofs.note.notes_of.Goals as goal
 pub loop-step-init : goal.loop-step-init
 loop-step-init g c = λ steps are. record {
   shown = rw c.new-recent.ensures empty_summary;
-  times = c.new-times.ensures.items;
-  notes = c.new-notes.ensures.items;
+  times = c.in_ok-times.ensures.items;
+  notes = c.in_ok-notes.ensures.items;
 }
 
 pub next_turn-turn-requires : goal.next_turn-turn-requires
