@@ -2,13 +2,14 @@
 
 use super::by_hand::{self, Made};
 use super::random::{grid, scattered, study_of_rows};
-use super::weighed;
+use super::{program_of, study_on, weighed};
 use std::alloc::Global;
 use std::test::Fail;
 use tomex_choices::{Saving, WeighedChoices, front_choices, unused};
-use tomex_config::Config;
+use tomex_config::{Config, Prices};
 use tomex_study::Study;
 use tomex_tests_fixtures::Random;
+use tomex_tests_fixtures::machines::{PLAIN, config_of, unit};
 use tomex_timing::Part;
 use tomex_worth::same_entry;
 
@@ -164,5 +165,36 @@ fn lists_of_any_rows_are_weighed(rt: HostRuntime) -> Result<(), Fail> {
         let weighed = weighed(&rt, rt.alloc(), &study, 3)?;
         assert!(rt; all_weighed(rt.alloc(), &study, &weighed)?, "study {turn}");
     }
+    Ok(())
+}
+
+/// `addi x2,x4,0; lw x2,264(x0); sw x2,264(x0); lw x4,256(x0); ebreak`: on the machine below seven cycles, and eight with
+/// a second bus, since its results then go out in another order.
+const SLOWED: [u32; 5] = [0x00020113, 0x10802103, 0x10202423, 0x10002203, 0x00100073];
+
+/// `addi x3,x0,1; lw x6,256(x0); ebreak`: six cycles, and five with a second bus.
+const SPED: [u32; 3] = [0x00100193, 0x10002303, 0x00100073];
+
+/// Both on an alu unit of latency 3, two load stations, and one of all other parts.
+fn study_of_opposites(alloc: Global) -> Result<Study, Fail> {
+    let slowed = program_of(alloc, "slowed", SLOWED.as_slice(), 1)?;
+    let sped = program_of(alloc, "sped", SPED.as_slice(), 1)?;
+    let units = [unit(3), PLAIN, PLAIN, PLAIN, PLAIN];
+    let rows = vec![in alloc; config_of([1, 1, 1, 2, 1, 1], units, 1, 1)?]?;
+    study_on(
+        alloc,
+        vec![in alloc; slowed, sped]?,
+        rows,
+        Prices::new([0; 6], 0, 0),
+    )
+}
+
+/// The programs' cycles change in opposite directions, and their sum is the same.
+#[test]
+fn a_second_bus_changes_something(rt: HostRuntime) -> Result<(), Fail> {
+    let study = study_of_opposites(rt.alloc())?;
+    let weighed = weighed(&rt, rt.alloc(), &study, 1)?;
+    assert!(rt; by_hand::enough(rt.alloc(), &study, Part::Buses)? == 2);
+    assert!(rt; all_weighed(rt.alloc(), &study, &weighed)?);
     Ok(())
 }

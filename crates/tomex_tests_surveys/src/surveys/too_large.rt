@@ -34,10 +34,11 @@ fn lines<R: Threads + Sync>(rt: &R, alloc: Global, count: u32) -> Result<Option<
     }
 }
 
-/// 257 rows have 257 times 1,028 intervals, more than 262,144.
+/// 256 rows have 256 times 1,024 intervals, which is the most, 262,144; with 257 there are more.
 #[test]
 fn too_many_intervals_are_refused(rt: HostRuntime) -> Result<(), Fail> {
     assert!(rt; lines(&rt, rt.alloc(), 40)? == Some(42));
+    assert!(rt; lines(&rt, rt.alloc(), 256)? == Some(258));
     assert!(rt; lines(&rt, rt.alloc(), 257)? == None);
     Ok(())
 }
