@@ -1,6 +1,7 @@
 -- Lemmas of this crate.
 pub mod Reweighing
 pub mod Within
+pub mod FrontFirst
 pub mod Whole
 pub mod Irrelevant
 pub mod SmallRows

@@ -1,9 +1,9 @@
 //! Rows by the weight of one program.
 
-ghost use Rattle.std.specs.Prelude.{◌≡◌, ◌<◌, length, All, IfOk};
+ghost use Rattle.std.specs.Prelude.{◌≡◌, ◌<◌, length, map, All, IfOk};
 ghost use Rattle.std.specs.List.{Contains};
 ghost use Rattle.tomex_spans.specs.Spans.{HasRoom};
-ghost use Rattle.tomex_study.specs.StudyFront.{all_rows};
+ghost use Rattle.tomex_study.specs.StudyFront.{all_rows, front_of_study};
 ghost use Rattle.tomex_weights.specs.Spans.{by_weight, rows_by_weight};
 
 use crate::programs::own_cycles;
@@ -34,6 +34,25 @@ pub(crate) fn by_weight<A: Allocator>(
     }
 }
 
+/// Rows of a study by the weight of the program at a place.
+fn lines_of<A: Allocator, B: Allocator>(
+    alloc: B,
+    surveyed: &Surveyed<'_, A>,
+    place: usize,
+    rows: &[FrontRow],
+) -> Result<Vec<LineRow, B>, AllocError>
+    requires place { place < length surveyed.now.programs }
+    requires rows { All (Contains (all_rows surveyed.now)) rows.now }
+    ensures rows { IfOk result (λ v. v.items ≡ map (by_weight surveyed.now place) rows.now) }
+    ensures room { IfOk result (λ v. All HasRoom v.items) }
+{
+    let mut lines = Vec::with_capacity(alloc, rows.len())?;
+    for row in rows {
+        lines.push(by_weight(surveyed, place, *row))?;
+    }
+    Ok(lines)
+}
+
 /// All rows of a study by the weight of the program at a place.
 pub fn rows_by_weight<A: Allocator, B: Allocator>(
     alloc: B,
@@ -44,9 +63,19 @@ pub fn rows_by_weight<A: Allocator, B: Allocator>(
     ensures rows { IfOk result (λ v. v.items ≡ rows_by_weight surveyed.now place) }
     ensures room { IfOk result (λ v. All HasRoom v.items) }
 {
-    let mut lines = Vec::with_capacity(alloc, surveyed.rows().len())?;
-    for row in surveyed.rows() {
-        lines.push(by_weight(surveyed, place, *row))?;
-    }
-    Ok(lines)
+    lines_of(alloc, surveyed, place, surveyed.rows())
+}
+
+/// The rows of its front.
+pub(crate) fn front_by_weight<A: Allocator, B: Allocator>(
+    alloc: B,
+    surveyed: &Surveyed<'_, A>,
+    place: usize,
+) -> Result<Vec<LineRow, B>, AllocError>
+    requires { place < length surveyed.now.programs }
+    ensures rows { IfOk result (λ v. v.items ≡ map (by_weight surveyed.now place) (front_of_study surveyed.now)) }
+    ensures there { IfOk result (λ v. All (Contains (rows_by_weight surveyed.now place)) v.items) }
+    ensures room { IfOk result (λ v. All HasRoom v.items) }
+{
+    lines_of(alloc, surveyed, place, surveyed.front())
 }
