@@ -168,8 +168,8 @@ fn lists_of_any_rows_are_weighed(rt: HostRuntime) -> Result<(), Fail> {
     Ok(())
 }
 
-/// `addi x2,x4,0; lw x2,264(x0); sw x2,264(x0); lw x4,256(x0); ebreak`: on the machine below seven cycles, and eight with
-/// a second bus, since its results then go out in another order.
+/// `addi x2,x4,0; lw x2,264(x0); sw x2,264(x0); lw x4,256(x0); ebreak`: on the machine below seven cycles, and eight
+/// with a second bus, since its results then go out in another order.
 const SLOWED: [u32; 5] = [0x00020113, 0x10802103, 0x10202423, 0x10002203, 0x00100073];
 
 /// `addi x3,x0,1; lw x6,256(x0); ebreak`: six cycles, and five with a second bus.
