@@ -5,8 +5,8 @@ use Rattle.std.specs.Prelude.{◌&&◌, nat_lt, nat_le, max, min, unwrap_or}
 use Rattle.std.specs.List.{AllByRecursion}
 use Rattle.std.proofs.lemmas.Bool.{and_parts, and_right, cases_Bool, le-ltb, lt-leb, ltb-true}
 use Rattle.std.proofs.lemmas.List.{map-append, reverse-append}
-use Rattle.tomex_steps.specs.Steps.{is_in, is_number, j_of, k_of, step_dest, step_pool}
-use Rattle.tomex_steps.specs.declared.step.Operand.{Operand}
+use Rattle.tomex_rvexec.specs.Steps.{is_in, is_number, j_of, k_of, step_dest, step_pool}
+use Rattle.tomex_rvexec.specs.declared.step.Operand.{Operand}
 use Rattle.tomex_timing.specs.Tables.{busy_of, field_of, is_under_way, producer, qi_of}
 use Rattle.tomex_timing.specs.declared.tables.Tag.{Tag}
 use Rattle.tomex_timing.specs.declared.times.Done.{Done}

@@ -3,7 +3,7 @@
 ghost use Rattle.std.specs.Prelude.{◌≡◌, ◌<◌, ◌^◌, OnOk, map};
 ghost use Rattle.std.specs.List.{flat_map};
 ghost use Rattle.tomex_config.specs.Configuration.{option_of, stations_of};
-ghost use Rattle.tomex_csv_text.specs.Growth.{Appends};
+ghost use Rattle.tomex_layout.specs.Growth.{Appends};
 ghost use Rattle.tomex_animate.specs.Machine.{all_kinds, cycles_of, index, index_link, machine_row, machine_rows};
 ghost use Rattle.tomex_animate.specs.Machine.{machine_table, number_cell, shared_text};
 ghost use Rattle.tomex_frames.specs.Stations.{all_pools};

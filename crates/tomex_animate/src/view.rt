@@ -2,7 +2,7 @@
 
 ghost use Rattle.std.specs.Prelude.{◌≡◌, ◌<◌, ◌^◌, ◌++◌, All, IfSome, OnOk, length, string_bytes};
 ghost use Rattle.std.specs.List.{flat_map};
-ghost use Rattle.tomex_csv_text.specs.Growth.{Appends};
+ghost use Rattle.tomex_layout.specs.Growth.{Appends};
 ghost use Rattle.tomex_frames.specs.OnPath.{IsOfRun, at_cycle, framed_step, path_line};
 ghost use Rattle.tomex_animate.specs.Machine.{cycles_of};
 ghost use Rattle.tomex_animate.specs.Page.{frame, frame_head, links_at};

@@ -4,8 +4,8 @@ use Rattle.std.proofs.Common.{slice_index, length}
 use Rattle.std.specs.Prelude.{◌==◌, ◌≢◌, ◌&&◌, not, count_by}
 use Rattle.std.proofs.lemmas.Bool.{cases_Bool, both_ways, eq-eqb, eqb-true, and_parts, or_right}
 use Rattle.std.proofs.lemmas.List.Sums.{sum_by-cons}
-use Rattle.tomex_sets.specs.Sets.{count_below}
-use Rattle.tomex_sets.proofs.Counting.{count_none, count_one}
+use Rattle.tomex_bus.specs.Sets.{count_below}
+use Rattle.tomex_bus.proofs.Counting.{count_none, count_one}
 use Rattle.tomex_bus.specs.Picks.{Rises, is_listed}
 
 count_on : (p : ℕ → Bool) (x : ℕ) (xs : List ℕ) → p x ≡ true → count_by p (x ∷ xs) ≡ 1 + count_by p xs

@@ -4,9 +4,9 @@ use Rattle.std.proofs.Common.{sym, List, [], ◌∷◌, take, slice_index, lengt
 use Rattle.std.specs.Prelude.{◌==◌, ◌≢◌, min, count_by}
 use Rattle.std.proofs.lemmas.Bool.{cases_Bool, both_ways, eqb-true, eqb-false}
 use Rattle.std.proofs.lemmas.List.Sums.{sum_by-cons}
-use Rattle.tomex_sets.specs.Sets.{has, size_of, IsWith, IsWithout}
-use Rattle.tomex_sets.proofs.Bits.{none_in}
-use Rattle.tomex_sets.proofs.Counting.{count_single, size_none, size_with, size_without}
+use Rattle.tomex_bus.specs.Sets.{has, size_of, IsWith, IsWithout}
+use Rattle.tomex_bus.proofs.Bits.{none_in}
+use Rattle.tomex_bus.proofs.Counting.{count_single, size_none, size_with, size_without}
 use Rattle.tomex_bus.specs.Picks.{IsInIssueOrder, IsPicked, Rises, is_listed}
 use Rattle.tomex_bus.proofs.Listings.{count_all, count_listed, in_head, in_tail, none_counted, some_counted}
 

@@ -7,10 +7,10 @@ use Rattle.std.proofs.lemmas.Bool.{lt-ltb, le-ltb, cases_Bool, both_ways, ltb-tr
 use Rattle.std.proofs.lemmas.List.{get_or_append_left, get_or-append_right, get_or-drop, get_or-take, get_or-set_same}
 use Rattle.std.proofs.lemmas.List.{get_or-set_other, get_or-replicate, length-drop, length-set}
 use Rattle.std.proofs.lemmas.Nat.Bits.{bit_at_above}
-use Rattle.tomex_sets.specs.Sets.{has, IsWith, IsWithout}
+use Rattle.tomex_bus.specs.Sets.{has, IsWith, IsWithout}
 use Rattle.tomex_bus.specs.Wheel.{is_due, ring_from, IsRing, IsEmpty, IsClearTo, IsNext, HasPassed, HasPut, HasGiven}
 use Rattle.tomex_bus.specs.Wheel.{AreDue}
-use Rattle.tomex_sets.proofs.Bits.{none_in, has_none, shifted}
+use Rattle.tomex_bus.proofs.Bits.{none_in, has_none, shifted}
 
 pub fresh_ring : (sets : List ℕ) → sets ≡ replicate 64 0 → IsRing sets 0 0
 fresh_ring sets e = record {

@@ -1,2 +1,3 @@
 pub mod Picks
 pub mod Wheel
+pub mod Sets

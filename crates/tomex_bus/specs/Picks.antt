@@ -1,6 +1,6 @@
 -- Which of those that are ready are served: the oldest.
 use Rattle.std.specs.Prelude.{ℕ, Bool, true, false, ◌≡◌, ◌<◌, ◌≤◌, ◌==◌, ◌||◌, min, List, [], ◌∷◌, ⊤, slice_index}
-use Rattle.tomex_sets.specs.Sets.{has, size_of}
+use Rattle.tomex_bus.specs.Sets.{has, size_of}
 
 -- a number is in a list
 abbrev pub is_listed : List ℕ → ℕ → Bool

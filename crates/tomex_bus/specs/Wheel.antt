@@ -2,7 +2,7 @@
 -- for each of the 64 cycles ahead, the set of the numbers that are due in it.
 use Rattle.std.specs.Prelude.{ℕ, Bool, true, false, ◌≡◌, ◌<◌, ◌+◌, ◌==◌, nat_lt, ◌&&◌, ◌||◌, List}
 use Rattle.std.specs.Prelude.{◌++◌, take, drop, Option, Some, None, slice_index, length}
-use Rattle.tomex_sets.specs.Sets.{has}
+use Rattle.tomex_bus.specs.Sets.{has}
 
 -- a pair is one of them: the number is due that many cycles ahead
 abbrev pub is_due : List ℕ → ℕ → ℕ → Bool

@@ -1,10 +1,10 @@
 //! The oldest of the ready operations.
 
 ghost use Rattle.std.specs.Prelude.{ℕ, ◌≡◌, ◌≢◌, ◌<◌, ◌≤◌, true, slice_index};
-ghost use Rattle.tomex_sets.specs.Sets.{has};
+ghost use Rattle.tomex_bus.specs.Sets.{has};
 ghost use Rattle.tomex_bus.specs.Picks.{IsPicked};
 
-use tomex_sets::{is_single, lowest, with, without, without_lowest};
+use crate::sets::{is_single, lowest, with, without, without_lowest};
 
 /// The member that issued first.
 #[inline(always)]

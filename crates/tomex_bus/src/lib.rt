@@ -3,8 +3,15 @@
 //! Tests: tomex_tests_cycles.
 #![tactic(auto)]
 
+mod alone;
 mod arbiter;
+mod halves;
+mod sets;
+pub mod small;
 mod wheel;
 
 pub use arbiter::{oldest, pick};
+pub use sets::{
+    both, difference, is_single, lowest, union, with, with_if, without, without_lowest,
+};
 pub use wheel::Wheel;

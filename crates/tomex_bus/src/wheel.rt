@@ -3,8 +3,9 @@
 ghost use Rattle.std.specs.Prelude.{◌<◌, ◌≤◌};
 ghost use Rattle.tomex_bus.specs.Wheel.{AreDue, HasGiven, HasPassed, HasPut, IsClearTo, IsEmpty, IsNext, Lacks};
 
+use crate::sets::with;
+use crate::small;
 use std::marker::Model;
-use tomex_sets::{small, with};
 
 /// Numbers that are due in one of the 64 cycles ahead, the first of which is 0 ahead.
 ///

@@ -9,13 +9,13 @@ use Rattle.std.proofs.lemmas.Bool.Decides.{nat_tests}
 use Rattle.std.proofs.lemmas.List.Sorted.{IsPermutation-reverse, list_any-IsPermutation}
 use Rattle.tomex_rvdec.specs.declared.pool.UnitId.{UnitId}
 use Rattle.tomex_rvdec.specs.declared.pool.UnitId.TheVariants as units
-use Rattle.tomex_steps.specs.Steps.{step_unit}
-use Rattle.tomex_steps.specs.declared.step.Step.{Step}
+use Rattle.tomex_rvexec.specs.Steps.{step_unit}
+use Rattle.tomex_rvexec.specs.declared.step.Step.{Step}
 use Rattle.tomex_config.specs.Configuration.{Configuration, IsWithinLimits, is_between, with_width}
 use Rattle.tomex_floor.specs.Floor.{floor_address, floor_from, floor_issue, floor_of, floor_times, floors_by_width}
 use Rattle.tomex_floor.specs.Floor.{floors_of, latency_of}
 use Rattle.tomex_floor.proofs.Above.{floor_is_bound}
-use Rattle.tomex_row_runs.proofs.Totals.{total_within}
+use Rattle.tomex_plateaus.proofs.Totals.{total_within}
 use Rattle.tomex_study.proofs.Bounds.{total_bound}
 use Rattle.tomex_study.specs.Program.{IsProgram, Workload}
 use Rattle.tomex_timing.specs.History.{greatest_end, is_of}

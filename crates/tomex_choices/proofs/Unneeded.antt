@@ -2,7 +2,7 @@
 use Rattle.std.proofs.Common.{◌≡◌, ◌≤◌, arith, sym, ◌∙◌, inl, inr}
 use Rattle.std.proofs.lemmas.List.Elements.{All-contains}
 use Rattle.tomex_config.specs.Configuration.{Configuration, IsWithinLimits}
-use Rattle.tomex_row_runs.proofs.Totals.{total_within}
+use Rattle.tomex_plateaus.proofs.Totals.{total_within}
 use Rattle.tomex_study.specs.Program.{IsProgram, Workload}
 use Rattle.tomex_study.specs.Study.{DesignSpace, IsStudy}
 use Rattle.tomex_timing.proofs.Histories.{are_timed}

@@ -15,7 +15,7 @@ use crate::found::ListFound;
 use crate::new_machine::NewMachine;
 use std::alloc::{AllocError, Allocator};
 use tomex_config::{Config, cost};
-use tomex_row_runs::Knowledge;
+use tomex_plateaus::Knowledge;
 use tomex_study::Study;
 use tomex_survey::cycles_by_weight;
 use tomex_timing::Part;

@@ -15,7 +15,7 @@ use rayon::prelude::*;
 use std::alloc::{AllocError, Allocator};
 use std::thread::Threads;
 use tomex_config::Config;
-use tomex_row_runs::Knowledge;
+use tomex_plateaus::Knowledge;
 use tomex_study::{Gate, Study};
 use tomex_survey::{Stretch, stretches, totals_on_row};
 

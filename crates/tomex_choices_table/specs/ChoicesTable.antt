@@ -5,7 +5,7 @@ use Rattle.std.specs.List.{flat_map}
 use Rattle.std.specs.Fmt.{decimal}
 use Rattle.tomex_config.specs.Configuration.{Configuration}
 use Rattle.tomex_study.specs.Study.{DesignSpace}
-use Rattle.tomex_tables.specs.Table.{TableColumn, table_of}
+use Rattle.tomex_layout.specs.Table.{TableColumn, table_of}
 use Rattle.tomex_timing.specs.Needs.{all_parts}
 use Rattle.tomex_timing.specs.declared.part.Part.{Part}
 use Rattle.tomex_worth.specs.Differences.{percent}

@@ -2,7 +2,7 @@
 
 ghost use Rattle.std.specs.Prelude.{◌≡◌, ◌++◌, map, IfOk, OnOk, string_bytes};
 ghost use Rattle.std.specs.List.{flat_map};
-ghost use Rattle.tomex_csv_text.specs.Growth.{Appends};
+ghost use Rattle.tomex_layout.specs.Growth.{Appends};
 ghost use Rattle.tomex_choices_table.specs.ChoicesTable.{after_comma, cost_cell, enough_cell, entries_cell};
 ghost use Rattle.tomex_choices_table.specs.ChoicesTable.{percent_cell};
 

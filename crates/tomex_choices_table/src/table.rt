@@ -1,7 +1,7 @@
 //! The table of a study's lists.
 
 ghost use Rattle.std.specs.Prelude.{◌≡◌, ◌<◌, ◌++◌, map, IfOk, OnOk, string_bytes};
-ghost use Rattle.tomex_csv_text.specs.Growth.{Appends};
+ghost use Rattle.tomex_layout.specs.Growth.{Appends};
 ghost use Rattle.tomex_choices.specs.Floors.{any_width, fastest, study_floor};
 ghost use Rattle.tomex_choices_table.specs.ChoicesTable.{all_headings, both_floors, choices_table_of, floor_text};
 ghost use Rattle.tomex_choices_table.specs.ChoicesTable.{floors_text, heading_column, text_under};
@@ -12,7 +12,7 @@ use crate::heading::Heading;
 use std::alloc::{AllocError, Allocator, Global};
 use std::fmt::Write;
 use tomex_choices::{WeighedChoices, fastest, front_choices, unused};
-use tomex_tables::{Column, table_of};
+use tomex_layout::{Column, table_of};
 use tomex_timing::Part;
 use tomex_worth::{push_name_of_list, push_percent};
 

@@ -11,7 +11,7 @@ use Rattle.std.proofs.lemmas.Option.{slice_get_past}
 use Rattle.tomex_config.specs.Configuration.{Configuration}
 use Rattle.tomex_study.specs.Program.{Workload}
 use Rattle.tomex_study.specs.Study.{DesignSpace}
-use Rattle.tomex_study_reader.specs.Study.{AreProgramsOf}
+use Rattle.tomex_document.specs.Study.{AreProgramsOf}
 use Rattle.tomex_document.specs.Program.{ProgramEntry}
 use Rattle.tomex_streams.specs.Files.{Known}
 use Rattle.tomex_command.specs.Chosen.{IsUnchosen}

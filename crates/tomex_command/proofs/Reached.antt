@@ -9,8 +9,8 @@ use Rattle.tomex_cycle.specs.declared.progress.Progress.TheVariants.{Running}
 use Rattle.tomex_timing.specs.Run.{run_of, total}
 use Rattle.tomex_cycle.specs.Seen.{Seen, seen_after}
 use Rattle.tomex_study.specs.Program.{Workload, IsProgram}
-use Rattle.tomex_row_runs.proofs.Machines.{Advances, advanced_from}
-use Rattle.tomex_row_runs.proofs.Totals.{ends_at_most}
+use Rattle.tomex_sweep.proofs.Machines.{Advances, advanced_from}
+use Rattle.tomex_plateaus.proofs.Totals.{ends_at_most}
 use Rattle.tomex_texts.specs.TablesText.{tables_text_of}
 use Rattle.tomex_command.specs.TablesLines.{IsTextAfter}
 

@@ -9,7 +9,7 @@ use Rattle.tomex_command.specs.declared.failure.Failure.TheVariants.{NoSuchRefus
 use Rattle.tomex_arguments.specs.declared.fault.LineFault.{LineFault}
 use Rattle.tomex_arguments.specs.declared.fault.LineFault.TheVariants.{Help, Usage}
 use Rattle.tomex_arguments.specs.declared.fault.LineFault.TheVariants as faults
-use Rattle.tomex_csv_text.specs.Names.{shown_name}
+use Rattle.tomex_layout.specs.Names.{shown_name}
 use Rattle.tomex_streams.specs.Sinks.{Seen, IsWhole, IsCut, IsWritten}
 use Rattle.tomex_command.specs.Statuses.{status_of_failure}
 

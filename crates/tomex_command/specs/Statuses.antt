@@ -17,7 +17,7 @@ use Rattle.tomex_run_views.specs.declared.excerpt_error.ExcerptError.{ExcerptErr
 use Rattle.tomex_run_views.specs.declared.excerpt_error.ExcerptError.TheVariants as excerpts
 use Rattle.tomex_run_views.specs.declared.picture_error.PictureError.{PictureError}
 use Rattle.tomex_run_views.specs.declared.picture_error.PictureError.TheVariants as pictures
-use Rattle.tomex_study_reader.specs.declared.error.StudyError.TheVariants as studies
+use Rattle.tomex_document.specs.declared.error.StudyError.TheVariants as studies
 use Rattle.tomex_command.specs.declared.run.RunRefusal.TheVariants as refusals
 use Rattle.tomex_command.specs.declared.failure.Failure.{Failure}
 use Rattle.tomex_command.specs.declared.failure.Failure.TheVariants.{BadWindow, Run, Study, NoSuchRow}

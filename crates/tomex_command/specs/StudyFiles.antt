@@ -2,10 +2,10 @@
 use Rattle.std.specs.Prelude.{◌≡◌, ◌≢◌, ◌⊎◌, ℕ, List, Ok, string_bytes}
 use Rattle.tomex_study.specs.Study.{DesignSpace}
 use Rattle.tomex_document.specs.Document.{file_names_of}
-use Rattle.tomex_study_reader.specs.Refusals.{IsDocumentRefusal}
-use Rattle.tomex_study_reader.specs.Study.{IsStudyOf, IsStudyRefusal}
-use Rattle.tomex_study_reader.specs.declared.error.StudyError.{StudyError}
-use Rattle.tomex_study_reader.specs.declared.error.StudyError.TheVariants as studies
+use Rattle.tomex_document.specs.Refusals.{IsDocumentRefusal}
+use Rattle.tomex_document.specs.Study.{IsStudyOf, IsStudyRefusal}
+use Rattle.tomex_document.specs.declared.error.StudyError.{StudyError}
+use Rattle.tomex_document.specs.declared.error.StudyError.TheVariants as studies
 use Rattle.tomex_command.specs.declared.failure.Failure.{Failure}
 use Rattle.tomex_command.specs.declared.failure.Failure.TheVariants.{CannotRead, Study, Memory}
 use Rattle.tomex_command.specs.Reading.{IsUnread, AreRead, IsFirstMissing}

@@ -8,7 +8,7 @@ ghost use Rattle.tomex_command.specs.Reporting.{line_of};
 use crate::failure::Failure;
 use std::alloc::{AllocError, Global};
 use tomex_arguments::LineFault;
-use tomex_csv_text::shown_name;
+use tomex_layout::shown_name;
 use tomex_streams::{Sink, write_all_of};
 
 /// Writes a text as far as the sink takes it.

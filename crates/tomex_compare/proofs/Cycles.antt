@@ -1,7 +1,7 @@
 -- A program takes a cycle at least.
 use Rattle.std.proofs.Common.{◌<◌, ◌≤◌, arith, ℕ, zero, suc, List, [], ◌∷◌, length, Option, subst, sym}
 use Rattle.tomex_image.specs.Image.{Loaded}
-use Rattle.tomex_steps.specs.declared.step.Step.{Step}
+use Rattle.tomex_rvexec.specs.declared.step.Step.{Step}
 use Rattle.tomex_config.specs.Configuration.{Configuration, IsWithinLimits}
 use Rattle.tomex_rvexec.specs.Machine.{State, step_of}
 use Rattle.tomex_rvexec.specs.Run.{EndsWithin, Leads, most_steps, start_of}

@@ -11,8 +11,8 @@ use crate::build::Build;
 use crate::extremes::{RowCycles, best_row, worst_row};
 use std::alloc::{AllocError, Allocator, Global};
 use std::marker::Model;
+use tomex_layout::{Column, table_of};
 use tomex_study::Surveyed;
-use tomex_tables::{Column, table_of};
 use tomex_worth::push_percent;
 
 /// A column's heading: which property of a build it shows.

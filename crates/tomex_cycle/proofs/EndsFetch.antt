@@ -69,7 +69,7 @@ no_older i t u v x (d ∷ older) few all l high e =
 
 producer_none : (t r : ℕ) (h : List Done) → writer_end h r ≤ t → producer t h r ≡ None
 producer_none t r [] l = refl
-producer_none t r (d ∷ older) l = elim (cases_Bool (is_number (Rattle.tomex_steps.specs.Steps.step_dest d.step) r)) [
+producer_none t r (d ∷ older) l = elim (cases_Bool (is_number (Rattle.tomex_rvexec.specs.Steps.step_dest d.step) r)) [
   | inl e ↦ let k : d.at.end ≤ t = rw e at l in rw (e, le-ltb t d.at.end k) refl
   | inr e ↦ rw e (producer_none t r older (rw e at l))
 ]

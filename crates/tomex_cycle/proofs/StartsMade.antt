@@ -13,7 +13,7 @@ use Rattle.tomex_cycle.proofs.Words.{ShowsMemory, clocks, holds_place, station_a
 use Rattle.tomex_cycle.proofs.Words.{value_in, Station, lt-ltb, ℕ, ◌+◌, ◌<◌, ◌≤◌, ◌≡◌, ◌∙◌, true, arith, refl, List, []}
 use Rattle.tomex_cycle.proofs.Words.{◌∷◌, ◌++◌, Option, Some, None, inl, inr, length, append_assoc, ◌-◌, false, ap, sym}
 use Rattle.tomex_cycle.proofs.Words.{end_at, same_result}
-use Rattle.tomex_steps.specs.Results.{is_among}
+use Rattle.tomex_rvexec.specs.Results.{is_among}
 use Rattle.tomex_cycle.proofs.Runs.{reach, can_start_then, store_unit}
 use Rattle.tomex_cycle.proofs.Places.{older_up_to, part_up_to}
 use Rattle.tomex_cycle.specs.Starts.{finish_from}

@@ -23,15 +23,15 @@ pub use Rattle.tomex_rvdec.specs.declared.op.Op.{Op}
 pub use Rattle.tomex_rvdec.specs.declared.pool.PoolId.{PoolId}
 pub use Rattle.tomex_rvdec.specs.declared.pool.UnitId.{UnitId}
 pub use Rattle.tomex_image.specs.Image.{Loaded, IsLoaded}
-pub use Rattle.tomex_steps.proofs.Fields.{dest_needs_pool, unit_with_pool, bytes_of_op, bytes_of_memory}
-pub use Rattle.tomex_steps.specs.Access.{IsInside, HasStored}
-pub use Rattle.tomex_steps.specs.Memory.{Bytes}
-pub use Rattle.tomex_steps.specs.Results.{byte_in, covers, next_pc_of, overwrites, result_of, stored_byte}
-pub use Rattle.tomex_steps.specs.Steps.{address_of, bytes_of, is_branch, is_in, is_number, is_store, j_of, k_of}
-pub use Rattle.tomex_steps.specs.Steps.{operand, step_dest, step_pool, step_unit, bytes_at, shares_byte}
-pub use Rattle.tomex_steps.specs.declared.step.ByteRange.{ByteRange}
-pub use Rattle.tomex_steps.specs.declared.step.Operand.{Operand}
-pub use Rattle.tomex_steps.specs.declared.step.Step.{Step}
+pub use Rattle.tomex_rvexec.proofs.Fields.{dest_needs_pool, unit_with_pool, bytes_of_op, bytes_of_memory}
+pub use Rattle.tomex_rvexec.specs.Access.{IsInside, HasStored}
+pub use Rattle.tomex_rvexec.specs.Memory.{Bytes}
+pub use Rattle.tomex_rvexec.specs.Results.{byte_in, covers, next_pc_of, overwrites, result_of, stored_byte}
+pub use Rattle.tomex_rvexec.specs.Steps.{address_of, bytes_of, is_branch, is_in, is_number, is_store, j_of, k_of}
+pub use Rattle.tomex_rvexec.specs.Steps.{operand, step_dest, step_pool, step_unit, bytes_at, shares_byte}
+pub use Rattle.tomex_rvexec.specs.declared.step.ByteRange.{ByteRange}
+pub use Rattle.tomex_rvexec.specs.declared.step.Operand.{Operand}
+pub use Rattle.tomex_rvexec.specs.declared.step.Step.{Step}
 pub use Rattle.tomex_rvexec.proofs.FlowEnds.{step_ends_it, step_follows, step_goes_on, step_joins, step_comes}
 pub use Rattle.tomex_rvexec.proofs.FlowEnds.{steps_to_end, end_is}
 pub use Rattle.tomex_rvexec.proofs.FlowHistories.{unread_j, unread_k, same_registers, same_memory}
@@ -64,10 +64,10 @@ pub use Rattle.tomex_timing.specs.declared.tables.Field.TheVariants.{Unread, Val
 pub use Rattle.tomex_timing.specs.declared.tables.Tag.{Tag}
 pub use Rattle.tomex_timing.specs.declared.times.Done.{Done}
 pub use Rattle.tomex_timing.specs.declared.times.Times.{Times}
-pub use Rattle.tomex_sets.proofs.Bits.{has_one, none_in, agreed, member_some}
-pub use Rattle.tomex_sets.proofs.Members.{AreFrom, all_left, inside_left, least_from, least_in, left_from, none_after}
-pub use Rattle.tomex_sets.proofs.Members.{none_between, skip_to, none_rest}
-pub use Rattle.tomex_sets.specs.Sets.{IsWithout, has, IsWith}
+pub use Rattle.tomex_bus.proofs.Bits.{has_one, none_in, agreed, member_some}
+pub use Rattle.tomex_bus.proofs.Members.{AreFrom, all_left, inside_left, least_from, least_in, left_from, none_after}
+pub use Rattle.tomex_bus.proofs.Members.{none_between, skip_to, none_rest}
+pub use Rattle.tomex_bus.specs.Sets.{IsWithout, has, IsWith}
 pub use Rattle.tomex_bus.proofs.Picking.{none_picked, single_picked, first_picked}
 pub use Rattle.tomex_bus.specs.Picks.{IsInIssueOrder, IsPicked, Rises, is_listed}
 pub use Rattle.tomex_bus.specs.Wheel.{is_due, AreDue, HasPut, IsEmpty, Lacks, HasPassed, IsClearTo, IsNext}

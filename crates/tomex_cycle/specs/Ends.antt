@@ -2,10 +2,10 @@
 use Rattle.std.specs.Prelude.{◌≡◌, ◌≤◌, ℕ, ◌<◌, nat_le, nat_lt, Bool, true, false, ◌&&◌, ◌||◌, if◌then◌else◌, not}
 use Rattle.std.specs.Prelude.{List, Option, Some, None, is_some, length, slice_index, slice_index_or, option_map}
 use Rattle.tomex_rvdec.specs.Operands.{dest_of}
-use Rattle.tomex_steps.specs.Results.{next_pc_of}
-use Rattle.tomex_steps.specs.Steps.{is_number}
+use Rattle.tomex_rvexec.specs.Results.{next_pc_of}
+use Rattle.tomex_rvexec.specs.Steps.{is_number}
 use Rattle.tomex_timing.specs.Tables.{field_from}
-use Rattle.tomex_sets.specs.Sets.{has}
+use Rattle.tomex_bus.specs.Sets.{has}
 use Rattle.tomex_bus.specs.Picks.{IsPicked}
 use Rattle.tomex_membuf.specs.Order.{is_finished_before}
 use Rattle.tomex_tags.specs.Contents.{hears, slot, step_in}

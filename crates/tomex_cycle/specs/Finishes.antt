@@ -2,7 +2,7 @@
 use Rattle.std.specs.Prelude.{ℕ, Bool, true, false, not, is_some, ◌≡◌, ◌≤◌, ◌<◌, ◌+◌, ◌&&◌}
 use Rattle.std.specs.Prelude.{◌⊎◌, List, Option, Some, None, length, slice_index_or}
 use Rattle.tomex_rvdec.specs.Operands.{dest_of}
-use Rattle.tomex_sets.specs.Sets.{has}
+use Rattle.tomex_bus.specs.Sets.{has}
 use Rattle.tomex_bus.specs.Wheel.{is_due}
 use Rattle.tomex_tags.specs.WaitSets.{writes}
 use Rattle.tomex_tags.specs.declared.station.Station.{Station}

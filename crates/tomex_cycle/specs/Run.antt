@@ -2,9 +2,9 @@
 use Rattle.std.specs.Prelude.{◌≡◌, ℕ, ◌+◌, ◌<◌, ◌≤◌, nat_le, ◌&&◌, if◌then◌else◌, List, [], ◌∷◌, None, ⊤}
 use Rattle.tomex_image.specs.Image.{Loaded, IsLoaded}
 use Rattle.tomex_rvexec.specs.declared.outcome.EndKind.{EndKind}
-use Rattle.tomex_steps.specs.declared.step.Step.{Step}
+use Rattle.tomex_rvexec.specs.declared.step.Step.{Step}
 use Rattle.tomex_rvexec.specs.Flow.{IsAllowed, end_of}
-use Rattle.tomex_steps.specs.Results.{byte_in, overwrites, stored_byte}
+use Rattle.tomex_rvexec.specs.Results.{byte_in, overwrites, stored_byte}
 use Rattle.tomex_rvexec.specs.History.{Follows, history as first_steps}
 use Rattle.tomex_rvexec.specs.Machine.{State}
 use Rattle.tomex_rvexec.specs.Run.{EndsWithin, RunEnds, most_steps}

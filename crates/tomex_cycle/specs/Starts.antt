@@ -7,12 +7,12 @@ use Rattle.tomex_rvdec.specs.Parts.{place_of_unit}
 use Rattle.tomex_rvdec.specs.declared.pool.UnitId.{UnitId}
 use Rattle.tomex_rvexec.specs.declared.outcome.Fault.{Fault}
 use Rattle.tomex_rvexec.specs.declared.outcome.FaultKind.TheVariants.{Access}
-use Rattle.tomex_steps.specs.Access.{IsInside}
-use Rattle.tomex_steps.specs.Results.{byte_in, overwrites, result_of, stored_byte}
-use Rattle.tomex_steps.specs.Memory.{Bytes}
-use Rattle.tomex_steps.specs.Steps.{is_number}
+use Rattle.tomex_rvexec.specs.Access.{IsInside}
+use Rattle.tomex_rvexec.specs.Results.{byte_in, overwrites, result_of, stored_byte}
+use Rattle.tomex_rvexec.specs.Memory.{Bytes}
+use Rattle.tomex_rvexec.specs.Steps.{is_number}
 use Rattle.tomex_config.specs.Configuration.{Configuration, option_of}
-use Rattle.tomex_sets.specs.Sets.{has}
+use Rattle.tomex_bus.specs.Sets.{has}
 use Rattle.tomex_bus.specs.Picks.{IsInIssueOrder, IsPicked}
 use Rattle.tomex_tags.specs.Contents.{is_waiting, slot, step_in}
 use Rattle.tomex_tags.specs.Pools.{Pools}

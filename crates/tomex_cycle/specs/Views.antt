@@ -4,12 +4,12 @@ use Rattle.std.specs.Prelude.{◌++◌, Option, Some, None, slice_index, slice_i
 use Rattle.tomex_image.specs.Image.{Loaded}
 use Rattle.tomex_rvexec.specs.declared.outcome.EndKind.{EndKind}
 use Rattle.tomex_rvexec.specs.declared.outcome.EndKind.TheVariants.{Ebreak}
-use Rattle.tomex_steps.specs.declared.step.Step.{Step}
+use Rattle.tomex_rvexec.specs.declared.step.Step.{Step}
 use Rattle.tomex_rvexec.specs.Flow.{end_of}
-use Rattle.tomex_steps.specs.Results.{byte_in, next_pc_of, result_of}
+use Rattle.tomex_rvexec.specs.Results.{byte_in, next_pc_of, result_of}
 use Rattle.tomex_rvexec.specs.History.{byte_after, register_after}
-use Rattle.tomex_steps.specs.Memory.{Bytes}
-use Rattle.tomex_steps.specs.Steps.{address_of, is_branch, is_number, j_of, k_of, step_dest}
+use Rattle.tomex_rvexec.specs.Memory.{Bytes}
+use Rattle.tomex_rvexec.specs.Steps.{address_of, is_branch, is_number, j_of, k_of, step_dest}
 use Rattle.tomex_timing.specs.declared.times.Done.{Done}
 use Rattle.tomex_timing.specs.History.{cycle_of, is_memory}
 use Rattle.tomex_timing.specs.Tables.{field_of, producer, tag_of}

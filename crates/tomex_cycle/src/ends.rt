@@ -10,10 +10,9 @@ ghost use Rattle.tomex_tags.specs.Contents.{slot};
 
 use crate::fetch::Fetch;
 use crate::finishes::Finishes;
-use tomex_bus::pick;
+use tomex_bus::{both, difference, lowest, pick, union, without_lowest};
 use tomex_rvdec::UnitId;
 use tomex_rvexec::next_pc;
-use tomex_sets::{both, difference, lowest, union, without_lowest};
 use tomex_tags::{Pools, RegStatus, Station, broadcast, places_served_by};
 
 /// The operations that finish and the instructions that end in a cycle.

@@ -1,9 +1,9 @@
 //! The source of the next instruction.
 
 ghost use Rattle.std.specs.Prelude.{◌≡◌};
-ghost use Rattle.tomex_steps.specs.declared.step.Step.{Step};
+ghost use Rattle.tomex_rvexec.specs.declared.step.Step.{Step};
 ghost use Rattle.tomex_rvexec.specs.Flow.{end_of};
-ghost use Rattle.tomex_steps.specs.Steps.{is_branch};
+ghost use Rattle.tomex_rvexec.specs.Steps.{is_branch};
 ghost use Rattle.tomex_cycle.specs.Views.{stop_of, fetch_after};
 
 use tomex_rvdec::{Instr, Op};

@@ -1,12 +1,11 @@
 //! The cycles in which the operations of the busy stations finish.
 
 ghost use Rattle.std.specs.Prelude.{ℕ, ◌≡◌, ◌<◌, ◌^◌, ◌&&◌, ◌||◌, not};
-ghost use Rattle.tomex_sets.specs.Sets.{has};
+ghost use Rattle.tomex_bus.specs.Sets.{has};
 ghost use Rattle.tomex_bus.specs.Wheel.{IsEmpty};
 ghost use Rattle.tomex_cycle.specs.Finishes.{HaveTurned};
 
-use tomex_bus::Wheel;
-use tomex_sets::{difference, union};
+use tomex_bus::{Wheel, difference, union};
 
 /// The coming finishes, and the results that wait for a common data bus.
 #[derive(Drop)]

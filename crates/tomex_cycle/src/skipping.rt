@@ -6,10 +6,10 @@ ghost use Rattle.tomex_cycle.specs.Finishes.{AreResults, CanSkip, IsSkipped, IsT
 use crate::finishes::Finishes;
 use crate::inner::{Inner, Making};
 use std::alloc::Allocator;
+use tomex_bus::difference;
 use tomex_config::Config;
 use tomex_rvdec::UnitId;
 use tomex_rvexec::Fetcher;
-use tomex_sets::difference;
 use tomex_tags::{Pools, places_served_by};
 
 /// The number of cycles that can be skipped before the next finish, which is `ahead` cycles away if there is one; at

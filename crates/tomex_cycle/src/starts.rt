@@ -2,14 +2,14 @@
 
 ghost use Rattle.std.specs.Prelude.{ℕ, ◌≡◌, ◌≢◌, ◌<◌, ◌≤◌, ◌+◌, ◌-◌, ◌/◌, ◌^◌, IfSome};
 ghost use Rattle.std.specs.Prelude.{IsSome, None, Some, slice_set, true, ◌||◌};
-ghost use Rattle.tomex_sets.specs.Sets.{has};
+ghost use Rattle.tomex_bus.specs.Sets.{has};
 ghost use Rattle.tomex_tags.specs.Contents.{slot, with_start, step_in};
 ghost use Rattle.tomex_tags.specs.Places.{pool_at};
 ghost use Rattle.tomex_tags.specs.Pools.{AreBusy};
 ghost use Rattle.tomex_tags.specs.WaitSets.{IsSetOf, waits_for};
 ghost use Rattle.tomex_rvdec.specs.Operands.{pool_of, unit_of, unit_of_pool};
-ghost use Rattle.tomex_steps.specs.Access.{HasStored, IsInside};
-ghost use Rattle.tomex_steps.specs.Results.{byte_in, result_of};
+ghost use Rattle.tomex_rvexec.specs.Access.{HasStored, IsInside};
+ghost use Rattle.tomex_rvexec.specs.Results.{byte_in, result_of};
 ghost use Rattle.tomex_cycle.specs.Finishes.{IsTimetableOf};
 ghost use Rattle.tomex_cycle.specs.Starts.{AllWaitFor, AreStartableFor, CanBegin, IsAccessFault, IsStarting, IsWanted};
 ghost use Rattle.tomex_cycle.specs.Starts.{PerformsStores, StartsAll, StartsWithoutFault, access_fault};
@@ -17,12 +17,11 @@ ghost use Rattle.tomex_cycle.specs.Starts.{station_after_start};
 
 use crate::finishes::Finishes;
 use std::alloc::Allocator;
-use tomex_bus::pick;
+use tomex_bus::{both, is_single, lowest, pick, union, with, without_lowest};
 use tomex_config::Config;
 use tomex_membuf::{is_alone, may_access, read, write as write_bytes};
 use tomex_rvdec::{PoolId, UnitId};
 use tomex_rvexec::{Fault, FaultKind, Memory};
-use tomex_sets::{both, is_single, lowest, union, with, without_lowest};
 use tomex_tags::{Pools, Station, unit};
 
 /// True if no older access blocks the one in a place, which otherwise waits only for a port.

@@ -4,3 +4,4 @@ mod Outlines
 pub mod Options
 pub mod Gridded
 pub mod Counted
+pub mod Studies

@@ -5,3 +5,5 @@ pub mod Axes
 pub mod Units
 pub mod Document
 pub mod Grid
+pub mod Refusals
+pub mod Study

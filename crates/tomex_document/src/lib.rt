@@ -4,5 +4,11 @@
 #![tactic(auto)]
 
 mod document;
+mod error;
+mod names;
+mod study;
 
 pub use document::{Entry, Outline, document_of, documents_have_a_grid};
+pub use error::StudyError;
+pub use names::file_names;
+pub use study::read_study;

@@ -8,7 +8,7 @@ use Rattle.std.specs.Str.{bytes_eq}
 use Rattle.tomex_study.specs.Study.{DesignSpace, config_at}
 use Rattle.tomex_front_views.specs.FrontTable.{all_settings, differs, name_of_setting, setting_of}
 use Rattle.tomex_front_views.specs.declared.table.heading.Setting.{Setting}
-use Rattle.tomex_tables.specs.Table.{TableColumn, table_of}
+use Rattle.tomex_layout.specs.Table.{TableColumn, table_of}
 use Rattle.tomex_find.specs.declared.finding.FindError.{FindError}
 use Rattle.tomex_find.specs.declared.finding.FindError.TheVariants.{NoSuchChoice, NoSuchRow, Memory}
 use Rattle.tomex_find.specs.declared.property.Property.{Property}

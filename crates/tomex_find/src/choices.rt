@@ -2,7 +2,7 @@
 //! only memory for the choices that are compared.
 
 ghost use Rattle.std.specs.Prelude.{◌≡◌, ◌<◌, length, map, IfOk, OnOk, string_bytes};
-ghost use Rattle.tomex_csv_text.specs.Growth.{Appends};
+ghost use Rattle.tomex_layout.specs.Growth.{Appends};
 ghost use Rattle.tomex_find.specs.Find.{choice_text, has_all, has_choice, is_choice, is_had, is_of_setting};
 
 use crate::property::Property;

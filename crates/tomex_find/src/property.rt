@@ -1,7 +1,7 @@
 //! What a configuration may be chosen by.
 
 ghost use Rattle.std.specs.Prelude.{◌≡◌, ◌<◌, length, OnOk};
-ghost use Rattle.tomex_csv_text.specs.Growth.{Appends};
+ghost use Rattle.tomex_layout.specs.Growth.{Appends};
 ghost use Rattle.tomex_find.specs.Find.{name_of, value_of};
 
 use std::alloc::{AllocError, Allocator};

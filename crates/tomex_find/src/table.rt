@@ -8,8 +8,8 @@ ghost use Rattle.tomex_find.specs.Find.{column_of, columns_of, rows_table_of, se
 use crate::property::Property;
 use std::alloc::{AllocError, Allocator, Global};
 use tomex_front_views::Setting;
+use tomex_layout::{Column, table_of};
 use tomex_study::Study;
-use tomex_tables::{Column, table_of};
 
 /// The column of a property.
 #[tactic(auto, unfolding(crate::specs::Find::column_of))]

@@ -6,8 +6,8 @@ use Rattle.std.specs.Prelude.{Option, Some}
 use Rattle.std.specs.Prelude.{None, is_some, map, max, reverse}
 use Rattle.tomex_rvdec.specs.declared.pool.UnitId.{UnitId}
 use Rattle.tomex_rvdec.specs.declared.pool.UnitId.TheVariants.{Alu, Mul, Div, Mem, Bru}
-use Rattle.tomex_steps.specs.Steps.{step_unit, step_dest, j_of, k_of, is_branch}
-use Rattle.tomex_steps.specs.declared.step.Step.{Step}
+use Rattle.tomex_rvexec.specs.Steps.{step_unit, step_dest, j_of, k_of, is_branch}
+use Rattle.tomex_rvexec.specs.declared.step.Step.{Step}
 use Rattle.tomex_config.specs.Configuration.{Configuration, option_of}
 use Rattle.tomex_config.specs.declared.config.UnitOption.{UnitOption}
 use Rattle.tomex_timing.specs.declared.times.Done.{Done}

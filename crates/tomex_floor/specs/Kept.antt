@@ -7,9 +7,9 @@ use Rattle.std.specs.Prelude.{slice_index_or}
 use Rattle.std.specs.Prelude.{length, unwrap_or}
 use Rattle.std.specs.HashMap.{HashMap, get}
 use Rattle.tomex_rvdec.specs.declared.pool.UnitId.{UnitId}
-use Rattle.tomex_steps.specs.Steps.{bytes_of, is_branch, is_store}
-use Rattle.tomex_steps.specs.declared.step.ByteRange.{ByteRange}
-use Rattle.tomex_steps.specs.declared.step.Step.{Step}
+use Rattle.tomex_rvexec.specs.Steps.{bytes_of, is_branch, is_store}
+use Rattle.tomex_rvexec.specs.declared.step.ByteRange.{ByteRange}
+use Rattle.tomex_rvexec.specs.declared.step.Step.{Step}
 use Rattle.tomex_timing.specs.declared.times.Done.{Done}
 use Rattle.tomex_timing.specs.declared.times.Times.{Times}
 use Rattle.tomex_timing.specs.History.{cycle_of, writer_end, last_address, greatest_end}

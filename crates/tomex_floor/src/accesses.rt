@@ -4,7 +4,7 @@ ghost use Rattle.std.specs.Prelude.{◌≡◌, ◌≢◌, ◌<◌, ◌+◌, ◌^
 ghost use Rattle.std.specs.Prelude.{slice_index};
 ghost use Rattle.std.specs.HashMap.{IsEmpty};
 ghost use Rattle.tomex_rvdec.specs.declared.pool.UnitId.{UnitId};
-ghost use Rattle.tomex_steps.specs.declared.step.Step.{Step};
+ghost use Rattle.tomex_rvexec.specs.declared.step.Step.{Step};
 ghost use Rattle.tomex_timing.specs.declared.times.Done.{Done};
 ghost use Rattle.tomex_timing.specs.Recurrence.{conflicts};
 ghost use Rattle.tomex_floor.specs.Floor.{last_finish};

@@ -1,7 +1,7 @@
 //! The latest of each kind of cycle so far, for one issue width.
 
 ghost use Rattle.std.specs.Prelude.{◌≡◌, ◌<◌, ◌≤◌, ◌^◌, List, [], Option, IfSome};
-ghost use Rattle.tomex_steps.specs.declared.step.Operand.{Operand};
+ghost use Rattle.tomex_rvexec.specs.declared.step.Operand.{Operand};
 ghost use Rattle.tomex_timing.specs.declared.times.Done.{Done};
 ghost use Rattle.tomex_timing.specs.History.{source_end};
 ghost use Rattle.tomex_timing.specs.Recent.{register_of};

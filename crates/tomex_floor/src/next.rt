@@ -1,7 +1,7 @@
 //! The floor's times of the next step, given what is kept of the earlier steps.
 
 ghost use Rattle.std.specs.Prelude.{◌≡◌, ◌<◌, ◌≤◌, ◌+◌, ◌^◌, List};
-ghost use Rattle.tomex_steps.specs.declared.step.Step.{Step};
+ghost use Rattle.tomex_rvexec.specs.declared.step.Step.{Step};
 ghost use Rattle.tomex_timing.specs.declared.times.Done.{Done};
 ghost use Rattle.tomex_timing.specs.History.{cycle_of};
 ghost use Rattle.tomex_timing.specs.Recurrence.{conflicts};

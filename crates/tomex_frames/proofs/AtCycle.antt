@@ -6,7 +6,7 @@ use Rattle.std.specs.List.{AllByRecursion, Contains, find}
 use Rattle.std.proofs.lemmas.Bool.{and_right, cases_lt, eq-eqb, le-leb, lt-leb, ltb-true, ne_eqb}
 use Rattle.std.proofs.lemmas.List.Elements.{recursion_from_All}
 use Rattle.std.proofs.lemmas.Option.{get_or_from_slice_get, slice_get_within}
-use Rattle.tomex_steps.specs.Steps.{is_number}
+use Rattle.tomex_rvexec.specs.Steps.{is_number}
 use Rattle.tomex_path.specs.declared.link.Link.{Link}
 use Rattle.tomex_path.specs.Laws.{IsChain, StepsRise}
 use Rattle.tomex_frames.specs.OnPath.{at_cycle, framed_step, with_before}

@@ -6,8 +6,8 @@ use Rattle.std.specs.List.{filter, range_with_len}
 use Rattle.std.proofs.lemmas.Bool.{and_parts, and_right, cases_lt, eq-eqb, eqb-true, le-leb, leb-true, lt-leb, or_cases}
 use Rattle.std.proofs.lemmas.List.Elements.{All-contains, All-from_recursion, All-weaker, recursion_from_All}
 use Rattle.std.proofs.lemmas.List.Sums.{sum_by-cons}
-use Rattle.tomex_steps.specs.Steps.{is_number, step_dest, step_unit}
-use Rattle.tomex_steps.specs.declared.step.Step.{Step}
+use Rattle.tomex_rvexec.specs.Steps.{is_number, step_dest, step_unit}
+use Rattle.tomex_rvexec.specs.declared.step.Step.{Step}
 use Rattle.tomex_config.specs.Configuration.{Configuration, IsWithinLimits}
 use Rattle.tomex_timing.specs.Ahead.{one}
 use Rattle.tomex_timing.specs.History.{cycle_of, is_memory}

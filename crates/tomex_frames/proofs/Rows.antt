@@ -4,7 +4,7 @@ use Rattle.std.specs.Prelude.{codes}
 use Rattle.std.specs.Fmt.{digits, padded_integral}
 use Rattle.tomex_rvdec.specs.declared.op.Op.TheVariants.{Sw, Lb, Add}
 use Rattle.tomex_rvdec.specs.declared.pool.UnitId.TheVariants as units
-use Rattle.tomex_steps.specs.declared.step.Step.{Step}
+use Rattle.tomex_rvexec.specs.declared.step.Step.{Step}
 use Rattle.tomex_config.specs.Configuration.{Configuration}
 use Rattle.tomex_timing.specs.Search.{history, times_of}
 use Rattle.tomex_timing.proofs.Programs.{addi, ebreak, instr, mul, step, two_alu_stations, with_latency}

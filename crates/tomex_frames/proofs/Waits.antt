@@ -5,7 +5,7 @@ use Rattle.std.specs.Prelude.{◌⊎◌, codes, nat_le, nat_lt, count_by}
 use Rattle.std.specs.List.{range_with_len}
 use Rattle.std.specs.Str.{bytes_eq}
 use Rattle.std.proofs.lemmas.Bool.{and_right, cases_Bool, cases_lt, eq-eqb, le-leb, le-ltb, lt-leb, lt-ltb, ne_eqb}
-use Rattle.tomex_steps.specs.Steps.{is_number}
+use Rattle.tomex_rvexec.specs.Steps.{is_number}
 use Rattle.tomex_timing.specs.Ahead.{one}
 use Rattle.tomex_timing.specs.Needs.{cycles_that}
 use Rattle.tomex_snapshots.specs.declared.entries.Entry.{Entry}

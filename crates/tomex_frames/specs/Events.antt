@@ -3,7 +3,7 @@ use Rattle.std.specs.Prelude.{ℕ, ◌==◌, Bool, ◌&&◌, if◌then◌else◌
 use Rattle.std.specs.Prelude.{Some, None}
 use Rattle.std.specs.List.{flat_map, list_any}
 use Rattle.tomex_rvdec.specs.Text.{instr_text}
-use Rattle.tomex_steps.specs.Steps.{address_of, is_number, step_dest}
+use Rattle.tomex_rvexec.specs.Steps.{address_of, is_number, step_dest}
 use Rattle.tomex_rvexec.specs.Texts.{hex8}
 use Rattle.tomex_timing.specs.declared.tables.Tag.{Tag}
 use Rattle.tomex_snapshots.specs.Entries.{has_unit, name_text, station_of}

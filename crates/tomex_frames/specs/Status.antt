@@ -3,7 +3,7 @@ use Rattle.std.specs.Prelude.{ℕ, ◌-◌, nat_le, nat_lt, if◌then◌else◌,
 use Rattle.std.specs.List.{flat_map}
 use Rattle.std.specs.Fmt.{decimal}
 use Rattle.tomex_rvdec.specs.Text.{instr_text}
-use Rattle.tomex_steps.specs.Steps.{is_number}
+use Rattle.tomex_rvexec.specs.Steps.{is_number}
 use Rattle.tomex_html.specs.Html.{table_end}
 use Rattle.tomex_frames.specs.Cells.{address_cell, cell_text, doing_in, doing_text, execute_cell, issue_cell}
 use Rattle.tomex_frames.specs.Cells.{station_cell, write_cell}

@@ -1,7 +1,7 @@
 //! The line of the critical path in a view.
 
 ghost use Rattle.std.specs.Prelude.{◌≡◌, IfSome, OnOk, length};
-ghost use Rattle.tomex_csv_text.specs.Growth.{Appends};
+ghost use Rattle.tomex_layout.specs.Growth.{Appends};
 ghost use Rattle.tomex_frames.specs.OnPath.{IsOfRun, cause_of, held_after, line_start, path_line, path_words};
 ghost use Rattle.tomex_frames.specs.OnPath.{place_line};
 

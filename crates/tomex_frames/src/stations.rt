@@ -2,7 +2,7 @@
 
 ghost use Rattle.std.specs.Prelude.{◌≡◌, ◌<◌, OnOk, string_bytes};
 ghost use Rattle.std.specs.List.{flat_map};
-ghost use Rattle.tomex_csv_text.specs.Growth.{Appends};
+ghost use Rattle.tomex_layout.specs.Growth.{Appends};
 ghost use Rattle.tomex_snapshots.specs.Entries.{history_of};
 ghost use Rattle.tomex_frames.specs.Stations.{a_cell, all_columns, all_pools, busy_text, column_text, field_cell};
 ghost use Rattle.tomex_frames.specs.Stations.{free_text, pool_rows, q_cell, row_in, station_row, station_table, v_cell};

@@ -2,8 +2,8 @@
 
 ghost use Rattle.std.specs.Prelude.{◌≡◌, OnOk, count_by};
 ghost use Rattle.std.specs.List.{flat_map};
-ghost use Rattle.tomex_steps.specs.Steps.{is_number};
-ghost use Rattle.tomex_csv_text.specs.Growth.{Appends};
+ghost use Rattle.tomex_rvexec.specs.Steps.{is_number};
+ghost use Rattle.tomex_layout.specs.Growth.{Appends};
 ghost use Rattle.tomex_snapshots.specs.Entries.{is_listed_in};
 ghost use Rattle.tomex_frames.specs.Status.{listed_cycles, row_cells, row_class, row_head, row_if};
 ghost use Rattle.tomex_frames.specs.Status.{status_table, step_row};

@@ -3,7 +3,7 @@ use Rattle.std.proofs.Common.{◌≡◌, refl, ℕ, [], ◌∷◌, None}
 use Rattle.std.specs.Prelude.{codes}
 use Rattle.std.specs.Fmt.{digits}
 use Rattle.tomex_pareto.specs.declared.front_row.FrontRow.{FrontRow}
-use Rattle.tomex_csv_text.specs.Hundredths.{hundredths}
+use Rattle.tomex_layout.specs.Hundredths.{hundredths}
 use Rattle.tomex_front_views.specs.Axes.{step_of, ticks_of}
 use Rattle.std.specs.Prelude.{◌==◌, ◌||◌, Bool}
 use Rattle.tomex_front_views.specs.Dots.{reach, stroke, stroke_at}

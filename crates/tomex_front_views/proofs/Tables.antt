@@ -16,8 +16,8 @@ use Rattle.tomex_front_views.specs.declared.table.heading.Heading.{Heading}
 use Rattle.tomex_front_views.specs.declared.table.heading.Heading.TheVariants.{Setting as OfSetting, Row, Cost}
 use Rattle.tomex_front_views.specs.declared.table.heading.Heading.TheVariants.{Cycles}
 use Rattle.tomex_front_views.specs.declared.table.heading.Setting.{Setting}
-use Rattle.tomex_tables.specs.Table.{TableColumn}
-use Rattle.tomex_tables.proofs.Each.{all_flat_map, all_if, all_map}
+use Rattle.tomex_layout.specs.Table.{TableColumn}
+use Rattle.tomex_layout.proofs.Each.{all_flat_map, all_if, all_map}
 
 -- an entry for each of the rows
 abbrev pub HasEntries : List FrontRow → TableColumn → Type 0

@@ -15,8 +15,8 @@ use Rattle.tomex_pareto.specs.Hull.{hull_of}
 use Rattle.tomex_pareto.specs.declared.front_row.FrontRow.{FrontRow}
 use Rattle.tomex_timing.specs.Needs.{count_of}
 use Rattle.tomex_timing.specs.declared.part.Part.TheVariants.{Stations, Units, Buses, Width}
-use Rattle.tomex_csv_text.specs.Hundredths.{hundredths}
-use Rattle.tomex_tables.specs.Table.{TableColumn, table_of}
+use Rattle.tomex_layout.specs.Hundredths.{hundredths}
+use Rattle.tomex_layout.specs.Table.{TableColumn, table_of}
 use Rattle.tomex_front_views.specs.declared.table.heading.Heading.{Heading}
 use Rattle.tomex_front_views.specs.declared.table.heading.Heading.TheVariants.{Row as OfRow, Cost, Cycles}
 use Rattle.tomex_front_views.specs.declared.table.heading.Heading.TheVariants.{Setting as OfSetting}

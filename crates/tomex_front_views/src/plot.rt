@@ -2,7 +2,7 @@
 
 ghost use Rattle.std.specs.Prelude.{◌≡◌, length, OnOk, IfOk, string_bytes};
 ghost use Rattle.tomex_study.specs.StudyFront.{front_of_study};
-ghost use Rattle.tomex_csv_text.specs.Growth.{Appends};
+ghost use Rattle.tomex_layout.specs.Growth.{Appends};
 ghost use Rattle.tomex_front_views.specs.Plot.{front_picture_of, lines_text, picture_of_rows, rows_text};
 ghost use Rattle.tomex_front_views.specs.Plot.{scales_text, shade, sheet, size_text, title_of};
 

@@ -5,7 +5,7 @@ use Rattle.std.specs.Prelude.{filter, option_map, sum_by}
 use Rattle.std.specs.List.{Contains}
 use Rattle.std.proofs.lemmas.List.Sorted.{sum_by-IsPermutation}
 use Rattle.std.proofs.lemmas.List.Sums.{sum_by-append, sum_by-cons}
-use Rattle.tomex_steps.specs.declared.step.Step.{Step}
+use Rattle.tomex_rvexec.specs.declared.step.Step.{Step}
 use Rattle.tomex_symbols.specs.declared.symbol.Symbol.{Symbol}
 use Rattle.tomex_symbols.specs.Functions.{AreNumbered, best, function_at, holds, or_else, reaches}
 use Rattle.tomex_symbols.proofs.Best.{IsBest, best_is, same_symbol}

@@ -7,7 +7,7 @@ use Rattle.std.specs.Cmp.Lexicographic.{slice_cmp}
 use Rattle.std.specs.List.{flat_map}
 use Rattle.std.specs.Ordering.{nat_cmp, ordering_then}
 use Rattle.std.specs.declared.cmp.Ordering.{Ordering}
-use Rattle.tomex_csv_text.specs.Csv.{record_text}
+use Rattle.tomex_layout.specs.Csv.{record_text}
 use Rattle.tomex_functions.specs.declared.rows.Listing.{Listing}
 use Rattle.tomex_function_changes.specs.declared.named.Named.{Named}
 use Rattle.tomex_function_changes.specs.declared.named.NamedChange.{NamedChange}

@@ -7,8 +7,8 @@ use Rattle.std.specs.Prelude.{is_some, not, ◌&&◌, ◌||◌, unwrap_or}
 use Rattle.std.specs.Ordering.{is_eq, nat_cmp}
 use Rattle.std.proofs.lemmas.List.{append-nil, get_or_default, get_or-map, length-map, length-take, length_push}
 use Rattle.std.proofs.lemmas.List.Sums.{count_by-le-length, sum_by_push}
-use Rattle.tomex_steps.specs.Steps.{step_dest}
-use Rattle.tomex_steps.specs.declared.step.Step.{Step}
+use Rattle.tomex_rvexec.specs.Steps.{step_dest}
+use Rattle.tomex_rvexec.specs.declared.step.Step.{Step}
 use Rattle.tomex_symbols.specs.declared.symbol.Symbol.{Symbol}
 use Rattle.tomex_run_views.proofs.Tallies.{same_key}
 use Rattle.tomex_functions.specs.Calls.{begins, calls_after, calls_in, calls_of, is_call, is_jump}

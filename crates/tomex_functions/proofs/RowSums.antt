@@ -4,7 +4,7 @@ use Rattle.std.specs.Prelude.{sum_by}
 use Rattle.std.specs.List.{list_any}
 use Rattle.std.proofs.lemmas.List.Sorted.{sum_by-IsPermutation}
 use Rattle.std.proofs.lemmas.List.Sums.{sum_by-append, sum_by-cons}
-use Rattle.tomex_steps.specs.declared.step.Step.{Step}
+use Rattle.tomex_rvexec.specs.declared.step.Step.{Step}
 use Rattle.tomex_symbols.specs.declared.symbol.Symbol.{Symbol}
 use Rattle.tomex_run_views.specs.ByPlace.{Visit, pc_of, visits_of}
 use Rattle.tomex_run_views.specs.declared.tally.Sum.{Sum}

@@ -7,9 +7,9 @@ use Rattle.std.specs.BTreeMap.{IsOrdered}
 use Rattle.std.specs.Fmt.{decimal}
 use Rattle.std.specs.List.{flat_map}
 use Rattle.std.specs.Ordering.{nat_cmp}
-use Rattle.tomex_steps.specs.declared.step.Step.{Step}
+use Rattle.tomex_rvexec.specs.declared.step.Step.{Step}
 use Rattle.tomex_config.specs.Configuration.{Configuration}
-use Rattle.tomex_csv_text.specs.Csv.{record_text}
+use Rattle.tomex_layout.specs.Csv.{record_text}
 use Rattle.tomex_symbols.specs.declared.symbol.Symbol.{Symbol}
 use Rattle.tomex_symbols.specs.Symbols.{has_symbols, symbols_of}
 use Rattle.tomex_run_views.specs.ByPlace.{pc_of, sum_columns}

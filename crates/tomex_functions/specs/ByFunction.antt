@@ -4,11 +4,11 @@ use Rattle.std.specs.Prelude.{Option, Some, None, IsPermutation, length, slice_i
 use Rattle.std.specs.List.{flat_map}
 use Rattle.std.specs.Fmt.{decimal}
 use Rattle.tomex_rvexec.specs.Texts.{hex8}
-use Rattle.tomex_steps.specs.declared.step.Step.{Step}
+use Rattle.tomex_rvexec.specs.declared.step.Step.{Step}
 use Rattle.tomex_config.specs.Configuration.{Configuration}
 use Rattle.tomex_timing.specs.Needs.{drain}
 use Rattle.tomex_timing.specs.Search.{history}
-use Rattle.tomex_csv_text.specs.Csv.{record_text}
+use Rattle.tomex_layout.specs.Csv.{record_text}
 use Rattle.tomex_run_views.specs.ByPlace.{AreKeys, Visit, drain_fields, sum_columns, total_fields, visits_in, visits_of}
 use Rattle.tomex_run_views.specs.Tally.{fields_of_sum, sum_of}
 use Rattle.tomex_symbols.specs.declared.symbol.Symbol.{Symbol}

@@ -1,6 +1,6 @@
 -- The stalls report by place in the program, with the function of each place.
 use Rattle.std.specs.Prelude.{ℕ, List, [], ◌∷◌, codes}
-use Rattle.tomex_steps.specs.declared.step.Step.{Step}
+use Rattle.tomex_rvexec.specs.declared.step.Step.{Step}
 use Rattle.tomex_config.specs.Configuration.{Configuration}
 use Rattle.tomex_run_views.specs.ByPlace.{IsReportWith}
 use Rattle.tomex_symbols.specs.declared.symbol.Symbol.{Symbol}

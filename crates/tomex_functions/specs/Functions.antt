@@ -1,6 +1,6 @@
 -- The functions of a run's steps.
 use Rattle.std.specs.Prelude.{ℕ, ◌+◌, List, Option, Some, None}
-use Rattle.tomex_steps.specs.declared.step.Step.{Step}
+use Rattle.tomex_rvexec.specs.declared.step.Step.{Step}
 use Rattle.tomex_symbols.specs.Functions.{function_at}
 use Rattle.tomex_symbols.specs.declared.symbol.Symbol.{Symbol}
 

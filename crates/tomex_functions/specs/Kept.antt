@@ -7,13 +7,13 @@ use Rattle.std.specs.BTreeMap.{get}
 use Rattle.std.specs.Fmt.{decimal}
 use Rattle.std.specs.declared.cmp.Reverse.{Reverse}
 use Rattle.std.specs.Ordering.{nat_cmp}
-use Rattle.tomex_steps.specs.declared.step.Step.{Step}
+use Rattle.tomex_rvexec.specs.declared.step.Step.{Step}
 use Rattle.tomex_symbols.specs.Functions.{function_at}
 use Rattle.tomex_symbols.specs.declared.symbol.Symbol.{Symbol}
 use Rattle.tomex_config.specs.Configuration.{Configuration}
 use Rattle.tomex_timing.specs.Needs.{drain}
 use Rattle.tomex_timing.specs.Search.{history}
-use Rattle.tomex_csv_text.specs.Csv.{record_text}
+use Rattle.tomex_layout.specs.Csv.{record_text}
 use Rattle.tomex_run_views.specs.declared.tally.Group.{Group}
 use Rattle.tomex_run_views.specs.ByPlace.{pc_of, sum_columns, visits_in}
 use Rattle.tomex_run_views.specs.Tally.{fields_of_sum, only_drain, sum_of, with_drain}

@@ -1,6 +1,6 @@
 -- Laws of the stalls reports by function.
 use Rattle.std.specs.Prelude.{◌≡◌, ℕ, List, length, sum_by}
-use Rattle.tomex_steps.specs.declared.step.Step.{Step}
+use Rattle.tomex_rvexec.specs.declared.step.Step.{Step}
 use Rattle.tomex_config.specs.Configuration.{Configuration}
 use Rattle.tomex_run_views.specs.ByPlace.{ArePlaces, Visit, visits_at, visits_in, visits_of}
 use Rattle.tomex_run_views.specs.Tally.{sum_of}

@@ -4,8 +4,8 @@ ghost use Rattle.std.specs.Prelude.{◌≡◌, ◌<◌, ◌≤◌, ◌==◌, ◌
 ghost use Rattle.std.specs.Prelude.{unwrap_or, IfOk, OnOk, ℕ, List, None, length, map, slice_index_or};
 ghost use Rattle.std.specs.BTreeMap.{get};
 ghost use Rattle.std.specs.Ordering.{nat_cmp};
-ghost use Rattle.tomex_steps.specs.Steps.{step_dest};
-ghost use Rattle.tomex_steps.specs.declared.step.Step.{Step};
+ghost use Rattle.tomex_rvexec.specs.Steps.{step_dest};
+ghost use Rattle.tomex_rvexec.specs.declared.step.Step.{Step};
 ghost use Rattle.tomex_symbols.specs.declared.symbol.Symbol.{Symbol};
 ghost use Rattle.tomex_functions.specs.Calls.{begins, is_call, is_jump};
 ghost use Rattle.tomex_functions.specs.Kept.{AreCalls, before_at};

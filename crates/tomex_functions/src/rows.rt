@@ -3,7 +3,7 @@
 ghost use Rattle.std.specs.Prelude.{◌≡◌, ◌≤◌, All, IfOk, IsPermutation, List, OnOk, length, map};
 ghost use Rattle.std.specs.BTreeMap.{IsOrdered, values};
 ghost use Rattle.std.specs.Ordering.{nat_cmp};
-ghost use Rattle.tomex_steps.specs.declared.step.Step.{Step};
+ghost use Rattle.tomex_rvexec.specs.declared.step.Step.{Step};
 ghost use Rattle.tomex_symbols.specs.Functions.{AreNumbered};
 ghost use Rattle.tomex_symbols.specs.declared.symbol.Symbol.{Symbol};
 ghost use Rattle.tomex_functions.specs.ByFunction.{InOrder};

@@ -3,13 +3,13 @@
 ghost use Rattle.std.specs.Prelude.{◌≡◌, ◌++◌, ◌∷◌, [], IfOk, OnOk, string_bytes};
 ghost use Rattle.std.specs.List.{flat_map};
 ghost use Rattle.csv.specs.Records.{fields_of, partial_of};
-ghost use Rattle.tomex_csv_text.specs.Growth.{Appends};
+ghost use Rattle.tomex_layout.specs.Growth.{Appends};
 ghost use Rattle.tomex_functions.specs.ShownNames.{name_field, shown_byte, shown_bytes, shown_function};
 
 use csv::ByteRecord;
 use std::alloc::{AllocError, Global};
 use std::fmt::Write;
-use tomex_csv_text::{push_shown, shown_name};
+use tomex_layout::{push_shown, shown_name};
 use tomex_symbols::{Symbol, name_of};
 
 /// How many bytes of a name are shown.

@@ -8,7 +8,7 @@ use Rattle.std.specs.List.{list_all}
 use Rattle.std.proofs.lemmas.Bool.{and_from, and_parts, cases_Bool, leb-true, ltb-false, ltb-true, ne_eqb, or_cases}
 use Rattle.std.proofs.lemmas.Fmt.{hex_one_digit, hex_two_digits}
 use Rattle.std.proofs.lemmas.List.Folds.{list_all-append}
-use Rattle.tomex_csv_text.specs.Names.{shown_char}
+use Rattle.tomex_layout.specs.Names.{shown_char}
 use Rattle.tomex_html.specs.Html.{html_char}
 use Rattle.tomex_html.specs.Laws.{IsCharacterText, is_plain}
 

@@ -5,7 +5,7 @@ use Rattle.std.specs.Prelude.{codes, length, Option, Some, None, option_map}
 use Rattle.std.specs.Fmt.{decimal}
 use Rattle.std.specs.List.{flat_map}
 use Rattle.std.specs.Str.{bytes_eq, chars}
-use Rattle.tomex_csv_text.specs.Names.{shown_char}
+use Rattle.tomex_layout.specs.Names.{shown_char}
 use Rattle.tomex_html.specs.Constants.{base_css, frame_css, head_html}
 use Rattle.tomex_html.specs.declared.links.Anchor.{Anchor}
 use Rattle.tomex_html.specs.declared.links.Anchor.TheVariants.{Next, Previous}

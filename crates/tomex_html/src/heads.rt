@@ -2,7 +2,7 @@
 
 ghost use Rattle.std.specs.Prelude.{map, OnOk};
 ghost use Rattle.std.specs.List.{flat_map};
-ghost use Rattle.tomex_csv_text.specs.Growth.{Appends};
+ghost use Rattle.tomex_layout.specs.Growth.{Appends};
 ghost use Rattle.tomex_html.specs.Tables.{column_head, head_end, table_head, table_start};
 
 use std::alloc::{AllocError, Allocator};

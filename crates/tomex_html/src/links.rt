@@ -1,7 +1,7 @@
 //! Views, of which a page shows one, and the links from one to the next.
 
 ghost use Rattle.std.specs.Prelude.{OnOk};
-ghost use Rattle.tomex_csv_text.specs.Growth.{Appends};
+ghost use Rattle.tomex_layout.specs.Growth.{Appends};
 ghost use Rattle.tomex_html.specs.Html.{id_text, link_or_text, links};
 
 use std::alloc::{AllocError, Allocator};

@@ -1,11 +1,11 @@
 //! Names in pages.
 
 ghost use Rattle.std.specs.Prelude.{OnOk};
-ghost use Rattle.tomex_csv_text.specs.Growth.{Appends};
+ghost use Rattle.tomex_layout.specs.Growth.{Appends};
 ghost use Rattle.tomex_html.specs.Html.{html_char, html_name};
 
 use std::alloc::{AllocError, Allocator};
-use tomex_csv_text::push_shown;
+use tomex_layout::push_shown;
 
 /// Adds a character of a name.
 #[tactic(auto, unfolding(crate::specs::Html::html_char))]

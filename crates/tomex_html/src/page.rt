@@ -1,7 +1,7 @@
 //! The start and the end of pages.
 
 ghost use Rattle.std.specs.Prelude.{OnOk};
-ghost use Rattle.tomex_csv_text.specs.Growth.{Appends};
+ghost use Rattle.tomex_layout.specs.Growth.{Appends};
 ghost use Rattle.tomex_html.specs.Html.{page_end, page_start};
 
 use crate::constants::{base_css, frame_css, head_html};

@@ -10,7 +10,7 @@ use Rattle.std.proofs.lemmas.List.Elements.{All-append, All-cons, All-from_recur
 use Rattle.std.proofs.lemmas.List.Elements.{All-tail, All-weaker}
 use Rattle.std.proofs.lemmas.List.Sorted.{All-permutation}
 use Rattle.std.proofs.lemmas.List.Sums.{sum_by-cons}
-use Rattle.tomex_steps.specs.declared.step.Step.{Step}
+use Rattle.tomex_rvexec.specs.declared.step.Step.{Step}
 use Rattle.tomex_config.specs.Configuration.{Configuration}
 use Rattle.tomex_timing.specs.Search.{total_of}
 use Rattle.tomex_timing.specs.declared.times.Done.{Done}

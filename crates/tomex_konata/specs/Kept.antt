@@ -4,7 +4,7 @@ use Rattle.std.specs.Prelude.{◌≡◌, ℕ, ◌+◌, ◌-◌, ◌==◌, if◌t
 use Rattle.std.specs.Prelude.{map, max, min, Option, Some, None, slice_index_or, slice_set, unwrap_or}
 use Rattle.std.specs.List.{filter, flat_map, list_any, slice_get}
 use Rattle.std.specs.List.Sorted.{IsNonDecreasingBy}
-use Rattle.tomex_steps.specs.declared.step.Operand.{Operand}
+use Rattle.tomex_rvexec.specs.declared.step.Operand.{Operand}
 use Rattle.tomex_timing.specs.declared.times.Times.{Times}
 use Rattle.tomex_konata.specs.declared.entries.Entry.{Entry}
 use Rattle.tomex_konata.specs.declared.entries.Producer.{Producer}

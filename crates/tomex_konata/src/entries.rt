@@ -2,7 +2,7 @@
 
 ghost use Rattle.std.specs.Prelude.{◌≡◌, ◌<◌, length, IfOk, None, [], replicate};
 ghost use Rattle.std.specs.Option.{ForSome};
-ghost use Rattle.tomex_steps.specs.Steps.{step_dest};
+ghost use Rattle.tomex_rvexec.specs.Steps.{step_dest};
 ghost use Rattle.tomex_konata.specs.Konata.{entries_from};
 ghost use Rattle.tomex_konata.specs.Kept.{writers_after, writer_in};
 

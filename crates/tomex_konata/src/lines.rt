@@ -1,7 +1,7 @@
 //! The lines of a log.
 
 ghost use Rattle.std.specs.Prelude.{◌≡◌, ◌+◌, ◌<◌, ◌^◌, OnOk};
-ghost use Rattle.tomex_csv_text.specs.Growth.{Appends};
+ghost use Rattle.tomex_layout.specs.Growth.{Appends};
 ghost use Rattle.tomex_konata.specs.Konata.{begin_line, end_line, is_shared, issue_lines, name_of_stage, out_lines};
 ghost use Rattle.tomex_konata.specs.Konata.{place_of_stage, station_line, step_lines, turn_lines, wake_line};
 ghost use Rattle.tomex_konata.specs.Konata.{wake_lines};

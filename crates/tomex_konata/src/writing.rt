@@ -4,7 +4,7 @@ ghost use Rattle.std.specs.Prelude.{◌≡◌, ◌+◌, ◌-◌, ◌<◌, ◌^�
 ghost use Rattle.tomex_rvexec.specs.Run.{start_of};
 ghost use Rattle.tomex_rvexec.specs.Trace.{steps_from};
 ghost use Rattle.tomex_timing.specs.Search.{total_of};
-ghost use Rattle.tomex_csv_text.specs.Growth.{Appends};
+ghost use Rattle.tomex_layout.specs.Growth.{Appends};
 ghost use Rattle.tomex_run_views.specs.Excerpt.{HasNoExcerpt};
 ghost use Rattle.tomex_konata.specs.Konata.{IsLogOf, head_of, log_of, next_since, with_cycle};
 ghost use Rattle.tomex_konata.specs.Kept.{event_lines, steps_out_after, events_text};

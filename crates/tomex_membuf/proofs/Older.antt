@@ -3,12 +3,12 @@ use Rattle.std.proofs.Common.{ℕ, ◌<◌, ◌≤◌, ◌≡◌, ◌∙◌, Boo
 use Rattle.std.proofs.Common.{Some, None, slice_index, slice_index_or}
 use Rattle.std.specs.Prelude.{◌==◌, ◌&&◌, ◌||◌, Decides, not, nat_lt, is_some}
 use Rattle.std.proofs.lemmas.Bool.{cases_Bool, both_ways, ltb-true, eqb-true, eqb-false, lt-ltb}
-use Rattle.tomex_sets.proofs.Members.{none_rest}
-use Rattle.tomex_steps.specs.declared.step.ByteRange.{ByteRange}
-use Rattle.tomex_sets.specs.Sets.{has, IsWithout}
+use Rattle.tomex_bus.proofs.Members.{none_rest}
+use Rattle.tomex_rvexec.specs.declared.step.ByteRange.{ByteRange}
+use Rattle.tomex_bus.specs.Sets.{has, IsWithout}
 use Rattle.tomex_tags.specs.declared.station.Station.{Station}
-use Rattle.tomex_steps.specs.Steps.{bytes_at, is_store, shares_byte}
-use Rattle.tomex_steps.proofs.Fields.{bytes_of_op}
+use Rattle.tomex_rvexec.specs.Steps.{bytes_at, is_store, shares_byte}
+use Rattle.tomex_rvexec.proofs.Fields.{bytes_of_op}
 use Rattle.tomex_tags.specs.Contents.{bytes_from, bytes_in, is_memory_op, lacks_address, slot, step_in}
 use Rattle.tomex_tags.specs.Pools.{Pools}
 use Rattle.tomex_tags.specs.WaitSets.{IsSetOf, has_address, holds_store}

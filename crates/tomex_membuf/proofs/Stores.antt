@@ -1,7 +1,7 @@
 -- The places of stores.
 use Rattle.std.proofs.Common.{ℕ, zero, suc, ◌/◌, ◌<◌, ◌≡◌, false, arith, refl, List, Option, Some, None, slice_index_or}
 use Rattle.tomex_rvdec.specs.declared.pool.PoolId.TheVariants as pools
-use Rattle.tomex_steps.specs.Steps.{is_in, is_store}
+use Rattle.tomex_rvexec.specs.Steps.{is_in, is_store}
 use Rattle.tomex_tags.specs.declared.station.Station.{Station}
 use Rattle.tomex_tags.specs.Contents.{step_in}
 use Rattle.tomex_tags.specs.Places.{pool_at}

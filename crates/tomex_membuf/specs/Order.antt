@@ -1,8 +1,8 @@
 -- An access waits for older ones that share a byte with it, one of the two being a store.
 use Rattle.std.specs.Prelude.{ℕ, ◌≡◌, ◌<◌, Bool, true, false, not, nat_lt, ◌&&◌}
 use Rattle.std.specs.Prelude.{◌||◌, List, Option, Some, None, slice_index}
-use Rattle.tomex_steps.specs.Steps.{is_store, shares_byte}
-use Rattle.tomex_sets.specs.Sets.{has}
+use Rattle.tomex_rvexec.specs.Steps.{is_store, shares_byte}
+use Rattle.tomex_bus.specs.Sets.{has}
 use Rattle.tomex_tags.specs.declared.station.Station.{Station}
 use Rattle.tomex_tags.specs.Contents.{bytes_in, slot, step_in}
 use Rattle.tomex_tags.specs.Pools.{Pools}

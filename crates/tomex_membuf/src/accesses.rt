@@ -2,8 +2,8 @@
 
 ghost use Rattle.std.specs.Prelude.{◌≡◌, IfSome, IsSome, Some};
 ghost use Rattle.tomex_rvdec.specs.Operands.{pool_of};
-ghost use Rattle.tomex_steps.specs.Access.{HasStored, IsInside};
-ghost use Rattle.tomex_steps.specs.Results.{byte_in, result_of};
+ghost use Rattle.tomex_rvexec.specs.Access.{HasStored, IsInside};
+ghost use Rattle.tomex_rvexec.specs.Results.{byte_in, result_of};
 ghost use Rattle.tomex_tags.specs.Contents.{step_in};
 
 use std::alloc::Allocator;

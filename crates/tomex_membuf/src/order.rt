@@ -1,14 +1,14 @@
 //! Accesses that share a byte are made in program order.
 
 ghost use Rattle.std.specs.Prelude.{ℕ, Decides, Some, ◌≡◌, ◌<◌};
-ghost use Rattle.tomex_sets.specs.Sets.{has};
-ghost use Rattle.tomex_steps.specs.Steps.{shares_byte};
+ghost use Rattle.tomex_bus.specs.Sets.{has};
+ghost use Rattle.tomex_rvexec.specs.Steps.{shares_byte};
 ghost use Rattle.tomex_membuf.specs.Order.{HasAtMostOneAccess, HasEachBlocker, IsClear, IsClearAt, blocks};
 ghost use Rattle.tomex_membuf.specs.Order.{stations_conflict, is_finished_before, lets_pass};
 ghost use Rattle.tomex_tags.specs.Contents.{slot};
 
+use tomex_bus::{both, is_single, lowest, without, without_lowest};
 use tomex_rvexec::ByteRange;
-use tomex_sets::{both, is_single, lowest, without, without_lowest};
 use tomex_tags::{Pools, Station};
 
 /// The place of the first store buffer.

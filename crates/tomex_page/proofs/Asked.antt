@@ -4,7 +4,7 @@ use Rattle.std.proofs.lemmas.List.{append_assoc}
 use Rattle.tomex_html.specs.Html.{page_end}
 use Rattle.tomex_study.specs.StudyFront.{front_of_study}
 use Rattle.tomex_page_tables.specs.Shown.{shown_rows}
-use Rattle.tomex_page_choices.specs.Additions.{choices_table}
+use Rattle.tomex_page_rows.specs.Additions.{choices_table}
 use Rattle.tomex_page.specs.Constants.{choices_help, commands_help, page_help}
 use Rattle.tomex_page.specs.Laws.{ChoicesAreAdded}
 use Rattle.tomex_page.specs.Page.{asked_choices, asked_help, page_of, page_over, page_rest, page_start_of, views_text}

@@ -1,6 +1,6 @@
 -- The chart of a run's first instructions, cycle by cycle.
 use Rattle.std.specs.Prelude.{ℕ, nat_le, if◌then◌else◌, List, ◌++◌, codes}
-use Rattle.tomex_steps.specs.declared.step.Step.{Step}
+use Rattle.tomex_rvexec.specs.declared.step.Step.{Step}
 use Rattle.tomex_run_views.specs.Chart.{picture_of, signs_of}
 use Rattle.tomex_run_views.specs.Excerpt.{TimedSteps, excerpt_with}
 use Rattle.tomex_timing.specs.declared.times.Times.{Times}

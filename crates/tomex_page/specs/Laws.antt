@@ -18,7 +18,7 @@ use Rattle.tomex_page_tables.specs.Shown.{no_row, row_of, shown_rows}
 use Rattle.tomex_page_tables.specs.declared.shown.ShownRow.{ShownRow}
 use Rattle.tomex_path.specs.declared.reason.Reason.{Reason}
 use Rattle.tomex_path.specs.declared.reason.Reason.TheVariants.{For, Branch, Operand, Address, Memory, Order}
-use Rattle.tomex_page_choices.specs.Additions.{choices_table}
+use Rattle.tomex_page_rows.specs.Additions.{choices_table}
 use Rattle.tomex_page.specs.Constants.{choices_help}
 use Rattle.tomex_page.specs.Page.{page_of, row_section, row_sections, view_at, view_of}
 use Rattle.tomex_page.specs.Runs.{needs_on, path_on}

@@ -12,9 +12,9 @@ use Rattle.tomex_study.specs.Program.{Workload}
 use Rattle.tomex_study.specs.Study.{DesignSpace}
 use Rattle.tomex_front_views.specs.LinkedPlot.{linked_picture_of}
 use Rattle.tomex_page_tables.specs.Asked.{programs_table, steps_of}
-use Rattle.tomex_page_choices.specs.Lists.{lists_table}
-use Rattle.tomex_page_choices.specs.Sentence.{floor_sentence}
-use Rattle.tomex_page_choices.specs.Additions.{choices_table}
+use Rattle.tomex_page_rows.specs.Lists.{lists_table}
+use Rattle.tomex_page_rows.specs.Sentence.{floor_sentence}
+use Rattle.tomex_page_rows.specs.Additions.{choices_table}
 use Rattle.tomex_page_rows.specs.Changed.{changes_table}
 use Rattle.tomex_page.specs.Charts.{chart_of, first_steps}
 use Rattle.tomex_page.specs.Constants.{choices_help, commands_help, page_css, page_help}

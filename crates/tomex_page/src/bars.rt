@@ -1,7 +1,7 @@
 //! Bars of a run's cycles.
 
 ghost use Rattle.std.specs.Prelude.{◌≡◌, OnOk};
-ghost use Rattle.tomex_csv_text.specs.Growth.{Appends};
+ghost use Rattle.tomex_layout.specs.Growth.{Appends};
 ghost use Rattle.tomex_page.specs.Bars.{bar, bar_part, cycle_cells, drain_cells, share, stretch};
 
 use std::alloc::{AllocError, Allocator};

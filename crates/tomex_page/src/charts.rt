@@ -1,7 +1,7 @@
 //! The chart of a run's first instructions.
 
 ghost use Rattle.std.specs.Prelude.{OnOk};
-ghost use Rattle.tomex_csv_text.specs.Growth.{Appends};
+ghost use Rattle.tomex_layout.specs.Growth.{Appends};
 ghost use Rattle.tomex_page.specs.Charts.{chart_of, chart_start, first_steps, picture_text, chart_block, too_wide};
 ghost use Rattle.tomex_page_tables.specs.Asked.{steps_of};
 ghost use Rattle.tomex_run_views.specs.Excerpt.{AreTimesOf};

@@ -1,7 +1,7 @@
 //! The part above the rows' views: the name, the picture next to what was asked, and the front.
 
 ghost use Rattle.std.specs.Prelude.{◌≡◌, IfOk, OnOk, string_bytes};
-ghost use Rattle.tomex_csv_text.specs.Growth.{Appends};
+ghost use Rattle.tomex_layout.specs.Growth.{Appends};
 ghost use Rattle.tomex_page.specs.Page.{all_in_picture, counts_text, left_out, overview, page_head, title_of};
 
 use crate::constants::page_css;
@@ -9,7 +9,7 @@ use std::alloc::{AllocError, Allocator, Global};
 use std::fmt::Write;
 use tomex_front_views::push_linked_picture;
 use tomex_html::{push_name, push_page_start};
-use tomex_page_choices::{push_floor_sentence, push_lists_table};
+use tomex_page_rows::{push_floor_sentence, push_lists_table};
 use tomex_page_tables::{MOST_ROWS, push_programs_table};
 use tomex_pareto::FrontRow;
 use tomex_study::Surveyed;

@@ -2,10 +2,10 @@
 
 ghost use Rattle.std.specs.Prelude.{◌≡◌, ◌<◌, false, length, string_bytes, true, All, IfOk, OnOk};
 ghost use Rattle.std.specs.List.{Contains};
-ghost use Rattle.tomex_csv_text.specs.Growth.{Appends};
+ghost use Rattle.tomex_layout.specs.Growth.{Appends};
 ghost use Rattle.tomex_page.specs.Page.{asked_choices, asked_help, page_of, page_over, page_rest, page_start_of};
 ghost use Rattle.tomex_page.specs.Page.{views_text};
-ghost use Rattle.tomex_page_choices.specs.Additions.{choices_table};
+ghost use Rattle.tomex_page_rows.specs.Additions.{choices_table};
 ghost use Rattle.tomex_study.specs.StudyFront.{front_of_study};
 
 use crate::constants::{choices_help, commands_help, page_help};
@@ -15,8 +15,7 @@ use std::alloc::{AllocError, Allocator, Global};
 use std::fmt::Write;
 use tomex_choices::{WeighedChoices, all_floored};
 use tomex_html::push_page_end;
-use tomex_page_choices::push_choices_table;
-use tomex_page_rows::PriceBook;
+use tomex_page_rows::{PriceBook, push_choices_table};
 use tomex_page_tables::{push_front_table, shown_rows};
 use tomex_pareto::FrontRow;
 use tomex_study::Surveyed;

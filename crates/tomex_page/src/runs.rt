@@ -2,7 +2,7 @@
 
 ghost use Rattle.std.specs.Prelude.{◌≡◌, ◌*◌, ◌≤◌, length, IfOk, OnOk};
 ghost use Rattle.std.specs.List.{flat_map};
-ghost use Rattle.tomex_csv_text.specs.Growth.{Appends};
+ghost use Rattle.tomex_layout.specs.Growth.{Appends};
 ghost use Rattle.tomex_page.specs.Page.{run_block, run_stalls};
 ghost use Rattle.tomex_page.specs.Runs.{floor_on, needs_on, path_on};
 ghost use Rattle.tomex_page_tables.specs.Asked.{steps_of};

@@ -1,7 +1,7 @@
 //! The views of the rows that are shown.
 
 ghost use Rattle.std.specs.Prelude.{◌≡◌, ◌<◌, length, option_map, slice_index_or, All, None, OnOk};
-ghost use Rattle.tomex_csv_text.specs.Growth.{Appends};
+ghost use Rattle.tomex_layout.specs.Growth.{Appends};
 ghost use Rattle.tomex_page.specs.Page.{number_before, row_section, row_sections, section_head, section_runs};
 ghost use Rattle.tomex_page.specs.Page.{section_start};
 ghost use Rattle.tomex_page.specs.Page.{section_tables, view_of};

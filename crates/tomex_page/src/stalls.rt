@@ -2,7 +2,7 @@
 
 ghost use Rattle.std.specs.Prelude.{◌≡◌, IfOk, OnOk, string_bytes};
 ghost use Rattle.std.specs.List.{flat_map};
-ghost use Rattle.tomex_csv_text.specs.Growth.{Appends};
+ghost use Rattle.tomex_layout.specs.Growth.{Appends};
 ghost use Rattle.tomex_html.specs.Tables.{row_start};
 ghost use Rattle.tomex_page.specs.Stalls.{after_issue, before_issue, cause_cells, cause_row, drain_row, group};
 ghost use Rattle.tomex_page.specs.Stalls.{on_path, part_cells, pool_parts, stall_row, stalls_caption, stalls_table};

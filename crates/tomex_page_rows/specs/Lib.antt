@@ -2,3 +2,6 @@
 pub mod Parts
 pub mod Changed
 pub mod Stays
+pub mod Lists
+pub mod Sentence
+pub mod Additions

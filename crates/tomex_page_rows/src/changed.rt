@@ -2,7 +2,7 @@
 
 ghost use Rattle.std.specs.Prelude.{◌<◌, ◌++◌, length, All, OnOk};
 ghost use Rattle.std.specs.List.{flat_map};
-ghost use Rattle.tomex_csv_text.specs.Growth.{Appends};
+ghost use Rattle.tomex_layout.specs.Growth.{Appends};
 ghost use Rattle.tomex_html.specs.Html.{td};
 ghost use Rattle.tomex_page_rows.specs.Changed.{change_row, changes_table, gain_cells, row_text, to_cells};
 ghost use Rattle.tomex_worth.specs.Worth.{rate_text};

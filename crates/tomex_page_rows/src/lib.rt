@@ -5,10 +5,16 @@
 //! Tests: tomex_cases.
 #![tactic(auto)]
 
+mod additions;
 mod changed;
+mod lists;
 mod parts;
+mod sentence;
 mod stays;
 
+pub use additions::push_choices_table;
 pub use changed::push_changes_table;
+pub use lists::push_lists_table;
 pub use parts::{push_against, push_parts_table};
+pub use sentence::push_floor_sentence;
 pub use stays::{PriceBook, push_prices_table};

@@ -2,7 +2,7 @@
 
 ghost use Rattle.std.specs.Prelude.{◌≡◌, OnOk};
 ghost use Rattle.std.specs.List.{flat_map};
-ghost use Rattle.tomex_csv_text.specs.Growth.{Appends};
+ghost use Rattle.tomex_layout.specs.Growth.{Appends};
 ghost use Rattle.tomex_html.specs.Html.{cell, td};
 ghost use Rattle.tomex_page_rows.specs.Parts.{against, against_start, against_text, cheapest, cost_row, has_other};
 ghost use Rattle.tomex_page_rows.specs.Parts.{part_cells, part_row, parts_table, was_text};

@@ -1,7 +1,7 @@
 //! The prices with which a row stays on the front.
 
 ghost use Rattle.std.specs.Prelude.{◌≡◌, ◌<◌, ◌++◌, length, map, slice_index_or, All, IfOk, OnOk};
-ghost use Rattle.tomex_csv_text.specs.Growth.{Appends};
+ghost use Rattle.tomex_layout.specs.Growth.{Appends};
 ghost use Rattle.tomex_page_tables.specs.Shown.{no_row};
 ghost use Rattle.std.specs.List.{Contains, flat_map};
 ghost use Rattle.tomex_page_rows.specs.Stays.{AreFound, off_text, prices_table, range_row, range_row_at, ranges_of};

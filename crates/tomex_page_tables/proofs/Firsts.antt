@@ -5,7 +5,7 @@ use Rattle.std.specs.List.{filter, list_any}
 use Rattle.std.proofs.lemmas.List.{append-nil, drop_all}
 use Rattle.tomex_config.specs.Configuration.{Configuration}
 use Rattle.tomex_timing.specs.declared.part.Part.{Part}
-use Rattle.tomex_tables.proofs.Firsts.{filter_every, next_first}
+use Rattle.tomex_layout.proofs.Firsts.{filter_every, next_first}
 use Rattle.tomex_worth.specs.Changes.{same_entry}
 use Rattle.tomex_page_tables.specs.Asked.{firsts}
 

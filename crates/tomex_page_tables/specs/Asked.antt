@@ -9,7 +9,7 @@ use Rattle.tomex_config.specs.Cost.{PriceList, price_of}
 use Rattle.tomex_html.specs.Html.{table_end, td}
 use Rattle.tomex_rvexec.specs.Run.{start_of}
 use Rattle.tomex_rvexec.specs.Trace.{steps_from}
-use Rattle.tomex_steps.specs.declared.step.Step.{Step}
+use Rattle.tomex_rvexec.specs.declared.step.Step.{Step}
 use Rattle.tomex_study.specs.Program.{Workload}
 use Rattle.tomex_study.specs.Study.{DesignSpace}
 use Rattle.tomex_timing.specs.Needs.{count_of}

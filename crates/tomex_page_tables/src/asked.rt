@@ -2,7 +2,7 @@
 
 ghost use Rattle.std.specs.Prelude.{◌≡◌, ◌++◌, length, OnOk};
 ghost use Rattle.std.specs.List.{flat_map};
-ghost use Rattle.tomex_csv_text.specs.Growth.{Appends};
+ghost use Rattle.tomex_layout.specs.Growth.{Appends};
 ghost use Rattle.tomex_html.specs.Html.{td};
 ghost use Rattle.tomex_page_tables.specs.Asked.{end_text, program_row, programs_table};
 ghost use Rattle.tomex_html.specs.Tables.{number_cell, row_start};

@@ -2,7 +2,7 @@
 
 ghost use Rattle.std.specs.Prelude.{◌≡◌, ◌++◌, ◌*◌, codes, IfOk, OnOk};
 ghost use Rattle.std.specs.List.{flat_map, list_any};
-ghost use Rattle.tomex_csv_text.specs.Growth.{Appends};
+ghost use Rattle.tomex_layout.specs.Growth.{Appends};
 ghost use Rattle.tomex_page_tables.specs.Asked.{cost_of_part, entries_text, facet_text, firsts, price_of_part};
 ghost use Rattle.tomex_page_tables.specs.Asked.{prices_text};
 ghost use Rattle.tomex_page_tables.specs.Pieces.{with_commas, some};

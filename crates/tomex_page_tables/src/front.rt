@@ -2,7 +2,7 @@
 
 ghost use Rattle.std.specs.Prelude.{◌≡◌, ◌<◌, length, All, None, OnOk};
 ghost use Rattle.std.specs.Fmt.{decimal};
-ghost use Rattle.tomex_csv_text.specs.Growth.{Appends};
+ghost use Rattle.tomex_layout.specs.Growth.{Appends};
 ghost use Rattle.tomex_front_views.specs.LinkedPlot.{link_to};
 ghost use Rattle.tomex_html.specs.Html.{td};
 ghost use Rattle.tomex_page_tables.specs.Front.{front_cells, front_row, front_rows, front_table, more_cost};

@@ -3,7 +3,7 @@
 
 ghost use Rattle.std.specs.Prelude.{◌≡◌, ◌<◌, length, map, IfOk, OnOk};
 ghost use Rattle.std.specs.List.{flat_map};
-ghost use Rattle.tomex_csv_text.specs.Growth.{Appends};
+ghost use Rattle.tomex_layout.specs.Growth.{Appends};
 ghost use Rattle.tomex_front_views.specs.FrontTable.{all_settings, config_of, name_of_setting};
 ghost use Rattle.tomex_page_tables.specs.Front.{column_heads, own_programs, setting_cell, settings_of, sets_anew};
 ghost use Rattle.tomex_html.specs.Tables.{column_head};

@@ -1,7 +1,7 @@
 //! The most that is shown in a table.
 
 ghost use Rattle.std.specs.Prelude.{◌≡◌, take, OnOk};
-ghost use Rattle.tomex_csv_text.specs.Growth.{Appends};
+ghost use Rattle.tomex_layout.specs.Growth.{Appends};
 ghost use Rattle.tomex_page_tables.specs.Pieces.{more, most_lines, rest_text};
 
 use std::alloc::{AllocError, Allocator};

@@ -13,3 +13,14 @@ pub mod SortedRows
 pub mod Sums
 mod Worked
 pub mod Worths
+pub mod Lines
+pub mod OneRival
+pub mod Swapped
+pub mod AllRivals
+pub mod SpanEnds
+pub mod EqualTimes
+pub mod NewCosts
+pub mod Parts
+pub mod Factors
+pub mod Shares
+pub mod Settled

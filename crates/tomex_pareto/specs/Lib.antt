@@ -5,3 +5,6 @@ pub mod Hull
 pub mod Pareto
 pub mod Passing
 pub mod Steps
+pub mod Spans
+pub mod SpanLaws
+pub mod Percent

@@ -7,6 +7,10 @@ mod front_row;
 mod fronts;
 mod hulls;
 mod laws;
+mod line_row;
+mod percents;
+mod span_laws;
+mod spans;
 
 pub use front_row::FrontRow;
 pub use fronts::{front, sort_by_cost};
@@ -15,3 +19,7 @@ pub use laws::{
     ends_of_the_front_are_on_the_hull, equal_rows_stay_together, front_is_the_undominated_rows,
     hull_is_the_best_for_some_worth, rates_never_rise, undominated_rows_are_on_the_front,
 };
+pub use line_row::LineRow;
+pub use percents::percent_by;
+pub use span_laws::{rows_are_on_the_front_within_their_spans, rows_stay_within_their_spans};
+pub use spans::{ValueSpan, settled_span, span};

@@ -5,7 +5,7 @@ use Rattle.std.proofs.lemmas.Bool.{cases_Bool, cases_lt, lt-ltb, le-ltb, eqb-tru
 use Rattle.std.proofs.lemmas.Bool.{MatchBool-at_false}
 use Rattle.std.proofs.lemmas.Bool.Decides.{nat_tests}
 use Rattle.std.proofs.lemmas.List.Sums.{sum_by-cons}
-use Rattle.tomex_steps.specs.Steps.{j_of, step_dest}
+use Rattle.tomex_rvexec.specs.Steps.{j_of, step_dest}
 use Rattle.tomex_config.specs.Configuration.{Configuration, IsWithinLimits}
 use Rattle.tomex_timing.specs.Ahead.{one}
 use Rattle.tomex_timing.specs.declared.times.Done.{Done}

@@ -2,7 +2,7 @@
 use Rattle.std.proofs.Common.{◌+◌, ◌-◌, ◌<◌, ◌≤◌, ◌≡◌, ◌⊎◌, true, List, Some, None, count_by}
 use Rattle.std.specs.Prelude.{◌==◌}
 use Rattle.tomex_rvdec.specs.declared.pool.UnitId.{UnitId}
-use Rattle.tomex_steps.specs.Steps.{j_of, k_of, step_unit}
+use Rattle.tomex_rvexec.specs.Steps.{j_of, k_of, step_unit}
 use Rattle.tomex_config.specs.Configuration.{Configuration}
 use Rattle.tomex_timing.specs.declared.part.Part.TheVariants.{Buses, Stations, Units, Width}
 use Rattle.tomex_timing.specs.declared.tables.Tag.{Tag}

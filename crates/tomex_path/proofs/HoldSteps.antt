@@ -2,7 +2,7 @@
 use Rattle.std.proofs.Common.{ℕ, ◌+◌, ◌-◌, ◌≤◌, ◌≡◌, ◌∙◌, ap, refl, inl, inr, sym, List, None}
 use Rattle.std.specs.Prelude.{nat_lt}
 use Rattle.std.proofs.lemmas.Bool.{cases_Bool, eq-eqb, le-ltb}
-use Rattle.tomex_steps.specs.Steps.{j_of, k_of, step_unit}
+use Rattle.tomex_rvexec.specs.Steps.{j_of, k_of, step_unit}
 use Rattle.tomex_timing.specs.declared.part.Part.TheVariants.{Width}
 use Rattle.tomex_timing.specs.declared.part.Waits.{Waits}
 use Rattle.tomex_timing.specs.declared.times.Done.{Done}

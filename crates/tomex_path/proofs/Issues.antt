@@ -3,7 +3,7 @@ use Rattle.std.proofs.Common.{ℕ, ◌+◌, ◌-◌, ◌<◌, ◌≤◌, ◌≡�
 use Rattle.std.proofs.Common.{List, [], ◌∷◌, ◌==◌}
 use Rattle.std.proofs.lemmas.Bool.{cases_Bool, cases_lt, cases_order, lt-ltb, le-ltb, eq-eqb, eqb-true, leb-true}
 use Rattle.std.proofs.lemmas.Bool.{and_parts}
-use Rattle.tomex_steps.specs.Steps.{is_branch}
+use Rattle.tomex_rvexec.specs.Steps.{is_branch}
 use Rattle.tomex_config.specs.Configuration.{Configuration, IsWithinLimits}
 use Rattle.tomex_timing.specs.declared.times.Done.{Done}
 use Rattle.tomex_timing.specs.History.{last_issue, greatest_end}

@@ -3,8 +3,8 @@ use Rattle.std.proofs.Common.{ℕ, ◌+◌, ◌-◌, ◌<◌, ◌≡◌, true, f
 use Rattle.std.proofs.Common.{List, [], ◌∷◌, Option, Some, None, nat_lt, ◌==◌, ◌&&◌}
 use Rattle.std.proofs.lemmas.Bool.{cases_Bool, eqb-true, eq-eqb}
 use Rattle.std.proofs.lemmas.Bool.Decides.{nat_tests}
-use Rattle.tomex_steps.specs.Steps.{is_number, j_of, k_of, step_dest}
-use Rattle.tomex_steps.specs.declared.step.Operand.{Operand}
+use Rattle.tomex_rvexec.specs.Steps.{is_number, j_of, k_of, step_dest}
+use Rattle.tomex_rvexec.specs.declared.step.Operand.{Operand}
 use Rattle.tomex_timing.specs.declared.times.Done.{Done}
 use Rattle.tomex_timing.specs.History.{source_end, writer_end}
 use Rattle.tomex_timing.specs.Recent.{register_of}

@@ -4,7 +4,7 @@ use Rattle.tomex_rvdec.specs.declared.op.Op.TheVariants.{Sw, Sh, Lb, Lh, Lw, Lbu
 use Rattle.tomex_rvdec.specs.declared.pool.PoolId.TheVariants as pools
 use Rattle.tomex_rvdec.specs.declared.pool.UnitId.{UnitId}
 use Rattle.tomex_rvdec.specs.declared.pool.UnitId.TheVariants as units
-use Rattle.tomex_steps.specs.declared.step.Step.{Step}
+use Rattle.tomex_rvexec.specs.declared.step.Step.{Step}
 use Rattle.tomex_config.specs.Configuration.{Configuration, config_of, with_option}
 use Rattle.tomex_timing.specs.declared.part.Part.TheVariants.{Buses, Stations, Units, Width}
 use Rattle.tomex_timing.specs.History.{greatest_end}

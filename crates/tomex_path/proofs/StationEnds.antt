@@ -4,7 +4,7 @@ use Rattle.std.proofs.Common.{List, [], ◌∷◌, Option, Some, None, nat_lt, n
 use Rattle.std.proofs.lemmas.Bool.{cases_Bool, cases_lt, and_parts, eqb-true, le-leb, lt-ltb}
 use Rattle.std.proofs.lemmas.Bool.Decides.{nat_tests}
 use Rattle.tomex_rvdec.specs.declared.pool.PoolId.{PoolId}
-use Rattle.tomex_steps.specs.Steps.{is_in, is_number, step_pool}
+use Rattle.tomex_rvexec.specs.Steps.{is_in, is_number, step_pool}
 use Rattle.tomex_config.specs.Configuration.{Configuration, IsWithinLimits, stations_of}
 use Rattle.tomex_timing.specs.declared.part.Part.TheVariants.{Stations}
 use Rattle.tomex_timing.specs.declared.times.Done.{Done}

@@ -6,9 +6,9 @@ use Rattle.std.proofs.lemmas.Bool.{MatchBool-at_false}
 use Rattle.tomex_rvdec.specs.declared.pool.PoolId.{PoolId}
 use Rattle.tomex_rvdec.specs.declared.pool.PoolId.TheVariants as pools
 use Rattle.tomex_rvdec.specs.declared.pool.UnitId.{UnitId}
-use Rattle.tomex_steps.specs.declared.step.ByteRange.{ByteRange}
-use Rattle.tomex_steps.specs.Steps.{bytes_of, is_in, is_number, is_store, shares_byte, step_dest, step_pool, step_unit}
-use Rattle.tomex_steps.proofs.Fields.{bytes_of_memory, unit_with_pool}
+use Rattle.tomex_rvexec.specs.declared.step.ByteRange.{ByteRange}
+use Rattle.tomex_rvexec.specs.Steps.{bytes_of, is_in, is_number, is_store, shares_byte, step_dest, step_pool, step_unit}
+use Rattle.tomex_rvexec.proofs.Fields.{bytes_of_memory, unit_with_pool}
 use Rattle.tomex_config.specs.Configuration.{Configuration, IsWithinLimits}
 use Rattle.tomex_timing.specs.declared.times.Done.{Done}
 use Rattle.tomex_timing.specs.History.{cycle_of, greatest_end, is_memory, is_of, last_issue}

@@ -4,7 +4,7 @@ use Rattle.std.specs.Prelude.{ℕ, ◌+◌, ◌*◌, ◌<◌, ◌≤◌, ◌≡�
 use Rattle.std.specs.Prelude.{All, List, map, Option, Some, None, count_by, sum_by}
 use Rattle.std.specs.List.{list_all}
 use Rattle.tomex_rvdec.specs.declared.pool.UnitId.{UnitId}
-use Rattle.tomex_steps.specs.declared.step.Step.{Step}
+use Rattle.tomex_rvexec.specs.declared.step.Step.{Step}
 use Rattle.tomex_config.specs.Configuration.{Configuration, IsWithinLimits, stations_of, with_option}
 use Rattle.tomex_config.specs.Cost.{all_units}
 use Rattle.tomex_config.specs.declared.config.UnitOption.{UnitOption}

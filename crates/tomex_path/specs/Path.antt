@@ -2,7 +2,7 @@
 -- holds the one after it.
 use Rattle.std.specs.Prelude.{ℕ, ◌+◌, nat_le, ◌&&◌, if◌then◌else◌, List, [], ◌∷◌, length, reverse, Option, None}
 use Rattle.tomex_rvdec.specs.declared.pool.UnitId.{UnitId}
-use Rattle.tomex_steps.specs.Steps.{step_unit}
+use Rattle.tomex_rvexec.specs.Steps.{step_unit}
 use Rattle.tomex_config.specs.Configuration.{Configuration}
 use Rattle.tomex_timing.specs.declared.part.Part.TheVariants.{Stations, Units, Buses, Width}
 use Rattle.tomex_timing.specs.declared.part.Waits.{Waits}

@@ -1,7 +1,7 @@
 //! The events of a step, and which older step has the one that holds another.
 
 ghost use Rattle.std.specs.Prelude.{◌≡◌, List, Option, Some};
-ghost use Rattle.tomex_steps.specs.Steps.{is_in, is_number, shares_byte};
+ghost use Rattle.tomex_rvexec.specs.Steps.{is_in, is_number, shares_byte};
 ghost use Rattle.tomex_config.specs.Configuration.{Configuration};
 ghost use Rattle.tomex_timing.specs.History.{is_of};
 ghost use Rattle.tomex_timing.specs.declared.times.Done.{Done};

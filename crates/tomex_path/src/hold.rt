@@ -2,7 +2,7 @@
 
 ghost use Rattle.std.specs.Prelude.{◌≡◌, ◌<◌, ◌^◌, List};
 ghost use Rattle.tomex_timing.specs.declared.times.Done.{Done};
-ghost use Rattle.tomex_steps.specs.Steps.{j_of, k_of, step_unit};
+ghost use Rattle.tomex_rvexec.specs.Steps.{j_of, k_of, step_unit};
 ghost use Rattle.tomex_config.specs.Configuration.{Configuration};
 ghost use Rattle.tomex_timing.specs.Needs.{waits_of};
 ghost use Rattle.tomex_timing.specs.Tables.{tag_of};

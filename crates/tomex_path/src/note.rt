@@ -1,7 +1,7 @@
 //! What the walk along a path sees of a step, noted as the run is evaluated.
 
 ghost use Rattle.std.specs.Prelude.{◌≡◌, ◌<◌, ◌≤◌, ◌+◌, ◌-◌, ◌^◌, ◌==◌, List, length, slice_index, IfOk};
-ghost use Rattle.tomex_steps.specs.declared.step.Step.{Step};
+ghost use Rattle.tomex_rvexec.specs.declared.step.Step.{Step};
 ghost use Rattle.tomex_rvexec.specs.Run.{most_steps};
 ghost use Rattle.tomex_timing.specs.Ahead.{end_in};
 ghost use Rattle.tomex_timing.specs.Recent.{AreFacts, AreInRange};

@@ -5,11 +5,11 @@ use Rattle.std.specs.Prelude.{All, IfOk, IsPermutation, OnOk, Result}
 use Rattle.std.specs.BTreeMap.{IsOrdered, keys, values}
 use Rattle.std.specs.Option.{option_map_or}
 use Rattle.std.specs.Ordering.{nat_cmp}
-use Rattle.tomex_steps.specs.declared.step.Step.{Step}
+use Rattle.tomex_rvexec.specs.declared.step.Step.{Step}
 use Rattle.tomex_config.specs.Configuration.{Configuration}
 use Rattle.tomex_timing.specs.Search.{history, times_in}
 use Rattle.tomex_timing.specs.declared.times.Times.{Times}
-use Rattle.tomex_csv_text.specs.Csv.{record_text}
+use Rattle.tomex_layout.specs.Csv.{record_text}
 use Rattle.tomex_functions.specs.ByFunction.{InOrder}
 use Rattle.tomex_functions.specs.ByPlace.{function_columns, function_fields}
 use Rattle.tomex_functions.specs.Functions.{function_key}

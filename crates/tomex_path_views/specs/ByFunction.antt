@@ -2,9 +2,9 @@
 -- links and places.
 use Rattle.std.specs.Prelude.{◌≡◌, ℕ, List, [], ◌∷◌, ◌++◌, codes}
 use Rattle.std.specs.List.{flat_map}
-use Rattle.tomex_steps.specs.declared.step.Step.{Step}
+use Rattle.tomex_rvexec.specs.declared.step.Step.{Step}
 use Rattle.tomex_config.specs.Configuration.{Configuration}
-use Rattle.tomex_csv_text.specs.Csv.{record_text}
+use Rattle.tomex_layout.specs.Csv.{record_text}
 use Rattle.tomex_functions.specs.declared.rows.Row.{Row}
 use Rattle.tomex_functions.specs.ByFunction.{AreRows, address_field}
 use Rattle.tomex_functions.specs.ByPlace.{function_columns, function_fields}

@@ -5,9 +5,9 @@ use Rattle.std.specs.BTreeMap.{values}
 use Rattle.std.specs.List.{flat_map}
 use Rattle.tomex_rvdec.specs.Text.{instr_text}
 use Rattle.tomex_rvexec.specs.Texts.{hex8}
-use Rattle.tomex_steps.specs.declared.step.Step.{Step}
+use Rattle.tomex_rvexec.specs.declared.step.Step.{Step}
 use Rattle.tomex_config.specs.Configuration.{Configuration}
-use Rattle.tomex_csv_text.specs.Csv.{record_text}
+use Rattle.tomex_layout.specs.Csv.{record_text}
 use Rattle.tomex_path_views.specs.Charges.{charge_columns, charge_fields, path_visits}
 use Rattle.tomex_run_views.specs.ByPlace.{ArePlaces, Visit, dashes, visits_at}
 use Rattle.tomex_run_views.specs.Tally.{sum_of}

@@ -7,9 +7,9 @@ ghost use Rattle.std.specs.Ordering.{nat_cmp};
 ghost use Rattle.csv.specs.Records.{fields_of};
 ghost use Rattle.tomex_rvexec.specs.Run.{start_of};
 ghost use Rattle.tomex_rvexec.specs.Trace.{steps_from};
-ghost use Rattle.tomex_steps.specs.declared.step.Step.{Step};
-ghost use Rattle.tomex_csv_text.specs.Csv.{IsReady, record_text};
-ghost use Rattle.tomex_csv_text.specs.Growth.{Writes};
+ghost use Rattle.tomex_rvexec.specs.declared.step.Step.{Step};
+ghost use Rattle.tomex_layout.specs.Csv.{IsReady, record_text};
+ghost use Rattle.tomex_layout.specs.Growth.{Writes};
 ghost use Rattle.tomex_functions.specs.Kept.{HasAddress, IsIndexOf, row_of_group};
 ghost use Rattle.tomex_functions.specs.WithFunctions.{IsWithFunctions};
 ghost use Rattle.tomex_path_views.specs.ByFunction.{IsPathByFunction, report_of_sums, row_fields};
@@ -20,10 +20,10 @@ use crate::charges::{CHARGE_COLUMNS, count_links, push_charges};
 use csv::{ByteRecord, Writer};
 use std::alloc::{AllocError, Allocator, Global};
 use tomex_config::Config;
-use tomex_csv_text::{into_text, push_names, put_record};
 use tomex_functions::{
     FunctionsError, Index, Row, keys_of, push_address, push_function, sort_rows,
 };
+use tomex_layout::{into_text, push_names, put_record};
 use tomex_path::path;
 use tomex_run_views::{Sum, Tally};
 use tomex_study::Program;

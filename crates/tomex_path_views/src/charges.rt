@@ -2,7 +2,7 @@
 
 ghost use Rattle.std.specs.Prelude.{◌≡◌, ◌≤◌, ◌++◌, [], ℕ, IfOk, List, OnOk, length, map};
 ghost use Rattle.csv.specs.Records.{fields_of, partial_of};
-ghost use Rattle.tomex_steps.specs.declared.step.Step.{Step};
+ghost use Rattle.tomex_rvexec.specs.declared.step.Step.{Step};
 ghost use Rattle.tomex_path.specs.Laws.{cycles_of};
 ghost use Rattle.tomex_path_views.specs.Charges.{AreOfSteps, charge_fields, charged, order_of, visits_along};
 ghost use Rattle.tomex_path_views.specs.Shares.{AreShort, IsShort};

@@ -16,7 +16,7 @@ use Rattle.tomex_timing.specs.declared.times.Done.{Done}
 use Rattle.tomex_timing.specs.Demands.{AreDemands, demand_of}
 use Rattle.tomex_timing.specs.Needs.{Serves, all_parts, all_units, count_of, peak, stalls}
 use Rattle.tomex_timing.specs.Search.{history, times_in, total_of}
-use Rattle.tomex_steps.specs.declared.step.Step.{Step}
+use Rattle.tomex_rvexec.specs.declared.step.Step.{Step}
 use Rattle.tomex_timing.proofs.Demanded.{demand_is, demands_total}
 use Rattle.tomex_timing.proofs.Histories.{are_timed, total_of-history}
 use Rattle.tomex_timing.proofs.Implied.{part_listed, unit_listed}

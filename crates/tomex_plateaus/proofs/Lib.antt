@@ -2,3 +2,6 @@
 pub mod Implied
 pub mod Keeping
 pub mod Finding
+pub mod Totals
+pub mod Looking
+pub mod Knowing

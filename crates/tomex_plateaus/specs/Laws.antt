@@ -1,6 +1,6 @@
 -- Laws of plateaus.
 use Rattle.std.specs.Prelude.{◌≡◌, true, List}
-use Rattle.tomex_steps.specs.declared.step.Step.{Step}
+use Rattle.tomex_rvexec.specs.declared.step.Step.{Step}
 use Rattle.tomex_config.specs.Configuration.{Configuration, IsWithinLimits}
 use Rattle.tomex_timing.specs.declared.demands.Demands.{Demands}
 use Rattle.tomex_timing.specs.Demands.{AreDemands}

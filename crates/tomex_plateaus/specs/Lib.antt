@@ -2,3 +2,5 @@
 pub mod Plateaus
 pub mod Kept
 pub mod Laws
+pub mod Looks
+pub mod Knowledge

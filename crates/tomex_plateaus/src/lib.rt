@@ -3,11 +3,17 @@
 #![tactic(auto)]
 
 mod interval;
+mod knowledge;
+mod known_row;
 mod laws;
+mod look_laws;
 mod plateau;
 mod plateaus;
 
 pub use interval::Interval;
+pub use knowledge::Knowledge;
+pub use known_row::KnownRow;
 pub use laws::demands_give_a_plateau;
+pub use look_laws::{limit_changes_no_total, the_last_look_sees_most};
 pub use plateau::Plateau;
 pub use plateaus::Plateaus;

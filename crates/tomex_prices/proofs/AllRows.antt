@@ -16,7 +16,7 @@ use Rattle.tomex_study.specs.Cycles.{cycles_of}
 use Rattle.tomex_study.specs.StudyFront.{all_rows, front_of_study, row_at}
 use Rattle.tomex_study.proofs.Rows.{as_many_rows, cycles_at}
 use Rattle.tomex_prices.specs.declared.price.Price.{Price}
-use Rattle.tomex_spans.specs.declared.line_row.LineRow.{LineRow}
+use Rattle.tomex_pareto.specs.declared.line_row.LineRow.{LineRow}
 use Rattle.tomex_prices.specs.Interval.{IsSmall}
 use Rattle.tomex_prices.specs.Repriced.{priced_from, with_price_apart}
 

@@ -3,7 +3,7 @@ use Rattle.std.proofs.Common.{ap, suc, List}
 use Rattle.std.specs.Prelude.{All}
 use Rattle.std.proofs.lemmas.List.{length-map}
 use Rattle.tomex_pareto.specs.declared.front_row.FrontRow.{FrontRow}
-use Rattle.tomex_row_columns.proofs.Lengths.{HasEntries, columns_long}
+use Rattle.tomex_layout.proofs.Lengths.{HasEntries, columns_long}
 use Rattle.tomex_study.specs.Study.{DesignSpace}
 use Rattle.tomex_prices.specs.declared.price.Price.{Price}
 use Rattle.tomex_prices.specs.Prices.{relevant_prices_of}

@@ -2,7 +2,7 @@
 use Rattle.std.proofs.Common.{◌∙◌, ℕ}
 use Rattle.tomex_pareto.specs.declared.front_row.FrontRow.{FrontRow}
 use Rattle.tomex_pareto.proofs.Pareto.{among}
-use Rattle.tomex_spans.proofs.Factors as spans
+use Rattle.tomex_pareto.proofs.Factors as spans
 use Rattle.tomex_study.specs.Study.{DesignSpace}
 use Rattle.tomex_study.specs.StudyFront.{all_rows}
 use Rattle.tomex_prices.specs.declared.price.Price.{Price}

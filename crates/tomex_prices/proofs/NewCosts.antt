@@ -13,7 +13,7 @@ use Rattle.tomex_pareto.proofs.Pareto.{Has, IsFree, contains_has, front_is}
 use Rattle.tomex_study.specs.Study.{DesignSpace, IsStudy}
 use Rattle.tomex_study.specs.Cycles.{cycles_of}
 use Rattle.tomex_study.specs.StudyFront.{all_rows, front_of_study}
-use Rattle.tomex_spans.proofs.NewCosts.{costed, costed_on}
+use Rattle.tomex_pareto.proofs.NewCosts.{costed, costed_on}
 use Rattle.tomex_prices.specs.Prices.{prices_of}
 use Rattle.tomex_prices.specs.Studies.{config_of}
 use Rattle.tomex_prices.proofs.AllCosts.{cost_is_shares, share}

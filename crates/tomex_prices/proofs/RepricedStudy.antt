@@ -18,7 +18,7 @@ use Rattle.tomex_study.specs.StudyFront.{front_of_study}
 use Rattle.tomex_prices.specs.declared.intervals.PriceRange.{PriceRange}
 use Rattle.tomex_prices.specs.declared.price.Price.{Price}
 use Rattle.tomex_prices.specs.declared.price.TheConstants.{GREATEST_PRICE}
-use Rattle.tomex_spans.specs.declared.line_row.LineRow.{LineRow}
+use Rattle.tomex_pareto.specs.declared.line_row.LineRow.{LineRow}
 use Rattle.tomex_prices.specs.Interval.{interval, is_within}
 use Rattle.tomex_prices.specs.Repriced.{costs_with, priced_from, with_price_apart}
 use Rattle.tomex_prices.specs.Studies.{IsOnStudyExactlyWithin, interval_of, space_with, row_with, rows_with}

@@ -8,7 +8,7 @@ use Rattle.tomex_pareto.specs.Front.{front_of, is_on, rows_from}
 use Rattle.tomex_pareto.specs.Pareto.{AreNumbered}
 use Rattle.tomex_pareto.specs.declared.front_row.FrontRow.{FrontRow}
 use Rattle.tomex_pareto.proofs.Rows.{rows_numbered}
-use Rattle.tomex_spans.specs.Spans.{as_cost}
+use Rattle.tomex_pareto.specs.Spans.{as_cost}
 use Rattle.tomex_study.specs.Study.{costs_of}
 use Rattle.tomex_prices.specs.declared.price.Price.{Price}
 use Rattle.tomex_prices.specs.Price.{amount}

@@ -8,10 +8,10 @@ use Rattle.tomex_pareto.specs.Front.{is_undominated, rows_from}
 use Rattle.tomex_pareto.specs.declared.front_row.FrontRow.{FrontRow}
 use Rattle.tomex_pareto.proofs.Rows.{row_at}
 use Rattle.tomex_pareto.proofs.Pareto.{Has, contains_has, free_undominated}
-use Rattle.tomex_spans.specs.Spans.{as_cost, measure_at, span, stays}
-use Rattle.tomex_spans.proofs.Ends.{some_end}
-use Rattle.tomex_spans.proofs.NewCosts.{free_keeps, on_costed, premium}
-use Rattle.tomex_spans.proofs.Shares.{Counts, one_counts, slack, stays_less}
+use Rattle.tomex_pareto.specs.Spans.{as_cost, measure_at, span, stays}
+use Rattle.tomex_pareto.proofs.SpanEnds.{some_end}
+use Rattle.tomex_pareto.proofs.NewCosts.{free_keeps, on_costed, premium}
+use Rattle.tomex_pareto.proofs.Shares.{Counts, one_counts, slack, stays_less}
 use Rattle.tomex_study.specs.Study.{DesignSpace, IsStudy}
 use Rattle.tomex_study.specs.Cycles.{cycles_of}
 use Rattle.tomex_study.specs.StudyFront.{all_rows, front_of_study}

@@ -10,8 +10,8 @@ use Rattle.tomex_config.specs.Cost.{PriceList}
 use Rattle.tomex_config.specs.declared.config.UnitOption.{UnitOption}
 use Rattle.tomex_pareto.specs.Front.{rows_from}
 use Rattle.tomex_pareto.specs.declared.front_row.FrontRow.{FrontRow}
-use Rattle.tomex_row_columns.specs.RowColumns.{percent_text}
-use Rattle.tomex_spans.specs.Percent.{least_of}
+use Rattle.tomex_layout.specs.RowColumns.{percent_text}
+use Rattle.tomex_pareto.specs.Percent.{least_of}
 use Rattle.tomex_study.specs.Study.{DesignSpace, costs_of}
 use Rattle.tomex_prices.specs.declared.intervals.PriceRange.{PriceRange}
 use Rattle.tomex_prices.specs.declared.price.Price.{Price}

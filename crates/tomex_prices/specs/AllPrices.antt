@@ -6,7 +6,7 @@ use Rattle.tomex_config.specs.Configuration.{Configuration}
 use Rattle.tomex_config.specs.Cost.{PriceList}
 use Rattle.tomex_pareto.specs.Front.{front_of, is_on}
 use Rattle.tomex_pareto.specs.declared.front_row.FrontRow.{FrontRow}
-use Rattle.tomex_spans.specs.Percent.{AreWithin}
+use Rattle.tomex_pareto.specs.Percent.{AreWithin}
 use Rattle.tomex_study.specs.Study.{DesignSpace, IsStudy}
 use Rattle.tomex_study.specs.StudyFront.{all_rows, front_of_study}
 use Rattle.tomex_prices.specs.declared.price.Price.{Price}

@@ -1,9 +1,9 @@
 -- One price varies, all others stay as stated: for which values of it a row stays undominated.
 use Rattle.std.specs.Prelude.{ℕ, ◌-◌, ◌<◌, ◌^◌, ◌&&◌, ◌==◌, if◌then◌else◌, nat_le, Bool, List, ◌++◌, codes}
 use Rattle.std.specs.Fmt.{decimal}
-use Rattle.tomex_spans.specs.declared.line_row.LineRow.{LineRow}
-use Rattle.tomex_spans.specs.declared.spans.ValueSpan.{ValueSpan}
-use Rattle.tomex_spans.specs.Spans.{span}
+use Rattle.tomex_pareto.specs.declared.line_row.LineRow.{LineRow}
+use Rattle.tomex_pareto.specs.declared.spans.ValueSpan.{ValueSpan}
+use Rattle.tomex_pareto.specs.Spans.{span}
 use Rattle.tomex_prices.specs.declared.intervals.PriceRange.{PriceRange}
 use Rattle.tomex_prices.specs.declared.price.TheConstants.{GREATEST_PRICE}
 

@@ -2,8 +2,8 @@
 use Rattle.std.specs.Prelude.{◌≡◌, ℕ, ◌≤◌, true, List, map}
 use Rattle.std.specs.List.{Contains}
 use Rattle.tomex_pareto.specs.Pareto.{AreNumbered}
-use Rattle.tomex_spans.specs.declared.line_row.LineRow.{LineRow}
-use Rattle.tomex_spans.specs.Spans.{as_cost, on_front, stays}
+use Rattle.tomex_pareto.specs.declared.line_row.LineRow.{LineRow}
+use Rattle.tomex_pareto.specs.Spans.{as_cost, on_front, stays}
 use Rattle.tomex_prices.specs.declared.price.TheConstants.{GREATEST_PRICE}
 use Rattle.tomex_prices.specs.Interval.{interval, is_within}
 

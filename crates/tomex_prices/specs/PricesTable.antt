@@ -5,8 +5,8 @@ use Rattle.std.specs.Fmt.{decimal}
 use Rattle.tomex_pareto.specs.declared.front_row.FrontRow.{FrontRow}
 use Rattle.tomex_study.specs.Study.{DesignSpace}
 use Rattle.tomex_study.specs.StudyFront.{front_of_study}
-use Rattle.tomex_row_columns.specs.RowColumns.{column_of, percent_text, row_columns}
-use Rattle.tomex_tables.specs.Table.{TableColumn, table_of}
+use Rattle.tomex_layout.specs.RowColumns.{column_of, percent_text, row_columns}
+use Rattle.tomex_layout.specs.Table.{TableColumn, table_of}
 use Rattle.tomex_prices.specs.declared.price.Price.{Price}
 use Rattle.tomex_prices.specs.Interval.{range_text}
 use Rattle.tomex_prices.specs.Percent.{percent_of}

@@ -6,7 +6,7 @@ use Rattle.tomex_rvdec.specs.Parts.{place_of_pool}
 use Rattle.tomex_config.specs.Configuration.{Configuration, IsWithinLimits, option_of, with_option}
 use Rattle.tomex_config.specs.Cost.{IsPriceList, PriceList, cost_of}
 use Rattle.tomex_pareto.specs.Front.{front_of, is_on, rows_from}
-use Rattle.tomex_spans.specs.declared.line_row.LineRow.{LineRow}
+use Rattle.tomex_pareto.specs.declared.line_row.LineRow.{LineRow}
 use Rattle.tomex_study.specs.Study.{costs_of}
 use Rattle.tomex_prices.specs.declared.price.Price.{Price}
 use Rattle.tomex_prices.specs.declared.price.Price.TheVariants.{Station, Choice, Bus, Width}

@@ -10,7 +10,7 @@ use Rattle.tomex_study.specs.StudyFront.{front_of_study}
 use Rattle.tomex_prices.specs.declared.intervals.PriceRange.{PriceRange}
 use Rattle.tomex_prices.specs.declared.price.Price.{Price}
 use Rattle.tomex_prices.specs.declared.price.TheConstants.{GREATEST_PRICE}
-use Rattle.tomex_spans.specs.declared.line_row.LineRow.{LineRow}
+use Rattle.tomex_pareto.specs.declared.line_row.LineRow.{LineRow}
 use Rattle.tomex_prices.specs.Interval.{interval, is_within}
 use Rattle.tomex_prices.specs.Repriced.{config_with, costs_with, list_with, priced_from, with_price_apart}
 

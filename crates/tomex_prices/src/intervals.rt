@@ -4,7 +4,7 @@ ghost use Rattle.std.specs.Prelude.{◌≡◌, ℕ, ◌≤◌, true, All, map};
 ghost use Rattle.std.specs.List.{Contains};
 ghost use Rattle.tomex_pareto.specs.Pareto.{AreNumbered};
 ghost use Rattle.tomex_pareto.specs.Front.{is_on};
-ghost use Rattle.tomex_spans.specs.Spans.{as_cost, on_front, stays};
+ghost use Rattle.tomex_pareto.specs.Spans.{as_cost, on_front, stays};
 ghost use Rattle.tomex_study.specs.StudyFront.{front_of_study};
 ghost use Rattle.tomex_prices.specs.Interval.{IsSmall, interval, is_within, range_of};
 ghost use Rattle.tomex_prices.specs.Studies.{interval_of, space_with, rows_with};
@@ -13,8 +13,7 @@ use crate::price::{GREATEST_PRICE, Price};
 use crate::priced_row::with_price_apart;
 use std::alloc::Allocator;
 use std::fmt;
-use tomex_pareto::FrontRow;
-use tomex_spans::{LineRow, ValueSpan, span};
+use tomex_pareto::{FrontRow, LineRow, ValueSpan, span};
 use tomex_study::Study;
 
 /// The prices from `least` to `most`.

@@ -7,8 +7,7 @@ ghost use Rattle.tomex_prices.specs.Prices.{prices_of};
 use crate::price::Price;
 use std::alloc::Allocator;
 use tomex_config::{Config, Prices};
-use tomex_pareto::FrontRow;
-use tomex_spans::percent_by;
+use tomex_pareto::{FrontRow, percent_by};
 use tomex_study::Surveyed;
 
 /// The cost of the parts that two configurations don't have in common, at these prices.

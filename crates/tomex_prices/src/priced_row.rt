@@ -8,7 +8,7 @@ ghost use Rattle.tomex_prices.specs.Studies.{rows_with};
 use crate::price::Price;
 use std::alloc::{AllocError, Allocator};
 use tomex_config::{Config, Prices, cost};
-use tomex_spans::LineRow;
+use tomex_pareto::LineRow;
 use tomex_study::Surveyed;
 
 /// A configuration of these cycles with a price apart: its cost is a line in that price.

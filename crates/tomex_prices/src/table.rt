@@ -14,9 +14,8 @@ use crate::priced_row::rows_with;
 use crate::prices_error::PricesError;
 use crate::study_prices::{prices, relevant_prices};
 use std::alloc::{AllocError, Allocator, Global};
-use tomex_row_columns::{percent_text, push_row_columns};
+use tomex_layout::{Column, percent_text, push_row_columns, table_of};
 use tomex_study::Surveyed;
-use tomex_tables::{Column, table_of};
 
 /// The most intervals of one table.
 const MOST_INTERVALS: u64 = 262_144;

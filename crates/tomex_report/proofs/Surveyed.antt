@@ -1,7 +1,7 @@
 -- A survey without text was read as a study.
 use Rattle.std.proofs.Common.{ℕ, List}
 use Rattle.tomex_study.specs.Study.{DesignSpace}
-use Rattle.tomex_study_reader.specs.Study.{IsStudyOf}
+use Rattle.tomex_document.specs.Study.{IsStudyOf}
 use Rattle.tomex_report.specs.Surveyed.{IsSurveyRefusal, IsWithoutText}
 use Rattle.tomex_report.specs.declared.survey_error.SurveyError.{SurveyError}
 use Rattle.tomex_report.specs.declared.survey_error.SurveyError.TheVariants.{Study, NoSuchRow, NoSuchProgram, TooLarge}

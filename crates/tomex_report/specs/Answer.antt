@@ -3,7 +3,7 @@ use Rattle.std.specs.Prelude.{◌≡◌, ℕ, List}
 use Rattle.tomex_study.specs.Study.{DesignSpace}
 use Rattle.tomex_front_views.specs.FrontTable.{front_table_of, hull_table_of}
 use Rattle.tomex_front_views.specs.Plot.{front_picture_of}
-use Rattle.tomex_study_reader.specs.Study.{IsStudyOf, IsStudyRefusal}
+use Rattle.tomex_document.specs.Study.{IsStudyOf, IsStudyRefusal}
 use Rattle.tomex_texts.specs.FrontReport.{report_of}
 use Rattle.tomex_report.specs.declared.answer_error.AnswerError.{AnswerError}
 use Rattle.tomex_report.specs.declared.answer_error.AnswerError.TheVariants.{Study, Sweep}

@@ -3,7 +3,7 @@ use Rattle.std.specs.Prelude.{◌≡◌, ℕ, true, List}
 use Rattle.tomex_choices_table.specs.ChoicesTable.{choices_table_of}
 use Rattle.tomex_page.specs.Page.{page_of}
 use Rattle.tomex_study.specs.Study.{DesignSpace}
-use Rattle.tomex_study_reader.specs.Study.{IsStudyOf}
+use Rattle.tomex_document.specs.Study.{IsStudyOf}
 use Rattle.tomex_report.specs.declared.choosing.ChoicesView.{ChoicesView}
 use Rattle.tomex_report.specs.declared.choosing.ChoicesView.TheVariants.{Table, Page}
 

@@ -9,7 +9,7 @@ use Rattle.tomex_page.specs.Page.{page_of}
 use Rattle.tomex_prices.specs.PricesTable.{is_too_large, prices_table_of}
 use Rattle.tomex_prices.specs.declared.prices_error.PricesError.{PricesError}
 use Rattle.tomex_prices.specs.declared.prices_error.PricesError.TheVariants as prices
-use Rattle.tomex_study_reader.specs.Study.{IsStudyOf, IsStudyRefusal}
+use Rattle.tomex_document.specs.Study.{IsStudyOf, IsStudyRefusal}
 use Rattle.tomex_rows.specs.RowsReport.{rows_text_of}
 use Rattle.tomex_weights.specs.WeightsTable.{weights_table_of}
 use Rattle.tomex_worth.specs.Worth.{worth_table_of}

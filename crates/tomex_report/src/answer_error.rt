@@ -6,7 +6,7 @@ ghost use Rattle.tomex_sweep.specs.declared.outcome.SweepError.TheVariants.{Memo
 
 use std::alloc::AllocError;
 use thiserror::Error;
-use tomex_study_reader::StudyError;
+use tomex_document::StudyError;
 use tomex_sweep::SweepError;
 
 /// Why the bytes of a study have no report.

@@ -2,7 +2,7 @@
 
 ghost use Rattle.std.specs.Prelude.{◌≡◌, ◌≤◌, map, IfErr, IfOk};
 ghost use Rattle.tomex_report.specs.Chosen.{IsChoicesTextFrom, choices_text};
-ghost use Rattle.tomex_study_reader.specs.Study.{IsStudyRefusal};
+ghost use Rattle.tomex_document.specs.Study.{IsStudyRefusal};
 
 use crate::crew::Crew;
 use crate::study::study_in;
@@ -10,9 +10,9 @@ use std::alloc::{AllocError, Allocator, Global};
 use std::thread::Threads;
 use tomex_choices::{WeighedChoices, weigh_choices};
 use tomex_choices_table::choices_table;
+use tomex_document::StudyError;
 use tomex_page::page_with_choices;
 use tomex_study::Gate;
-use tomex_study_reader::StudyError;
 
 /// A view of a study with what its lists lack.
 #[derive(Clone, Copy)]

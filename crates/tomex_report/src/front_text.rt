@@ -3,8 +3,8 @@
 ghost use Rattle.std.specs.Prelude.{◌≡◌, IfOk, OnOk};
 ghost use Rattle.std.specs.List.{AllZip, flat_map};
 ghost use Rattle.tomex_study.specs.StudyFront.{front_of_study};
-ghost use Rattle.tomex_csv_text.specs.Csv.{IsReady};
-ghost use Rattle.tomex_csv_text.specs.Growth.{Writes};
+ghost use Rattle.tomex_layout.specs.Csv.{IsReady};
+ghost use Rattle.tomex_layout.specs.Growth.{Writes};
 ghost use Rattle.tomex_texts.specs.Ends.{IsProgramEnd};
 ghost use Rattle.tomex_texts.specs.RowEnds.{AreEndsOf};
 ghost use Rattle.tomex_texts.specs.FrontReport.{program_record, records_of, report_of};
@@ -12,7 +12,7 @@ ghost use Rattle.tomex_texts.specs.FrontReport.{program_record, records_of, repo
 use csv::{ByteRecord, Writer};
 use std::alloc::{AllocError, Allocator, Global};
 use tomex_config::Config;
-use tomex_csv_text::{into_text, put_record};
+use tomex_layout::{into_text, put_record};
 use tomex_study::{Program, Study};
 use tomex_sweep::FrontRow;
 use tomex_texts::{ProgramEnd, RowEnds, columns, fill_record};

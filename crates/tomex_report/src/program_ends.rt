@@ -11,8 +11,8 @@ use std::alloc::{AllocError, Allocator};
 use tomex_config::Config;
 use tomex_cycle::Machine;
 use tomex_image::Window;
-use tomex_row_runs::MOST_CYCLES;
 use tomex_study::{Program, WatchRange};
+use tomex_sweep::MOST_CYCLES;
 use tomex_texts::ProgramEnd;
 
 /// The bytes of a range in the memory of a window.

@@ -1,11 +1,11 @@
 //! The study that an answer is about.
 
 ghost use Rattle.std.specs.Prelude.{map, IfErr, IfOk};
-ghost use Rattle.tomex_study_reader.specs.Study.{IsStudyOf, IsStudyRefusal};
+ghost use Rattle.tomex_document.specs.Study.{IsStudyOf, IsStudyRefusal};
 
 use std::alloc::{Allocator, Global};
+use tomex_document::{StudyError, read_study};
 use tomex_study::Study;
-use tomex_study_reader::{StudyError, read_study};
 
 /// The study in the bytes and the files.
 pub(crate) fn study_in<A: Allocator + Clone>(

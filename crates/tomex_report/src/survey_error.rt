@@ -6,8 +6,8 @@ ghost use Rattle.tomex_report.specs.declared.survey_error.SurveyError.TheVariant
 
 use std::alloc::AllocError;
 use thiserror::Error;
+use tomex_document::StudyError;
 use tomex_prices::PricesError;
-use tomex_study_reader::StudyError;
 
 /// Why nothing is printed of all rows of a study.
 #[derive(Debug, Drop, Error)]

@@ -6,7 +6,7 @@ use Rattle.std.proofs.lemmas.List.FromFn.{get_or-map-range_with_len}
 use Rattle.std.proofs.lemmas.List.{map_more}
 use Rattle.tomex_config.specs.Configuration.{Configuration}
 use Rattle.tomex_pareto.specs.declared.front_row.FrontRow.{FrontRow}
-use Rattle.tomex_csv_text.specs.Csv.{record_text}
+use Rattle.tomex_layout.specs.Csv.{record_text}
 use Rattle.tomex_study.specs.Cycles.{totals_on}
 use Rattle.tomex_study.specs.StudyFront.{front_of_study}
 use Rattle.tomex_study.specs.Study.{DesignSpace, config_at}

@@ -6,7 +6,7 @@ ghost use Rattle.tomex_rows.specs.RowsReport.{columns_of, cycles_column};
 
 use csv::ByteRecord;
 use std::alloc::{AllocError, Allocator, Global};
-use tomex_csv_text::push_names;
+use tomex_layout::push_names;
 use tomex_study::{Program, Study};
 use tomex_texts::push_row_columns;
 

@@ -8,7 +8,7 @@ ghost use Rattle.tomex_rows.specs.RowsReport.{fields_of_row, flag};
 use csv::ByteRecord;
 use std::alloc::{AllocError, Global};
 use tomex_config::Config;
-use tomex_csv_text::push_decimal;
+use tomex_layout::push_decimal;
 use tomex_pareto::FrontRow;
 use tomex_texts::push_row;
 

@@ -2,8 +2,8 @@
 
 ghost use Rattle.std.specs.Prelude.{◌≡◌, ◌<◌, length, map, IfOk, OnOk};
 ghost use Rattle.std.specs.List.{flat_map, range_with_len};
-ghost use Rattle.tomex_csv_text.specs.Csv.{IsReady};
-ghost use Rattle.tomex_csv_text.specs.Growth.{Writes};
+ghost use Rattle.tomex_layout.specs.Csv.{IsReady};
+ghost use Rattle.tomex_layout.specs.Growth.{Writes};
 ghost use Rattle.tomex_rows.specs.RowsReport.{is_on_front, row_record, rows_text_of};
 ghost use Rattle.tomex_study.specs.StudyFront.{all_rows, front_of_study};
 
@@ -12,7 +12,7 @@ use crate::fields::fill_record;
 use crate::flags::flags;
 use csv::{ByteRecord, Writer};
 use std::alloc::{AllocError, Allocator, Global};
-use tomex_csv_text::{into_text, put_record};
+use tomex_layout::{into_text, put_record};
 use tomex_pareto::FrontRow;
 use tomex_study::Surveyed;
 

@@ -4,8 +4,8 @@ use Rattle.std.proofs.Common.{get_or}
 use Rattle.std.proofs.Common.{List, [], ◌∷◌, ◌++◌, append_assoc, Option, Some, None, max}
 use Rattle.std.proofs.lemmas.List.{append-nil, take_more}
 use Rattle.tomex_rvdec.specs.declared.pool.UnitId.{UnitId}
-use Rattle.tomex_steps.specs.Steps.{step_unit}
-use Rattle.tomex_steps.specs.declared.step.Step.{Step}
+use Rattle.tomex_rvexec.specs.Steps.{step_unit}
+use Rattle.tomex_rvexec.specs.declared.step.Step.{Step}
 use Rattle.tomex_config.specs.Configuration.{Configuration, IsWithinLimits}
 use Rattle.tomex_timing.specs.History.{greatest_end, last_issue}
 use Rattle.tomex_timing.specs.Laws.{work_by}

@@ -3,7 +3,7 @@ use Rattle.std.proofs.Common.{◌≡◌, refl, ℕ, List}
 use Rattle.std.specs.Prelude.{◌++◌, codes}
 use Rattle.std.specs.Fmt.{char_count, digits, padded_integral}
 use Rattle.tomex_rvdec.specs.declared.pool.UnitId.TheVariants as units
-use Rattle.tomex_steps.specs.declared.step.Step.{Step}
+use Rattle.tomex_rvexec.specs.declared.step.Step.{Step}
 use Rattle.tomex_config.specs.Configuration.{Configuration, plain}
 use Rattle.tomex_timing.specs.Search.{times_in, times_of}
 use Rattle.tomex_timing.proofs.Programs.{product, two_results, stored_and_loaded, two_alu_stations, with_latency}

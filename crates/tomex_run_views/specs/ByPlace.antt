@@ -8,13 +8,13 @@ use Rattle.std.specs.Ordering.{nat_cmp}
 use Rattle.std.specs.Fmt.{decimal}
 use Rattle.tomex_rvdec.specs.Text.{instr_text}
 use Rattle.tomex_rvexec.specs.Texts.{hex8}
-use Rattle.tomex_steps.specs.declared.step.Step.{Step}
+use Rattle.tomex_rvexec.specs.declared.step.Step.{Step}
 use Rattle.tomex_config.specs.Configuration.{Configuration}
 use Rattle.tomex_timing.specs.Needs.{drain, waits_in}
 use Rattle.tomex_timing.specs.Search.{history, times_in}
 use Rattle.tomex_timing.specs.declared.part.Waits.{Waits}
 use Rattle.tomex_timing.specs.declared.times.Times.{Times}
-use Rattle.tomex_csv_text.specs.Csv.{record_text}
+use Rattle.tomex_layout.specs.Csv.{record_text}
 
 -- a step, how many cycles it issues after the step before it, and how long it waits
 pub record Visit : Type 0 where

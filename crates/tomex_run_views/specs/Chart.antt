@@ -4,13 +4,13 @@ use Rattle.std.specs.Prelude.{max, List, [], ◌∷◌, ◌++◌, codes, length,
 use Rattle.std.specs.List.{flat_map, range_with_len}
 use Rattle.std.specs.Fmt.{decimal}
 use Rattle.tomex_rvdec.specs.Text.{instr_text}
-use Rattle.tomex_steps.specs.Steps.{is_number}
+use Rattle.tomex_rvexec.specs.Steps.{is_number}
 use Rattle.tomex_rvexec.specs.Texts.{hex8}
-use Rattle.tomex_steps.specs.declared.step.Step.{Step}
+use Rattle.tomex_rvexec.specs.declared.step.Step.{Step}
 use Rattle.tomex_config.specs.Configuration.{Configuration}
 use Rattle.tomex_timing.specs.Search.{times_in, total_of}
 use Rattle.tomex_timing.specs.declared.times.Times.{Times}
-use Rattle.tomex_csv_text.specs.Aligned.{left_aligned, right_aligned}
+use Rattle.tomex_layout.specs.Aligned.{left_aligned, right_aligned}
 use Rattle.tomex_run_views.specs.Excerpt.{excerpt}
 use Rattle.tomex_run_views.specs.declared.excerpt_error.ExcerptError.{ExcerptError}
 use Rattle.tomex_run_views.specs.declared.excerpt_error.ExcerptError.TheVariants as excerpts

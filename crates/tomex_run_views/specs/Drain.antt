@@ -1,8 +1,8 @@
 -- What is kept of a run while its drain is found.
 use Rattle.std.specs.Prelude.{ℕ, ◌+◌, Option, Some, None, is_some}
 use Rattle.tomex_rvdec.specs.declared.pool.UnitId.{UnitId}
-use Rattle.tomex_steps.specs.Steps.{step_dest, step_unit}
-use Rattle.tomex_steps.specs.declared.step.Step.{Step}
+use Rattle.tomex_rvexec.specs.Steps.{step_dest, step_unit}
+use Rattle.tomex_rvexec.specs.declared.step.Step.{Step}
 use Rattle.tomex_config.specs.Configuration.{Configuration}
 use Rattle.tomex_timing.specs.Laws.{work_by}
 use Rattle.tomex_timing.specs.declared.part.Waits.{Waits}

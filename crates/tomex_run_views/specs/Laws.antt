@@ -1,6 +1,6 @@
 -- Laws of the stalls reports by place.
 use Rattle.std.specs.Prelude.{◌≡◌, ℕ, ◌+◌, ◌==◌, List, [], ◌∷◌, length, sum_by, if◌then◌else◌}
-use Rattle.tomex_steps.specs.declared.step.Step.{Step}
+use Rattle.tomex_rvexec.specs.declared.step.Step.{Step}
 use Rattle.tomex_config.specs.Configuration.{Configuration, IsWithinLimits}
 use Rattle.tomex_timing.specs.Needs.{drain}
 use Rattle.tomex_timing.specs.Search.{history, times_in, total_of}

@@ -7,9 +7,9 @@ ghost use Rattle.std.specs.List.{flat_map};
 ghost use Rattle.csv.specs.Records.{fields_of, partial_of};
 ghost use Rattle.tomex_rvexec.specs.Run.{start_of};
 ghost use Rattle.tomex_rvexec.specs.Trace.{steps_from};
-ghost use Rattle.tomex_steps.specs.declared.step.Step.{Step};
-ghost use Rattle.tomex_csv_text.specs.Csv.{IsReady, record_text};
-ghost use Rattle.tomex_csv_text.specs.Growth.{Writes};
+ghost use Rattle.tomex_rvexec.specs.declared.step.Step.{Step};
+ghost use Rattle.tomex_layout.specs.Csv.{IsReady, record_text};
+ghost use Rattle.tomex_layout.specs.Growth.{Writes};
 ghost use Rattle.tomex_run_views.specs.ByPlace.{IsReportByPlace, dashes, pc_of, sum_columns};
 ghost use Rattle.tomex_run_views.specs.Tally.{fields_of_sum, place_fields, report_of_counted};
 
@@ -20,7 +20,7 @@ use crate::tally::{Group, Sum, Tally};
 use csv::{ByteRecord, Writer};
 use std::alloc::{AllocError, Allocator, Global};
 use tomex_config::Config;
-use tomex_csv_text::{into_text, push_instruction, push_names, put_record};
+use tomex_layout::{into_text, push_instruction, push_names, put_record};
 use tomex_rvexec::Step;
 use tomex_study::Program;
 

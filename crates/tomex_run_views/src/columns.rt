@@ -3,15 +3,15 @@
 ghost use Rattle.std.specs.Prelude.{◌≡◌, ◌++◌, [], OnOk, map};
 ghost use Rattle.std.specs.Fmt.{decimal};
 ghost use Rattle.csv.specs.Records.{fields_of, partial_of};
-ghost use Rattle.tomex_csv_text.specs.Csv.{IsReady, record_text};
-ghost use Rattle.tomex_csv_text.specs.Growth.{Writes};
+ghost use Rattle.tomex_layout.specs.Csv.{IsReady, record_text};
+ghost use Rattle.tomex_layout.specs.Growth.{Writes};
 ghost use Rattle.tomex_run_views.specs.ByPlace.{sum_columns};
 ghost use Rattle.tomex_run_views.specs.Tally.{fields_of_sum};
 
 use crate::tally::Sum;
 use csv::{ByteRecord, Writer};
 use std::alloc::{AllocError, Allocator, Global};
-use tomex_csv_text::{push_decimal, push_names, put_record};
+use tomex_layout::{push_decimal, push_names, put_record};
 
 /// The names of the columns of a sum.
 pub const SUM_COLUMNS: [&str; 10] = [

@@ -1,7 +1,7 @@
 //! The steps of a run on a configuration, counted.
 
 ghost use Rattle.std.specs.Prelude.{◌≡◌, ◌≤◌, ◌^◌, ◌*◌, ℕ, IfOk, length, map};
-ghost use Rattle.tomex_steps.specs.declared.step.Step.{Step};
+ghost use Rattle.tomex_rvexec.specs.declared.step.Step.{Step};
 ghost use Rattle.tomex_run_views.specs.Tally.{IsCounted, only_drain, with_drain};
 ghost use Rattle.tomex_rvexec.specs.Run.{most_steps};
 

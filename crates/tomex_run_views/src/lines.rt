@@ -3,14 +3,14 @@
 ghost use Rattle.std.specs.Prelude.{◌≡◌, ◌+◌, ◌<◌, ◌^◌, ◌++◌, codes, length, OnOk};
 ghost use Rattle.tomex_rvdec.specs.Text.{instr_text};
 ghost use Rattle.tomex_rvexec.specs.Texts.{hex8};
-ghost use Rattle.tomex_csv_text.specs.Aligned.{left_aligned};
-ghost use Rattle.tomex_csv_text.specs.Growth.{Appends};
+ghost use Rattle.tomex_layout.specs.Aligned.{left_aligned};
+ghost use Rattle.tomex_layout.specs.Growth.{Appends};
 ghost use Rattle.tomex_run_views.specs.Chart.{chart, line_of, lines_of};
 
 use crate::stage::sign_in;
 use std::alloc::{AllocError, Allocator, Global};
 use std::fmt::Write;
-use tomex_csv_text::{push_aligned_number, push_left_aligned};
+use tomex_layout::{push_aligned_number, push_left_aligned};
 use tomex_rvexec::Step;
 use tomex_timing::Times;
 

@@ -1,7 +1,7 @@
 //! The activity of a step in a cycle.
 
 ghost use Rattle.std.specs.Prelude.{◌≡◌, nat_le, ◌&&◌};
-ghost use Rattle.tomex_steps.specs.Steps.{is_number};
+ghost use Rattle.tomex_rvexec.specs.Steps.{is_number};
 ghost use Rattle.tomex_run_views.specs.Chart.{sign_in, sign_of, stage_in};
 
 use tomex_timing::Times;

@@ -4,13 +4,13 @@ ghost use Rattle.std.specs.Prelude.{◌≡◌, ◌++◌, ◌∷◌, [], ℕ, Lis
 ghost use Rattle.std.specs.List.{flat_map};
 ghost use Rattle.csv.specs.Records.{fields_of, partial_of};
 ghost use Rattle.tomex_rvdec.specs.declared.pool.UnitId.{UnitId};
-ghost use Rattle.tomex_steps.specs.declared.step.Step.{Step};
+ghost use Rattle.tomex_rvexec.specs.declared.step.Step.{Step};
 ghost use Rattle.tomex_rvexec.specs.Run.{start_of};
 ghost use Rattle.tomex_rvexec.specs.Trace.{steps_from};
 ghost use Rattle.tomex_timing.specs.Needs.{all_parts};
 ghost use Rattle.tomex_floor.specs.Floor.{floors_by_width, latency_of};
-ghost use Rattle.tomex_csv_text.specs.Csv.{IsReady, record_text};
-ghost use Rattle.tomex_csv_text.specs.Growth.{Appends, Writes};
+ghost use Rattle.tomex_layout.specs.Csv.{IsReady, record_text};
+ghost use Rattle.tomex_layout.specs.Growth.{Appends, Writes};
 ghost use Rattle.tomex_run_views.specs.StallsReport.{IsStallsReport, floor_record, floor_records, header};
 ghost use Rattle.tomex_run_views.specs.StallsReport.{name_of_part, other_record, other_records};
 ghost use Rattle.tomex_run_views.specs.StallsReport.{part_fields, part_record, report_of_needs};
@@ -19,8 +19,8 @@ use csv::{ByteRecord, Writer};
 use std::alloc::{AllocError, Allocator, Global};
 use std::fmt::Write;
 use tomex_config::Config;
-use tomex_csv_text::{into_text, push_decimal, push_names, put_record};
 use tomex_floor::floors;
+use tomex_layout::{into_text, push_decimal, push_names, put_record};
 use tomex_study::Program;
 use tomex_timing::{Needs, Part};
 

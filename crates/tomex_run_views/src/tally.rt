@@ -1,7 +1,7 @@
 //! The steps of each key, such as an address, counted with their cycles and waits.
 
 ghost use Rattle.std.specs.Prelude.{◌≡◌, ◌^◌, ◌<◌, ◌≤◌, ◌++◌, ◌∷◌, [], ℕ, IfOk, List, OnOk, All, length, map};
-ghost use Rattle.tomex_steps.specs.declared.step.Step.{Step};
+ghost use Rattle.tomex_rvexec.specs.declared.step.Step.{Step};
 ghost use Rattle.tomex_timing.specs.Waiting.{AreWithin};
 ghost use Rattle.tomex_run_views.specs.ByPlace.{Visit};
 ghost use Rattle.tomex_run_views.specs.Tally.{HasRoom, IsTally, cycles_by, more_at, no_sum, sum_after, visit};

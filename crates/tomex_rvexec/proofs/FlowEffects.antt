@@ -10,16 +10,16 @@ use Rattle.tomex_rvdec.specs.Instruction.{Instruction}
 use Rattle.tomex_rvdec.specs.Meaning.{form_of}
 use Rattle.tomex_rvdec.specs.Operands.{dest_at, unless_zero}
 use Rattle.tomex_rvexec.specs.declared.outcome.FaultKind.TheVariants.{MisalignedTarget, Access}
-use Rattle.tomex_steps.specs.declared.step.Step.{Step}
+use Rattle.tomex_rvexec.specs.declared.step.Step.{Step}
 use Rattle.tomex_rvexec.specs.Flow.{memory_of}
-use Rattle.tomex_steps.specs.Results.{byte_in, next_at, result_at}
+use Rattle.tomex_rvexec.specs.Results.{byte_in, next_at, result_at}
 use Rattle.tomex_rvexec.specs.Machine.{State, Goes, Faults, base_of, holds, next_pc, with_register, writes, jumps}
 use Rattle.tomex_rvexec.specs.Machine.{branches, loads, stores, executes, step_at}
-use Rattle.tomex_steps.specs.Memory.{from_byte, from_half}
-use Rattle.tomex_steps.specs.Memory.{byte_read, half_read, word_read, byte_written, half_written, word_written}
-use Rattle.tomex_steps.specs.Steps.{access_size, address_of}
-use Rattle.tomex_steps.specs.Words.{is_taken, sum}
-use Rattle.tomex_steps.proofs.Bytes.{bytes_written, byte_is, half_is, word_is, half_loaded, word_loaded}
+use Rattle.tomex_rvexec.specs.Memory.{from_byte, from_half}
+use Rattle.tomex_rvexec.specs.Memory.{byte_read, half_read, word_read, byte_written, half_written, word_written}
+use Rattle.tomex_rvexec.specs.Steps.{access_size, address_of}
+use Rattle.tomex_rvexec.specs.Words.{is_taken, sum}
+use Rattle.tomex_rvexec.proofs.Bytes.{bytes_written, byte_is, half_is, word_is, half_loaded, word_loaded}
 
 -- the number of bytes that an operation writes
 abbrev pub stored_size : Op → ℕ

@@ -4,10 +4,10 @@ use Rattle.std.specs.Prelude.{Ok}
 use Rattle.tomex_image.specs.Image.{Loaded}
 use Rattle.tomex_rvdec.specs.Instruction.{Instruction}
 use Rattle.tomex_rvdec.specs.Meaning.{meaning}
-use Rattle.tomex_steps.specs.declared.step.Step.{Step}
+use Rattle.tomex_rvexec.specs.declared.step.Step.{Step}
 use Rattle.tomex_rvexec.specs.Fetch.{instruction_at}
 use Rattle.tomex_rvexec.specs.History.{Follows, pc_after, register_after}
-use Rattle.tomex_steps.specs.Memory.{word_read}
+use Rattle.tomex_rvexec.specs.Memory.{word_read}
 
 pub follows_fetched : (i : Loaded) (older : List Step) (x : Step) → Follows i older x
     → instruction_at i (pc_after i older) ≡ Ok x.instr

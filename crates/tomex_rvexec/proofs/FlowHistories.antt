@@ -14,14 +14,14 @@ use Rattle.tomex_rvdec.specs.Instruction.{Instruction}
 use Rattle.tomex_rvdec.specs.Meaning.{form_of, meaning, operands_at, selection}
 use Rattle.tomex_rvdec.specs.Operands.{pool_of, sources_at, sources_of}
 use Rattle.tomex_rvdec.proofs.Meaning.{op_of_operands}
-use Rattle.tomex_steps.specs.declared.step.Step.{Step}
+use Rattle.tomex_rvexec.specs.declared.step.Step.{Step}
 use Rattle.tomex_rvexec.specs.Flow.{IsState}
-use Rattle.tomex_steps.specs.Results.{overwrites, result_of, stored_byte}
+use Rattle.tomex_rvexec.specs.Results.{overwrites, result_of, stored_byte}
 use Rattle.tomex_rvexec.specs.History.{Follows, HasBytesAfter, Leaves, byte_after, register_after}
 use Rattle.tomex_rvexec.specs.Machine.{State}
-use Rattle.tomex_steps.specs.Memory.{word_read}
+use Rattle.tomex_rvexec.specs.Memory.{word_read}
 use Rattle.tomex_rvexec.specs.Run.{start_of}
-use Rattle.tomex_steps.specs.Steps.{j_of, k_of, operand, step_dest, step_pool, is_number}
+use Rattle.tomex_rvexec.specs.Steps.{j_of, k_of, operand, step_dest, step_pool, is_number}
 use Rattle.tomex_rvexec.proofs.FlowSteps.{never_zero}
 
 pub same_registers : (i : Loaded) (steps : List Step) (s : State) (regs : List ℕ) → Leaves i steps s → IsState s

@@ -3,8 +3,8 @@ use Rattle.std.proofs.Common.{ℕ, ◌≡◌, refl, List, [], ◌∷◌}
 use Rattle.std.specs.Prelude.{map}
 use Rattle.tomex_image.specs.Image.{Loaded}
 use Rattle.tomex_rvdec.specs.Meaning.{selection}
-use Rattle.tomex_steps.specs.declared.step.Step.{Step}
-use Rattle.tomex_steps.specs.Results.{next_pc_of}
+use Rattle.tomex_rvexec.specs.declared.step.Step.{Step}
+use Rattle.tomex_rvexec.specs.Results.{next_pc_of}
 use Rattle.tomex_rvexec.specs.History.{history, byte_after, register_after}
 use Rattle.tomex_rvexec.specs.Machine.{step_of}
 use Rattle.tomex_rvexec.proofs.Rows.{image_at}

@@ -8,14 +8,14 @@ use Rattle.tomex_rvdec.specs.declared.op.Op.{Op}
 use Rattle.tomex_rvdec.specs.declared.op.Op.TheVariants.{Lb, Lh, Lw, Lbu, Lhu}
 use Rattle.tomex_rvdec.specs.Instruction.{Instruction}
 use Rattle.tomex_rvdec.specs.Meaning.{meaning}
-use Rattle.tomex_steps.specs.declared.step.Step.{Step}
+use Rattle.tomex_rvexec.specs.declared.step.Step.{Step}
 use Rattle.tomex_rvexec.specs.Flow.{Changes, IsAllowed, IsState, memory_of}
-use Rattle.tomex_steps.specs.Results.{byte_in, covers, is_among, result_at, result_of}
+use Rattle.tomex_rvexec.specs.Results.{byte_in, covers, is_among, result_at, result_of}
 use Rattle.tomex_rvexec.specs.History.{Follows, IsFlow, Leaves, byte_after, history, state_after}
 use Rattle.tomex_rvexec.specs.Machine.{State, Goes, base_of, coming_of, step_at, step_of}
-use Rattle.tomex_steps.specs.Memory.{from_byte, is_inside, word_read}
+use Rattle.tomex_rvexec.specs.Memory.{from_byte, is_inside, word_read}
 use Rattle.tomex_rvexec.specs.Run.{Leads, start_of}
-use Rattle.tomex_steps.specs.Steps.{access_size, address_of}
+use Rattle.tomex_rvexec.specs.Steps.{access_size, address_of}
 use Rattle.tomex_rvexec.proofs.FlowSteps.{changes, comes}
 use Rattle.tomex_rvexec.proofs.FlowStates.{allowed, fetch_inside, goes_by_step, reads_above, registers_small}
 use Rattle.tomex_rvexec.proofs.FlowStates.{start_state, state_kept}

@@ -16,19 +16,19 @@ use Rattle.tomex_rvdec.specs.Operands.{dest_at, pool_of}
 use Rattle.tomex_rvexec.specs.declared.outcome.EndKind.{EndKind}
 use Rattle.tomex_rvexec.specs.declared.outcome.FaultKind.{FaultKind}
 use Rattle.tomex_rvexec.specs.declared.outcome.FaultKind.TheVariants.{Fetch, MisalignedTarget, Access}
-use Rattle.tomex_steps.specs.declared.step.Step.{Step}
-use Rattle.tomex_steps.specs.declared.step.ByteRange.{ByteRange}
+use Rattle.tomex_rvexec.specs.declared.step.Step.{Step}
+use Rattle.tomex_rvexec.specs.declared.step.ByteRange.{ByteRange}
 use Rattle.tomex_rvexec.specs.Flow.{IsAllowed, IsState, memory_of, end_at, end_of}
-use Rattle.tomex_steps.specs.Results.{byte_in, next_at, result_of}
+use Rattle.tomex_rvexec.specs.Results.{byte_in, next_at, result_of}
 use Rattle.tomex_rvexec.specs.Machine.{State, Goes, Ends, Faults, base_of, branches, coming_of, executes, fetched_word}
 use Rattle.tomex_rvexec.specs.Machine.{holds, jumps, loads, next_pc, outcome_of, step_at, step_of}
-use Rattle.tomex_steps.specs.Memory.{from_byte, from_half}
+use Rattle.tomex_rvexec.specs.Memory.{from_byte, from_half}
 use Rattle.tomex_rvexec.specs.Machine.{stores, with_register}
-use Rattle.tomex_steps.specs.Memory.{byte_read, half_read, word_read, byte_written, half_written, word_written}
+use Rattle.tomex_rvexec.specs.Memory.{byte_read, half_read, word_read, byte_written, half_written, word_written}
 use Rattle.tomex_rvexec.specs.Run.{start_of}
-use Rattle.tomex_steps.specs.Steps.{access_size, address_of, is_in, is_store, step_dest}
-use Rattle.tomex_steps.specs.Words.{is_taken, sum}
-use Rattle.tomex_steps.proofs.Bytes.{length-bytes}
+use Rattle.tomex_rvexec.specs.Steps.{access_size, address_of, is_in, is_store, step_dest}
+use Rattle.tomex_rvexec.specs.Words.{is_taken, sum}
+use Rattle.tomex_rvexec.proofs.Bytes.{length-bytes}
 use Rattle.tomex_rvexec.proofs.FlowEffects.{Carried, carried, stored_size}
 use Rattle.tomex_rvexec.proofs.FlowSteps.{comes, inside, length-dest, never_zero, register_set}
 

@@ -15,13 +15,13 @@ use Rattle.tomex_rvdec.specs.Instruction.{Instruction}
 use Rattle.tomex_rvdec.specs.Meaning.{meaning}
 use Rattle.tomex_rvdec.specs.Operands.{dest_at, pool_of}
 use Rattle.tomex_rvexec.specs.declared.outcome.FaultKind.TheVariants.{Fetch}
-use Rattle.tomex_steps.specs.declared.step.Step.{Step}
+use Rattle.tomex_rvexec.specs.declared.step.Step.{Step}
 use Rattle.tomex_rvexec.specs.Flow.{Changes, IsState, memory_of}
-use Rattle.tomex_steps.specs.Results.{byte_in, is_among, result_of}
+use Rattle.tomex_rvexec.specs.Results.{byte_in, is_among, result_of}
 use Rattle.tomex_rvexec.specs.Machine.{State, Outcome, Goes, Faults, base_of, coming_of, executes, fetched_word, holds}
 use Rattle.tomex_rvexec.specs.Machine.{outcome_of, step_at, step_of}
-use Rattle.tomex_steps.specs.Steps.{access_size, address_of, is_in, step_dest, is_number}
-use Rattle.tomex_steps.proofs.Bytes.{below_none, bytes_stored}
+use Rattle.tomex_rvexec.specs.Steps.{access_size, address_of, is_in, step_dest, is_number}
+use Rattle.tomex_rvexec.proofs.Bytes.{below_none, bytes_stored}
 use Rattle.tomex_rvexec.proofs.FlowEffects.{Carried, carried, stored_size, with_dest}
 
 -- the instruction of the next step, and the step's outcome

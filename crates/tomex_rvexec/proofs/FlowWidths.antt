@@ -16,11 +16,11 @@ use Rattle.tomex_rvdec.specs.Fields.{field, sign_extended}
 use Rattle.tomex_rvdec.specs.Instruction.{Instruction}
 use Rattle.tomex_rvdec.specs.Meaning.{form_of, meaning, operands_at, selection}
 use Rattle.tomex_rvexec.specs.Flow.{HasWords, memory_of}
-use Rattle.tomex_steps.specs.Results.{byte_in, result_of}
+use Rattle.tomex_rvexec.specs.Results.{byte_in, result_of}
 use Rattle.tomex_rvexec.specs.Machine.{State, Goes, base_of, fetched_word, step_at, step_of}
 use Rattle.tomex_rvexec.specs.Run.{Leads, start_of}
-use Rattle.tomex_steps.specs.Steps.{address_of, step_dest}
-use Rattle.tomex_steps.proofs.Bytes.{bytes_written}
+use Rattle.tomex_rvexec.specs.Steps.{address_of, step_dest}
+use Rattle.tomex_rvexec.proofs.Bytes.{bytes_written}
 use Rattle.tomex_rvexec.proofs.FlowEffects.{Carried, carried, stored_size, with_dest}
 use Rattle.tomex_rvexec.proofs.FlowSteps.{comes}
 use Rattle.tomex_rvexec.proofs.FlowStates.{goes_by_step}

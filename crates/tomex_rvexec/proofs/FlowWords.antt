@@ -19,12 +19,12 @@ use Rattle.tomex_rvdec.specs.declared.pool.PoolId.{PoolId}
 use Rattle.tomex_rvdec.specs.declared.pool.PoolId.TheVariants as pools
 use Rattle.tomex_rvdec.specs.Meaning.{form_of}
 use Rattle.tomex_rvdec.specs.Operands.{pool_of}
-use Rattle.tomex_steps.specs.declared.step.Step.{Step}
-use Rattle.tomex_steps.specs.Results.{unit_result, load_value, next_at, result_at, second_at}
-use Rattle.tomex_steps.specs.Memory.{from_byte, from_half}
-use Rattle.tomex_steps.specs.Steps.{address_of}
-use Rattle.tomex_steps.specs.Words.{alu_of, flag, high_half, is_taken, muldiv_of, quotient, remainder}
-use Rattle.tomex_steps.specs.Words.{signed_value, sum}
+use Rattle.tomex_rvexec.specs.declared.step.Step.{Step}
+use Rattle.tomex_rvexec.specs.Results.{unit_result, load_value, next_at, result_at, second_at}
+use Rattle.tomex_rvexec.specs.Memory.{from_byte, from_half}
+use Rattle.tomex_rvexec.specs.Steps.{address_of}
+use Rattle.tomex_rvexec.specs.Words.{alu_of, flag, high_half, is_taken, muldiv_of, quotient, remainder}
+use Rattle.tomex_rvexec.specs.Words.{signed_value, sum}
 
 abs_neg : (n : ℕ) → unsigned_abs (neg_ℤ (pos n)) ≡ n
 abs_neg zero = refl

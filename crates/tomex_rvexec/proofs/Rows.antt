@@ -2,10 +2,10 @@
 use Rattle.std.proofs.Common.{ℕ, ◌≡◌, ◌+◌, ◌++◌, refl, List, [], ◌∷◌}
 use Rattle.std.specs.Prelude.{replicate, slice_index, length, map}
 use Rattle.tomex_rvdec.specs.declared.op.Op.TheVariants.{Div, Rem, Mulhsu, Mulhu, Mulh, Sra, Sll, Slt, Sub}
-use Rattle.tomex_steps.specs.Words.{alu_of, muldiv_of}
+use Rattle.tomex_rvexec.specs.Words.{alu_of, muldiv_of}
 use Rattle.tomex_image.specs.Image.{Loaded}
 use Rattle.tomex_rvdec.specs.Meaning.{selection}
-use Rattle.tomex_steps.specs.declared.step.Step.{Step}
+use Rattle.tomex_rvexec.specs.declared.step.Step.{Step}
 use Rattle.tomex_rvexec.specs.declared.outcome.EndKind.{EndKind}
 use Rattle.tomex_rvexec.specs.declared.outcome.FaultKind.{FaultKind}
 use Rattle.tomex_rvexec.specs.declared.outcome.EndKind.TheVariants as ends

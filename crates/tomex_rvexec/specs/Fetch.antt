@@ -9,7 +9,7 @@ use Rattle.tomex_rvexec.specs.declared.decode_cache.DecodeCache.{DecodeCache}
 use Rattle.tomex_rvexec.specs.declared.decode_cache.Line.{Line}
 use Rattle.tomex_rvexec.specs.declared.outcome.FaultKind.{FaultKind}
 use Rattle.tomex_rvexec.specs.declared.outcome.FaultKind.TheVariants.{Fetch, Illegal}
-use Rattle.tomex_steps.specs.Memory.{is_inside, word_read}
+use Rattle.tomex_rvexec.specs.Memory.{is_inside, word_read}
 
 -- the word at an address of an image
 abbrev pub word_at : Loaded → ℕ → ℕ

@@ -8,10 +8,10 @@ use Rattle.tomex_rvdec.specs.declared.op.Op.TheVariants.{Ecall, Ebreak}
 use Rattle.tomex_rvexec.specs.declared.outcome.EndKind.{EndKind}
 use Rattle.tomex_rvexec.specs.declared.outcome.EndKind.TheVariants as ends
 use Rattle.tomex_rvexec.specs.Machine.{State, base_of}
-use Rattle.tomex_steps.specs.declared.step.Step.{Step}
-use Rattle.tomex_steps.specs.Memory.{Bytes}
-use Rattle.tomex_steps.specs.Results.{byte_in, next_pc_of, overwrites, result_of, stored_byte}
-use Rattle.tomex_steps.specs.Steps.{bytes_of, is_number, is_store, step_dest}
+use Rattle.tomex_rvexec.specs.declared.step.Step.{Step}
+use Rattle.tomex_rvexec.specs.Memory.{Bytes}
+use Rattle.tomex_rvexec.specs.Results.{byte_in, next_pc_of, overwrites, result_of, stored_byte}
+use Rattle.tomex_rvexec.specs.Steps.{bytes_of, is_number, is_store, step_dest}
 
 abbrev pub memory_of : State → Bytes
 memory_of s = record { base = base_of s; bytes = s.memory }

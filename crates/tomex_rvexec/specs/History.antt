@@ -4,13 +4,13 @@ use Rattle.std.specs.Prelude.{◌≡◌, ℕ, zero, suc, ◌+◌, ◌-◌, ◌<�
 use Rattle.std.specs.Prelude.{[], ◌∷◌, Option, Some, if◌then◌else◌, length, slice_index}
 use Rattle.tomex_image.specs.Image.{Loaded}
 use Rattle.tomex_rvdec.specs.Meaning.{meaning}
-use Rattle.tomex_steps.specs.declared.step.Step.{Step}
+use Rattle.tomex_rvexec.specs.declared.step.Step.{Step}
 use Rattle.tomex_rvexec.specs.Flow.{IsAllowed, memory_of}
-use Rattle.tomex_steps.specs.Results.{byte_in, next_pc_of, overwrites, result_of, stored_byte}
+use Rattle.tomex_rvexec.specs.Results.{byte_in, next_pc_of, overwrites, result_of, stored_byte}
 use Rattle.tomex_rvexec.specs.Machine.{State, Outcome, Goes, Ends, Faults, step_of, coming_of}
-use Rattle.tomex_steps.specs.Memory.{is_inside, word_read}
+use Rattle.tomex_rvexec.specs.Memory.{is_inside, word_read}
 use Rattle.tomex_rvexec.specs.Run.{start_of}
-use Rattle.tomex_steps.specs.Steps.{step_dest, is_number}
+use Rattle.tomex_rvexec.specs.Steps.{step_dest, is_number}
 use Rattle.tomex_rvexec.specs.Trace.{onto}
 
 -- a step that ends or faults leaves the state as it was

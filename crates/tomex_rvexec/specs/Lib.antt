@@ -5,3 +5,8 @@ pub mod History
 pub mod Run
 pub mod Trace
 pub mod Texts
+pub mod Memory
+pub mod Words
+pub mod Steps
+pub mod Results
+pub mod Access

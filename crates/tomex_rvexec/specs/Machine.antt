@@ -12,15 +12,15 @@ use Rattle.tomex_rvdec.specs.declared.op.Op.TheVariants.{Remu, Fence, Ecall, Ebr
 use Rattle.tomex_rvdec.specs.Instruction.{Instruction}
 use Rattle.tomex_rvdec.specs.Meaning.{meaning}
 use Rattle.tomex_image.specs.Image.{Loaded}
-use Rattle.tomex_steps.specs.declared.step.Step.{Step}
+use Rattle.tomex_rvexec.specs.declared.step.Step.{Step}
 use Rattle.tomex_rvexec.specs.declared.outcome.EndKind.{EndKind}
 use Rattle.tomex_rvexec.specs.declared.outcome.EndKind.TheVariants as ends
 use Rattle.tomex_rvexec.specs.declared.outcome.FaultKind.{FaultKind}
 use Rattle.tomex_rvexec.specs.declared.outcome.FaultKind.TheVariants.{Fetch, Illegal, MisalignedTarget, Access}
 use Rattle.tomex_rvexec.specs.Fetch.{word_at}
-use Rattle.tomex_steps.specs.Words.{sum, alu_of, muldiv_of, is_taken}
-use Rattle.tomex_steps.specs.Memory.{is_inside, byte_read, half_read, word_read, from_byte, from_half}
-use Rattle.tomex_steps.specs.Memory.{byte_written, half_written, word_written}
+use Rattle.tomex_rvexec.specs.Words.{sum, alu_of, muldiv_of, is_taken}
+use Rattle.tomex_rvexec.specs.Memory.{is_inside, byte_read, half_read, word_read, from_byte, from_half}
+use Rattle.tomex_rvexec.specs.Memory.{byte_written, half_written, word_written}
 
 -- a program that runs: its image, and what a step may change
 pub record State : Type 0 where

@@ -5,12 +5,14 @@ ghost use Rattle.tomex_rvexec.specs.Run.{initial_sp};
 
 use crate::end::End;
 use crate::fetcher::Fetcher;
+use crate::memory::Memory;
 use crate::outcome::{EndKind, Fault, FaultKind, Stepped};
+use crate::step::Step;
+use crate::words::{alu, muldiv, taken};
 use std::alloc::{AllocError, Allocator, Global};
 use std::marker::Model;
 use tomex_image::{Image, Window};
 use tomex_rvdec::Op;
-use tomex_steps::{Memory, Step, alu, muldiv, taken};
 
 mod effects;
 

@@ -15,7 +15,7 @@ pub struct End<A: Allocator = Global> {
     pub pc: u32,
     pub steps: u32,
     pub regs: [u32; 32],
-    pub memory: tomex_steps::Memory<A>,
+    pub memory: crate::Memory<A>,
 }
 
 /// Why a run has no end.

@@ -9,21 +9,27 @@
 //! Tests: tomex_tests_in_order.
 #![tactic(auto)]
 
+mod access;
 mod cpu;
 mod decode_cache;
 mod end;
 mod fetcher;
 pub mod laws;
+mod memory;
+mod operation;
 mod outcome;
 mod running;
+mod step;
 mod tracing;
+mod words;
 
 pub use cpu::{Cpu, initial_sp};
 pub use end::{End, RunError};
 pub use fetcher::{Fetcher, instruction_at};
+pub use memory::Memory;
+pub use operation::{next_pc, result, result_in, store};
 pub use outcome::{EndKind, Fault, FaultKind, Stepped};
 pub use running::run;
-pub use tomex_steps::{
-    ByteRange, Memory, Operand, Step, alu, muldiv, next_pc, result, result_in, store, taken,
-};
+pub use step::{ByteRange, Operand, Step};
 pub use tracing::trace;
+pub use words::{alu, muldiv, taken};

@@ -8,9 +8,9 @@ ghost use Rattle.tomex_rvexec.specs.Trace.{steps_from};
 use crate::cpu::Cpu;
 use crate::end::RunError;
 use crate::outcome::Stepped;
+use crate::step::Step;
 use std::alloc::Allocator;
 use tomex_image::Image;
-use tomex_steps::Step;
 
 /// Records the steps from the start of a run that ends within the limit; the ECALL or EBREAK is the last.
 fn record<'a, A: Allocator>(

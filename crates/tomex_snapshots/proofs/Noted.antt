@@ -12,8 +12,8 @@ use Rattle.std.proofs.lemmas.List.FromFn.{get_or-map-range_with_len}
 use Rattle.tomex_rvdec.specs.Parts.{place_of_pool}
 use Rattle.tomex_rvdec.specs.declared.pool.PoolId.{PoolId}
 use Rattle.tomex_rvdec.specs.declared.pool.PoolId.TheVariants as pools
-use Rattle.tomex_steps.specs.Steps.{is_in, is_number, j_of, k_of, step_dest, step_pool}
-use Rattle.tomex_steps.specs.declared.step.Operand.{Operand}
+use Rattle.tomex_rvexec.specs.Steps.{is_in, is_number, j_of, k_of, step_dest, step_pool}
+use Rattle.tomex_rvexec.specs.declared.step.Operand.{Operand}
 use Rattle.tomex_timing.specs.Tables.{a_of, all_tags, busy_of, field_from, field_of, is_under_way, producer}
 use Rattle.tomex_timing.specs.Tables.{qi_of, station_fields}
 use Rattle.tomex_timing.specs.Tables.{tag_at, unsent_tag}

@@ -1,7 +1,7 @@
 //! The content of stations and registers after a cycle.
 
 ghost use Rattle.std.specs.Prelude.{◌≡◌, ◌-◌, ◌<◌, ◌^◌, length, List, [], None, replicate, IfSome};
-ghost use Rattle.tomex_steps.specs.Steps.{j_of, k_of};
+ghost use Rattle.tomex_rvexec.specs.Steps.{j_of, k_of};
 ghost use Rattle.tomex_timing.specs.Tables.{a_of, is_under_way, unsent_tag};
 ghost use Rattle.tomex_snapshots.specs.Entries.{done_of, history_of};
 ghost use Rattle.tomex_snapshots.specs.Kept.{AreSnapshots, IsSnapshot, snapshot_after, busy_in, field_in};

@@ -6,7 +6,3 @@ pub mod Study
 pub mod Cycles
 pub mod StudyFront
 pub mod Surveyed
-pub use Rattle.tomex_image.specs.Image
-pub use Rattle.tomex_rvexec.specs.Run
-pub use Rattle.tomex_config.specs.Configuration
-pub use Rattle.tomex_config.specs.Cost

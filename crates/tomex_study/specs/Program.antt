@@ -5,7 +5,7 @@ use Rattle.tomex_rvexec.specs.Run.{EndsWithin, IsRefusal, most_steps, start_of}
 use Rattle.tomex_rvexec.specs.Trace.{steps_from}
 use Rattle.tomex_rvexec.specs.declared.end.RunError.{RunError}
 use Rattle.tomex_rvexec.specs.declared.end.RunError.TheVariants as errors
-use Rattle.tomex_steps.specs.declared.step.Step.{Step}
+use Rattle.tomex_rvexec.specs.declared.step.Step.{Step}
 use Rattle.tomex_study.specs.Watch.{IsWatch}
 use Rattle.tomex_study.specs.declared.watch.WatchRange.{WatchRange}
 use Rattle.tomex_study.specs.declared.program.ProgramError.{ProgramError}

@@ -1,7 +1,7 @@
 -- The ranges of memory that a report shows at a program's end, and which of them it may have.
 use Rattle.std.specs.Prelude.{◌≡◌, ℕ, ◌≤◌, ◌&&◌, Bool, true, nat_le, List, length, sum_by, All}
 use Rattle.tomex_image.specs.Window.{Span}
-use Rattle.tomex_steps.specs.Memory.{is_inside}
+use Rattle.tomex_rvexec.specs.Memory.{is_inside}
 use Rattle.tomex_study.specs.declared.watch.WatchRange.{WatchRange}
 
 -- it has a byte, and all its bytes lie in the window

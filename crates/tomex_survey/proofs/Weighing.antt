@@ -9,7 +9,7 @@ use Rattle.tomex_pareto.specs.Front.{rows_from}
 use Rattle.tomex_pareto.specs.declared.front_row.FrontRow.{FrontRow}
 use Rattle.tomex_timing.specs.Run.{total}
 use Rattle.tomex_study.specs.Cycles.{cycles_of, cycles_on, totals_on}
-use Rattle.tomex_row_runs.proofs.Totals.{all_cycles, cycles_more, next_cycles, total_at}
+use Rattle.tomex_plateaus.proofs.Totals.{all_cycles, cycles_more, next_cycles, total_at}
 use Rattle.tomex_study.specs.Program.{IsProgram, Workload}
 use Rattle.tomex_study.specs.Study.{DesignSpace, IsStudy}
 use Rattle.tomex_study.proofs.Rows.{as_many_cycles, as_many_rows, cycles_at}

@@ -2,7 +2,7 @@
 
 ghost use Rattle.std.specs.Prelude.{◌≡◌, ◌<◌, ◌≤◌, count_by, flat_map, is_some, length, not, take, All, IfOk, OnOk};
 ghost use Rattle.std.specs.List.{AllZip};
-ghost use Rattle.tomex_row_runs.specs.Knowledge.{AreLearntOn, AreTotalsOn};
+ghost use Rattle.tomex_plateaus.specs.Knowledge.{AreLearntOn, AreTotalsOn};
 ghost use Rattle.tomex_survey.specs.Stretches.{AreTotalsIn, IsWithin};
 ghost use Rattle.tomex_study.specs.Surveyed.{AreTotalsOf};
 
@@ -10,7 +10,7 @@ use crate::stretch::{Stretch, stretches};
 use rayon::prelude::*;
 use std::alloc::{AllocError, Allocator};
 use std::thread::Threads;
-use tomex_row_runs::Knowledge;
+use tomex_plateaus::Knowledge;
 use tomex_study::{Gate, Study};
 
 /// The number of programs whose total isn't known.

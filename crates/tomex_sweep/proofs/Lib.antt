@@ -5,3 +5,4 @@ pub mod Judged
 pub mod Verdicts
 pub mod Moves
 pub mod Crewed
+pub mod Machines

@@ -8,9 +8,9 @@ ghost use Rattle.tomex_sweep.specs.declared.outcome.SweepError.TheVariants.{Memo
 
 use crate::finished::front_of_finished;
 use crate::outcome::{Outcome, SweepError};
+use crate::runs::Runs;
 use std::alloc::{AllocError, Allocator};
 use tomex_board::Mark;
-use tomex_row_runs::Runs;
 use tomex_study::{Gate, OpenGate, Study};
 
 /// The marks of a study's rows, each of which is run to its end.

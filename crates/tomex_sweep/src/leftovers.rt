@@ -6,9 +6,9 @@ ghost use Rattle.tomex_lanes.specs.Parts.{is_closed};
 ghost use Rattle.tomex_study.specs.Cycles.{cycles_of};
 ghost use Rattle.tomex_sweep.specs.Marks.{AreJudged, StayClosed, rows_left};
 
+use crate::runs::Runs;
 use std::alloc::{AllocError, Allocator};
 use tomex_board::Mark;
-use tomex_row_runs::Runs;
 use tomex_study::Study;
 
 /// True if the row of this mark is finished or dropped.

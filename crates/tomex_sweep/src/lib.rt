@@ -10,15 +10,17 @@ mod exploring;
 mod finished;
 mod leftovers;
 mod outcome;
+mod runs;
 mod stacks;
 
 pub use exhaustive::{run_all, run_all_under};
 pub use exploring::{explore, explore_on};
 pub use outcome::{Outcome, SweepError};
+pub use runs::{MOST_CYCLES, Runs};
 pub use stacks::{Stacks, UsualStacks};
 pub use tomex_board::Mark;
 pub use tomex_pareto::{FrontRow, front_is_the_undominated_rows};
-pub use tomex_row_runs::limit_changes_no_total;
+pub use tomex_plateaus::limit_changes_no_total;
 pub use tomex_study::{
     Gate, OpenGate, Program, ProgramError, Study, WatchRange, can_watch, watched_bytes,
 };

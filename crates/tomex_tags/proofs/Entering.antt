@@ -4,8 +4,8 @@ use Rattle.std.proofs.Common.{length, slice_index_or, slice_set}
 use Rattle.std.specs.Prelude.{◌==◌, ◌&&◌, ◌||◌, not, is_none, is_some, option_map}
 use Rattle.std.proofs.lemmas.Bool.{and_parts, both_ways, cases_Bool, eqb-true, eqb-false}
 use Rattle.std.proofs.lemmas.List.{get_or-set_same, get_or-set_other}
-use Rattle.tomex_sets.specs.Sets.{has, IsWith, IsWithout}
-use Rattle.tomex_sets.proofs.Bits.{none_in}
+use Rattle.tomex_bus.specs.Sets.{has, IsWith, IsWithout}
+use Rattle.tomex_bus.proofs.Bits.{none_in}
 use Rattle.tomex_tags.specs.declared.wait_sets.WaitSets.{WaitSets}
 use Rattle.tomex_tags.specs.declared.station.Station.{Station}
 use Rattle.tomex_timing.specs.declared.tables.Field.{Field}

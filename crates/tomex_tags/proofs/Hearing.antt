@@ -4,11 +4,11 @@ use Rattle.std.proofs.Common.{None, length, slice_index_or, slice_set}
 use Rattle.std.specs.Prelude.{◌==◌, if◌then◌else◌, option_map}
 use Rattle.std.proofs.lemmas.Bool.{both_ways, cases_Bool, eqb-true, eqb-false, or_parts}
 use Rattle.std.proofs.lemmas.List.{get_or-set_same, get_or-set_other, length-set}
-use Rattle.tomex_sets.specs.Sets.{has, IsWithout}
+use Rattle.tomex_bus.specs.Sets.{has, IsWithout}
 use Rattle.tomex_tags.specs.declared.station.Station.{Station}
 use Rattle.tomex_timing.specs.declared.tables.Field.{Field}
 use Rattle.tomex_timing.specs.declared.tables.Field.TheVariants.{Value, Waits, Unread}
-use Rattle.tomex_sets.proofs.Members.{none_rest}
+use Rattle.tomex_bus.proofs.Members.{none_rest}
 use Rattle.tomex_tags.specs.Contents.{hears}
 use Rattle.tomex_tags.specs.Listeners.{awaits}
 use Rattle.tomex_tags.specs.Operands.{comes_from, field_after, only}

@@ -6,7 +6,7 @@ use Rattle.std.specs.Prelude.{IfSome, ◌==◌, ◌||◌, ◌⊎◌, is_some}
 use Rattle.std.proofs.lemmas.Bool.{both_ways, cases_Bool, eqb-true, eqb-false}
 use Rattle.std.proofs.lemmas.List.{get_or-set_same, get_or-set_other, length-set}
 use Rattle.tomex_rvdec.specs.Operands.{pool_of, unit_at, unit_of, unit_of_pool}
-use Rattle.tomex_sets.specs.Sets.{has, IsWith}
+use Rattle.tomex_bus.specs.Sets.{has, IsWith}
 use Rattle.tomex_timing.specs.declared.tables.Field.{Field}
 use Rattle.tomex_timing.specs.declared.tables.Field.TheVariants.{Value, Waits, Unread}
 use Rattle.tomex_timing.specs.declared.tables.Tag.{Tag}

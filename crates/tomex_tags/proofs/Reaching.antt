@@ -2,7 +2,7 @@
 use Rattle.std.proofs.Common.{ℕ, ◌/◌, ◌%◌, ◌<◌, ◌≡◌, ◌∙◌, arith, true, refl, sym, List, Option, Some, None}
 use Rattle.std.proofs.Common.{slice_index_or, get_or}
 use Rattle.std.specs.Prelude.{is_some, option_map}
-use Rattle.tomex_sets.specs.Sets.{has}
+use Rattle.tomex_bus.specs.Sets.{has}
 use Rattle.tomex_tags.specs.declared.wait_sets.WaitSets.{WaitSets}
 use Rattle.tomex_tags.specs.declared.station.Station.{Station}
 use Rattle.tomex_tags.specs.Contents.{hears}

@@ -11,11 +11,11 @@ use Rattle.tomex_rvdec.specs.declared.pool.PoolId.TheVariants as pools
 use Rattle.tomex_rvdec.specs.declared.pool.UnitId.{UnitId}
 use Rattle.tomex_rvdec.specs.declared.op.Op.{Op}
 use Rattle.tomex_rvdec.specs.declared.pool.UnitId.TheVariants as units
-use Rattle.tomex_steps.specs.Steps.{is_in}
+use Rattle.tomex_rvexec.specs.Steps.{is_in}
 use Rattle.tomex_timing.specs.History.{is_of}
 use Rattle.tomex_timing.specs.Recurrence.{IsLeast}
-use Rattle.tomex_sets.specs.Sets.{has}
-use Rattle.tomex_sets.proofs.Bits.{agree, agreed}
+use Rattle.tomex_bus.specs.Sets.{has}
+use Rattle.tomex_bus.proofs.Bits.{agree, agreed}
 use Rattle.tomex_tags.specs.Contents.{is_memory_op, lacks_address}
 use Rattle.tomex_tags.specs.Places.{is_served, is_store_place, pool_at}
 use Rattle.tomex_tags.specs.Pools.{AreBusy, AreOwn, IsOwn, is_open}

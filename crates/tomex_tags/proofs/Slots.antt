@@ -9,7 +9,7 @@ use Rattle.std.proofs.lemmas.List.{get_or-set_other, set-append_left, set-append
 use Rattle.std.proofs.lemmas.List.Concat.{flat_map-cons}
 use Rattle.std.proofs.lemmas.Nat.Bits.{bit_at-zero}
 use Rattle.std.proofs.lemmas.List.{get_or-replicate, get_or_past, set-get_or}
-use Rattle.tomex_sets.specs.Sets.{has, IsWith, IsWithout}
+use Rattle.tomex_bus.specs.Sets.{has, IsWith, IsWithout}
 use Rattle.tomex_tags.specs.declared.wait_sets.WaitSets.{WaitSets}
 use Rattle.tomex_tags.specs.declared.station.Station.{Station}
 use Rattle.tomex_tags.specs.Pools.{AreFilled, AreSix, AreSixteen, IsOwn, slots_of}

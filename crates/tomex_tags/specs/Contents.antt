@@ -5,10 +5,10 @@ use Rattle.tomex_rvdec.specs.Operands.{pool_of}
 use Rattle.tomex_rvdec.specs.declared.instr.Instr.{Instr}
 use Rattle.tomex_rvdec.specs.declared.op.Op.{Op}
 use Rattle.tomex_rvdec.specs.declared.pool.PoolId.TheVariants as pools
-use Rattle.tomex_steps.specs.declared.step.ByteRange.{ByteRange}
-use Rattle.tomex_steps.specs.declared.step.Step.{Step}
-use Rattle.tomex_steps.specs.Steps.{bytes_at, is_in}
-use Rattle.tomex_steps.specs.Words.{sum}
+use Rattle.tomex_rvexec.specs.declared.step.ByteRange.{ByteRange}
+use Rattle.tomex_rvexec.specs.declared.step.Step.{Step}
+use Rattle.tomex_rvexec.specs.Steps.{bytes_at, is_in}
+use Rattle.tomex_rvexec.specs.Words.{sum}
 use Rattle.tomex_timing.specs.declared.tables.Busy.{Busy}
 use Rattle.tomex_timing.specs.declared.tables.Field.{Field}
 use Rattle.tomex_timing.specs.declared.tables.Field.TheVariants.{Value, Waits, Unread}

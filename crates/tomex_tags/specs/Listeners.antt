@@ -1,6 +1,6 @@
 -- Which stations wait for a place's result.
 use Rattle.std.specs.Prelude.{ℕ, Bool, true, false, ◌<◌, ◌≡◌, ◌||◌, List, Option, Some, None, length, slice_index}
-use Rattle.tomex_sets.specs.Sets.{has}
+use Rattle.tomex_bus.specs.Sets.{has}
 use Rattle.tomex_timing.specs.declared.tables.Field.{Field}
 use Rattle.tomex_tags.specs.declared.station.Station.{Station}
 use Rattle.tomex_tags.specs.Operands.{comes_from}

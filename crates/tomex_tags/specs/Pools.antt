@@ -2,7 +2,7 @@
 use Rattle.std.specs.Prelude.{ℕ, ◌+◌, ◌*◌, ◌/◌, ◌^◌, ◌<◌, ◌≡◌, Bool, List, [], ◌∷◌, ⊤, Option}
 use Rattle.std.specs.Prelude.{Some, None, is_none, is_some, length, option_map}
 use Rattle.std.specs.List.{flat_map}
-use Rattle.tomex_sets.specs.Sets.{has}
+use Rattle.tomex_bus.specs.Sets.{has}
 use Rattle.tomex_rvdec.specs.Operands.{pool_of}
 use Rattle.tomex_rvdec.specs.Parts.{place_of_pool}
 use Rattle.tomex_rvdec.specs.declared.pool.PoolId.{PoolId}

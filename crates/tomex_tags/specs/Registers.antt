@@ -2,7 +2,7 @@
 use Rattle.std.specs.Prelude.{ℕ, Bool, if◌then◌else◌, List, Option, Some, None, slice_index, slice_index_or, slice_set}
 use Rattle.tomex_rvdec.specs.Operands.{sources_of}
 use Rattle.tomex_rvdec.specs.declared.instr.Instr.{Instr}
-use Rattle.tomex_steps.specs.Steps.{is_number}
+use Rattle.tomex_rvexec.specs.Steps.{is_number}
 use Rattle.tomex_timing.specs.Tables.{field_from}
 use Rattle.tomex_timing.specs.declared.tables.Field.{Field}
 use Rattle.tomex_timing.specs.declared.tables.Field.TheVariants.{Unread}

@@ -1,9 +1,9 @@
 -- What busy stations wait for: sets of their places.
 use Rattle.std.specs.Prelude.{ℕ, ◌<◌, ◌≡◌, ◌==◌, Bool, false, ◌&&◌, if◌then◌else◌, List, Option, Some, None, is_some}
-use Rattle.tomex_sets.specs.Sets.{has}
+use Rattle.tomex_bus.specs.Sets.{has}
 use Rattle.tomex_rvdec.specs.Operands.{dest_of, pool_of, unit_of}
 use Rattle.tomex_rvdec.specs.declared.pool.PoolId.TheVariants as pools
-use Rattle.tomex_steps.specs.Steps.{is_in}
+use Rattle.tomex_rvexec.specs.Steps.{is_in}
 use Rattle.tomex_rvdec.specs.declared.pool.UnitId.{UnitId}
 use Rattle.tomex_timing.specs.History.{is_of}
 use Rattle.tomex_tags.specs.declared.wait_sets.WaitSets.{WaitSets}

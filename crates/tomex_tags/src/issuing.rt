@@ -2,7 +2,7 @@
 
 ghost use Rattle.std.specs.Prelude.{◌≡◌, ◌<◌, Some, None, IfSome, slice_set};
 ghost use Rattle.tomex_rvdec.specs.Operands.{sources_of, dest_of, pool_of};
-ghost use Rattle.tomex_sets.specs.Sets.{IsWith};
+ghost use Rattle.tomex_bus.specs.Sets.{IsWith};
 ghost use Rattle.tomex_tags.specs.Places.{place_of_tag};
 ghost use Rattle.tomex_tags.specs.Contents.{slot};
 ghost use Rattle.tomex_tags.specs.Registers.{station_from, tags_with};

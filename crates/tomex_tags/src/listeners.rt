@@ -4,7 +4,7 @@ ghost use Rattle.std.specs.Prelude.{◌≡◌, ◌<◌, replicate, slice_index, 
 ghost use Rattle.tomex_tags.specs.Listeners.{IsListening};
 
 use crate::places::place;
-use tomex_sets::with;
+use tomex_bus::with;
 use tomex_timing::Field;
 
 /// For each place, the places of the stations with an operand to come from it.

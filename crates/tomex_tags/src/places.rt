@@ -2,7 +2,7 @@
 
 ghost use Rattle.std.specs.Prelude.{ℕ, ◌≡◌, ◌<◌, ◌/◌};
 ghost use Rattle.tomex_rvdec.specs.Operands.{unit_of_pool};
-ghost use Rattle.tomex_sets.specs.Sets.{has};
+ghost use Rattle.tomex_bus.specs.Sets.{has};
 ghost use Rattle.tomex_tags.specs.Places.{is_served, place_of_tag, pool_at, tag_at_place};
 
 use tomex_rvdec::{PoolId, UnitId};

@@ -3,7 +3,7 @@
 ghost use Rattle.std.specs.Prelude.{ℕ, ◌≡◌, ◌<◌, ◌≤◌, ◌/◌, Some, None, IfSome, IfNone, IsSome};
 ghost use Rattle.std.specs.Prelude.{true, false, replicate, slice_index_or, slice_set, length};
 ghost use Rattle.tomex_timing.specs.Recurrence.{IsLeast};
-ghost use Rattle.tomex_sets.specs.Sets.{IsWith, IsWithout, has};
+ghost use Rattle.tomex_bus.specs.Sets.{IsWith, IsWithout, has};
 ghost use Rattle.tomex_rvdec.specs.Operands.{dest_of, pool_of, unit_of, unit_of_pool};
 ghost use Rattle.tomex_tags.specs.Places.{pool_at};
 ghost use Rattle.tomex_tags.specs.Contents.{hears, lacks_address, busy_at, slot, with_start, with_address};
@@ -18,9 +18,9 @@ use crate::station::Station;
 use crate::stations::Stations;
 use crate::wait_sets::WaitSets;
 use std::marker::Model;
+use tomex_bus::small::{in_group, least_absent};
+use tomex_bus::{both, difference, lowest, with, without, without_lowest};
 use tomex_rvdec::{PoolId, UnitId};
-use tomex_sets::small::{in_group, least_absent};
-use tomex_sets::{both, difference, lowest, with, without, without_lowest};
 use tomex_timing::Busy;
 
 /// The stations of the six pools, by place.

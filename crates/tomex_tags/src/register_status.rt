@@ -1,7 +1,7 @@
 //! The registers, and the station from which each one's value is still to come.
 
 ghost use Rattle.std.specs.Prelude.{◌≡◌, ◌<◌, None, IfSome, replicate, slice_set};
-ghost use Rattle.tomex_steps.specs.Steps.{is_number};
+ghost use Rattle.tomex_rvexec.specs.Steps.{is_number};
 ghost use Rattle.tomex_tags.specs.Places.{place_at};
 ghost use Rattle.tomex_tags.specs.Registers.{operand_in, registers_after, tags_with};
 

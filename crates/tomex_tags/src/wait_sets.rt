@@ -2,12 +2,12 @@
 
 ghost use Rattle.std.specs.Prelude.{◌≡◌, ◌<◌, IfSome, None, Some, false, true};
 ghost use Rattle.tomex_rvdec.specs.Operands.{dest_of};
-ghost use Rattle.tomex_sets.specs.Sets.{has};
+ghost use Rattle.tomex_bus.specs.Sets.{has};
 ghost use Rattle.tomex_tags.specs.Contents.{lacks_address, with_address};
 ghost use Rattle.tomex_tags.specs.WaitSets.{HasEntered, IsWithMember, KeepsOthers, IsOut, waits};
 
 use crate::station::Station;
-use tomex_sets::{with, with_if, without};
+use tomex_bus::{with, with_if, without};
 use tomex_timing::Field;
 
 /// Sets of the busy places, by what their stations wait for.

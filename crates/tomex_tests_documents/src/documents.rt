@@ -2,9 +2,9 @@
 
 use std::process::Abort;
 use std::test::Fail;
+use tomex_document::{StudyError, file_names};
 use tomex_image::ImageError;
 use tomex_rvexec::{Fault, FaultKind};
-use tomex_study_reader::{StudyError, file_names};
 
 mod reading;
 mod studies;

@@ -4,10 +4,10 @@
 use std::alloc::Global;
 use std::process::Abort;
 use std::test::Fail;
+use tomex_document::StudyError;
 use tomex_image::ImageError;
 use tomex_refusals::{ExplainError, explain};
 use tomex_rvexec::{Fault, FaultKind};
-use tomex_study_reader::StudyError;
 use tomex_values::{Key, Place};
 
 /// Fails unless the first line of the explanation of a text is this one, and there are at most

@@ -6,7 +6,7 @@ use Rattle.std.proofs.lemmas.Bool.{false≢true}
 use Rattle.std.proofs.lemmas.List.{length-reverse}
 use Rattle.tomex_image.specs.Image.{Loaded, IsLoaded}
 use Rattle.tomex_rvexec.specs.declared.outcome.EndKind.{EndKind}
-use Rattle.tomex_steps.specs.declared.step.Step.{Step}
+use Rattle.tomex_rvexec.specs.declared.step.Step.{Step}
 use Rattle.tomex_rvexec.specs.History.{history, next_state, state_after, step_after}
 use Rattle.tomex_rvexec.specs.Machine.{State, Outcome, Ends, step_of}
 use Rattle.tomex_rvexec.specs.Run.{EndsWithin, RunEnds, start_of}

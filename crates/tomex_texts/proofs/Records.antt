@@ -14,7 +14,7 @@ use Rattle.tomex_study.specs.Program.{IsProgram, Workload}
 use Rattle.tomex_study.specs.Study.{DesignSpace}
 use Rattle.tomex_study.specs.Watch.{watched_bytes}
 use Rattle.tomex_pareto.specs.declared.front_row.FrontRow.{FrontRow}
-use Rattle.tomex_csv_text.proofs.Pieces.{IsGrown}
+use Rattle.tomex_layout.proofs.Pieces.{IsGrown}
 use Rattle.tomex_texts.specs.declared.ends.ProgramEnd.{ProgramEnd}
 use Rattle.tomex_texts.specs.Ends.{IsProgramEnd, last_state}
 use Rattle.tomex_texts.specs.FrontReport.{end_fields, if_wide, program_fields, program_record, records_of, row_fields}

@@ -15,7 +15,7 @@ use Rattle.tomex_study.specs.Study.{DesignSpace}
 use Rattle.tomex_study.specs.StudyFront.{front_of_study}
 use Rattle.tomex_pareto.specs.declared.front_row.FrontRow.{FrontRow}
 use Rattle.tomex_study.specs.declared.watch.WatchRange.{WatchRange}
-use Rattle.tomex_csv_text.specs.Csv.{record_text}
+use Rattle.tomex_layout.specs.Csv.{record_text}
 use Rattle.tomex_texts.specs.declared.ends.ProgramEnd.{ProgramEnd}
 use Rattle.tomex_texts.specs.Ends.{bytes_at, count_of, last_state}
 

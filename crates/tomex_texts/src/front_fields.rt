@@ -16,7 +16,7 @@ use csv::ByteRecord;
 use std::alloc::{AllocError, Allocator, Global};
 use std::fmt::Write;
 use tomex_config::Config;
-use tomex_csv_text::push_decimal;
+use tomex_layout::push_decimal;
 use tomex_pareto::FrontRow;
 use tomex_rvdec::{PoolId, UnitId};
 use tomex_study::{Program, WatchRange};

@@ -6,7 +6,7 @@ ghost use Rattle.tomex_texts.specs.FrontReport.{if_wide, program_columns, row_co
 
 use csv::ByteRecord;
 use std::alloc::{AllocError, Global};
-use tomex_csv_text::push_names;
+use tomex_layout::push_names;
 
 /// Adds a name to a record of a report that shows widths and weights.
 fn push_if_wide(fields: &mut ByteRecord, wide: bool, name: &str) -> Result<(), AllocError>

@@ -2,19 +2,19 @@
 
 ghost use Rattle.std.specs.Prelude.{◌≡◌, ◌++◌, ◌∷◌, [], IfOk, OnOk, length, codes};
 ghost use Rattle.csv.specs.Records.{fields_of, partial_of};
-ghost use Rattle.tomex_csv_text.specs.Csv.{IsReady};
-ghost use Rattle.tomex_csv_text.specs.Growth.{Writes};
+ghost use Rattle.tomex_layout.specs.Csv.{IsReady};
+ghost use Rattle.tomex_layout.specs.Growth.{Writes};
 ghost use Rattle.tomex_texts.specs.TimesReport.{cycle_text, station_text, fields_of_step, header, report_of_times};
 ghost use Rattle.tomex_texts.specs.TimesReport.{step_records, times_report_of, total_fields};
 ghost use Rattle.tomex_rvexec.specs.Run.{start_of};
-ghost use Rattle.tomex_steps.specs.Steps.{step_pool};
+ghost use Rattle.tomex_rvexec.specs.Steps.{step_pool};
 ghost use Rattle.tomex_rvexec.specs.Trace.{steps_from};
 
 use csv::{ByteRecord, Writer};
 use std::alloc::{AllocError, Allocator, Global};
 use std::fmt::Write;
 use tomex_config::Config;
-use tomex_csv_text::{into_text, push_decimal, push_instruction, push_names, put_record};
+use tomex_layout::{into_text, push_decimal, push_instruction, push_names, put_record};
 use tomex_rvexec::Step;
 use tomex_study::Program;
 use tomex_timing::Times;

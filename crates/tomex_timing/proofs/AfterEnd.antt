@@ -11,9 +11,9 @@ use Rattle.tomex_rvdec.specs.declared.op.Form.{Form}
 use Rattle.tomex_rvdec.specs.declared.op.Form.TheVariants as forms
 use Rattle.tomex_rvdec.specs.declared.pool.PoolId.{PoolId}
 use Rattle.tomex_rvdec.specs.declared.pool.UnitId.{UnitId}
-use Rattle.tomex_steps.specs.Steps.{step_pool, step_unit, step_dest, j_of, k_of, is_branch, is_in, is_number}
-use Rattle.tomex_steps.specs.declared.step.Operand.{Operand}
-use Rattle.tomex_steps.specs.declared.step.Step.{Step}
+use Rattle.tomex_rvexec.specs.Steps.{step_pool, step_unit, step_dest, j_of, k_of, is_branch, is_in, is_number}
+use Rattle.tomex_rvexec.specs.declared.step.Operand.{Operand}
+use Rattle.tomex_rvexec.specs.declared.step.Step.{Step}
 use Rattle.tomex_config.specs.Configuration.{Configuration, IsWithinLimits, stations_of}
 use Rattle.tomex_timing.specs.declared.times.Done.{Done}
 use Rattle.tomex_timing.specs.History.{is_of, is_memory, cycle_of, writer_end, source_end, last_issue, last_address}

@@ -15,8 +15,8 @@ use Rattle.tomex_timing.proofs.Bands.{band, is_in_band, none_of}
 use Rattle.tomex_timing.proofs.Splits.{branch_finish, slot_from, slot_range, from_of, max_split, slot_split}
 use Rattle.tomex_timing.proofs.Splits.{branch_split, issue_split, after_split, ready_split}
 use Rattle.tomex_rvdec.specs.declared.pool.UnitId.{UnitId}
-use Rattle.tomex_steps.specs.Steps.{step_unit, j_of, k_of}
-use Rattle.tomex_steps.specs.declared.step.Step.{Step}
+use Rattle.tomex_rvexec.specs.Steps.{step_unit, j_of, k_of}
+use Rattle.tomex_rvexec.specs.declared.step.Step.{Step}
 use Rattle.tomex_timing.specs.Ahead.{Held}
 use Rattle.tomex_timing.specs.declared.next.Marks.{Marks}
 use Rattle.tomex_timing.specs.declared.next.Next.{Next}

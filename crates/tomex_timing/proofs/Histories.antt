@@ -2,7 +2,7 @@
 use Rattle.std.proofs.Common.{ℕ, ◌+◌, ◌≤◌, ◌*◌, ◌<◌, ◌≡◌, ◌∙◌, arith, refl, List, [], ◌∷◌, ◌++◌, ap, sym, suc, max}
 use Rattle.std.proofs.Common.{length, map, reverse, append_assoc, slice_index_or, take}
 use Rattle.std.proofs.lemmas.List.{reverse-append, length-map, length-reverse, map-append, take_more, append-nil}
-use Rattle.tomex_steps.specs.declared.step.Step.{Step}
+use Rattle.tomex_rvexec.specs.declared.step.Step.{Step}
 use Rattle.tomex_config.specs.Configuration.{Configuration, IsWithinLimits}
 use Rattle.tomex_timing.specs.declared.times.Done.{Done}
 use Rattle.tomex_timing.specs.declared.times.Times.{Times}

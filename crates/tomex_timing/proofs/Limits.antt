@@ -10,7 +10,7 @@ use Rattle.tomex_rvdec.specs.declared.pool.UnitId.{UnitId}
 use Rattle.tomex_rvdec.specs.declared.pool.UnitId.TheVariants as units
 use Rattle.tomex_config.specs.Configuration.{Configuration, IsWithinLimits, is_between, is_option, stations_of}
 use Rattle.tomex_config.specs.Configuration.{option_of, plain_option}
-use Rattle.tomex_steps.specs.Steps.{is_in}
+use Rattle.tomex_rvexec.specs.Steps.{is_in}
 use Rattle.tomex_timing.specs.History.{is_of}
 
 abbrev pool_at : ℕ → PoolId

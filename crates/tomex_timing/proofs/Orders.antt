@@ -4,11 +4,11 @@ use Rattle.std.specs.Prelude.{is_some}
 use Rattle.std.proofs.lemmas.Bool.{and_parts, MatchBool-at_true}
 use Rattle.std.proofs.lemmas.Bool.Decides.{nat_tests}
 use Rattle.tomex_rvdec.specs.declared.pool.PoolId.{PoolId}
-use Rattle.tomex_steps.specs.declared.step.ByteRange.{ByteRange}
-use Rattle.tomex_steps.specs.declared.step.Step.{Step}
-use Rattle.tomex_steps.specs.Results.{is_among}
-use Rattle.tomex_steps.specs.Steps.{bytes_of, shares_byte, step_dest, step_pool, step_unit}
-use Rattle.tomex_steps.proofs.Fields.{dest_needs_pool, unit_with_pool}
+use Rattle.tomex_rvexec.specs.declared.step.ByteRange.{ByteRange}
+use Rattle.tomex_rvexec.specs.declared.step.Step.{Step}
+use Rattle.tomex_rvexec.specs.Results.{is_among}
+use Rattle.tomex_rvexec.specs.Steps.{bytes_of, shares_byte, step_dest, step_pool, step_unit}
+use Rattle.tomex_rvexec.proofs.Fields.{dest_needs_pool, unit_with_pool}
 use Rattle.tomex_config.specs.Configuration.{Configuration}
 use Rattle.tomex_timing.specs.declared.times.Done.{Done}
 use Rattle.tomex_timing.specs.declared.times.Times.{Times}

@@ -5,7 +5,7 @@ use Rattle.tomex_rvdec.specs.declared.op.Op.{Op}
 use Rattle.tomex_rvdec.specs.declared.op.Op.TheVariants.{Addi, Mul, Sw, Lb, Jal, Jalr, Ebreak}
 use Rattle.tomex_rvdec.specs.declared.pool.PoolId.TheVariants as pools
 use Rattle.tomex_rvdec.specs.declared.pool.UnitId.{UnitId}
-use Rattle.tomex_steps.specs.declared.step.Step.{Step}
+use Rattle.tomex_rvexec.specs.declared.step.Step.{Step}
 use Rattle.tomex_config.specs.Configuration.{Configuration, plain, with_stations, with_option}
 
 -- an instruction that takes these values from rs1 and rs2

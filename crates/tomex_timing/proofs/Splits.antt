@@ -3,8 +3,8 @@ use Rattle.std.proofs.Common.{◌∙◌, sym, ℕ, ◌+◌, ◌≤◌, ◌≡◌
 use Rattle.std.proofs.Common.{max, nat_lt, nat_le, ◌==◌, ◌&&◌, count_by}
 use Rattle.std.proofs.lemmas.Bool.{cases_Bool, cases_order, lt-ltb, le-leb, lt-leb}
 use Rattle.std.proofs.lemmas.Bool.Decides.{nat_tests}
-use Rattle.tomex_steps.specs.Steps.{j_of, is_branch}
-use Rattle.tomex_steps.specs.declared.step.Step.{Step}
+use Rattle.tomex_rvexec.specs.Steps.{j_of, is_branch}
+use Rattle.tomex_rvexec.specs.declared.step.Step.{Step}
 use Rattle.tomex_config.specs.Configuration.{Configuration, IsWithinLimits}
 use Rattle.tomex_timing.specs.declared.times.Done.{Done}
 use Rattle.tomex_timing.specs.History.{source_end, last_issue, last_address}

@@ -11,9 +11,9 @@ use Rattle.std.proofs.lemmas.List.Sums.{sum_by-cons}
 use Rattle.std.proofs.lemmas.Bool.Decides.{nat_tests}
 use Rattle.tomex_rvdec.specs.Parts.{place_of_pool}
 use Rattle.tomex_rvdec.specs.declared.pool.PoolId.{PoolId}
-use Rattle.tomex_steps.specs.Steps.{step_pool, step_unit, step_dest, bytes_of, is_in, is_number, is_store}
-use Rattle.tomex_steps.specs.declared.step.ByteRange.{ByteRange}
-use Rattle.tomex_steps.specs.declared.step.Step.{Step}
+use Rattle.tomex_rvexec.specs.Steps.{step_pool, step_unit, step_dest, bytes_of, is_in, is_number, is_store}
+use Rattle.tomex_rvexec.specs.declared.step.ByteRange.{ByteRange}
+use Rattle.tomex_rvexec.specs.declared.step.Step.{Step}
 use Rattle.tomex_config.specs.Configuration.{Configuration, stations_of}
 use Rattle.tomex_timing.specs.declared.accesses.Access.{Access}
 use Rattle.tomex_timing.specs.declared.next.Next.{Next}

@@ -6,7 +6,7 @@ use Rattle.std.proofs.lemmas.Bool.{cases_Bool, cases_order, and_from, and_parts,
 use Rattle.std.proofs.lemmas.Bool.{MatchBool-at_false, not-true}
 use Rattle.tomex_rvdec.specs.declared.pool.PoolId.{PoolId}
 use Rattle.tomex_rvdec.specs.declared.pool.UnitId.{UnitId}
-use Rattle.tomex_steps.specs.Steps.{step_pool, step_unit, step_dest, is_in}
+use Rattle.tomex_rvexec.specs.Steps.{step_pool, step_unit, step_dest, is_in}
 use Rattle.tomex_config.specs.Configuration.{Configuration, stations_of, option_of}
 use Rattle.tomex_timing.specs.declared.part.Part.{Part}
 use Rattle.tomex_timing.specs.declared.part.Part.TheVariants.{Stations, Units, Buses, Width}

@@ -9,8 +9,8 @@ use Rattle.std.proofs.lemmas.List.Sums.{count_by-le-length}
 use Rattle.tomex_rvdec.specs.Parts.{place_of_unit}
 use Rattle.tomex_rvdec.specs.declared.pool.PoolId.{PoolId}
 use Rattle.tomex_rvdec.specs.declared.pool.UnitId.{UnitId}
-use Rattle.tomex_steps.specs.declared.step.Step.{Step}
-use Rattle.tomex_steps.proofs.Fields.{bytes_of_memory}
+use Rattle.tomex_rvexec.specs.declared.step.Step.{Step}
+use Rattle.tomex_rvexec.proofs.Fields.{bytes_of_memory}
 use Rattle.tomex_config.specs.Configuration.{Configuration, IsWithinLimits, option_of, stations_of}
 use Rattle.tomex_reservations.specs.Reservations.{IsFirst, Reserved, bus_line, is_left, taken_at}
 use Rattle.tomex_timing.specs.declared.needs.Needs.{Needs}

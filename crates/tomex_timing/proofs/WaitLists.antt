@@ -6,7 +6,7 @@ use Rattle.std.specs.List.{range_with_len}
 use Rattle.std.proofs.lemmas.Bool.{cases_Bool}
 use Rattle.std.proofs.lemmas.List.FromFn.{length-range_with_len}
 use Rattle.std.proofs.lemmas.List.Sums.{count_by-le-length, sum_by_push}
-use Rattle.tomex_steps.specs.Steps.{step_pool, step_unit, is_in}
+use Rattle.tomex_rvexec.specs.Steps.{step_pool, step_unit, is_in}
 use Rattle.tomex_config.specs.Configuration.{Configuration, IsWithinLimits}
 use Rattle.tomex_timing.specs.declared.needs.Needs.{Needs}
 use Rattle.tomex_timing.specs.declared.part.Part.{Part}
@@ -24,7 +24,7 @@ use Rattle.tomex_timing.proofs.Bound.{total_bound}
 use Rattle.tomex_timing.proofs.Orders.{reach}
 use Rattle.std.proofs.lemmas.List.{reverse-append, length-reverse}
 use Rattle.std.proofs.lemmas.List.Elements.{All-nil, All-push}
-use Rattle.tomex_steps.specs.declared.step.Step.{Step}
+use Rattle.tomex_rvexec.specs.declared.step.Step.{Step}
 use Rattle.tomex_timing.specs.Search.{times_of, history}
 use Rattle.tomex_timing.proofs.Histories.{are_timed, history_more, length-history}
 

@@ -5,8 +5,8 @@ use Rattle.std.specs.Prelude.{nat_lt, nat_le, ◌==◌, ◌&&◌, count_by}
 use Rattle.std.proofs.lemmas.Bool.{cases_Bool, cases_order, lt-ltb, le-ltb, le-leb, lt-leb, ltb-true, eq-eqb}
 use Rattle.std.proofs.lemmas.Bool.{ne_eqb, and_parts, and_right}
 use Rattle.std.proofs.lemmas.List.Sums.{sum_by-cons}
-use Rattle.tomex_steps.specs.Steps.{step_pool}
-use Rattle.tomex_steps.specs.declared.step.Step.{Step}
+use Rattle.tomex_rvexec.specs.Steps.{step_pool}
+use Rattle.tomex_rvexec.specs.declared.step.Step.{Step}
 use Rattle.tomex_config.specs.Configuration.{Configuration}
 use Rattle.tomex_timing.specs.declared.times.Done.{Done}
 use Rattle.tomex_timing.specs.History.{last_issue}

@@ -4,9 +4,9 @@ use Rattle.std.specs.Prelude.{ℕ, ◌==◌, Bool, false, ◌||◌, if◌then◌
 use Rattle.tomex_rvdec.specs.Parts.{place_of_unit}
 use Rattle.tomex_rvdec.specs.declared.pool.PoolId.TheVariants.{Load, Store}
 use Rattle.tomex_rvdec.specs.declared.pool.UnitId.{UnitId}
-use Rattle.tomex_steps.specs.Steps.{is_in, is_number, step_pool, step_dest}
-use Rattle.tomex_steps.specs.declared.step.Operand.{Operand}
-use Rattle.tomex_steps.specs.declared.step.Step.{Step}
+use Rattle.tomex_rvexec.specs.Steps.{is_in, is_number, step_pool, step_dest}
+use Rattle.tomex_rvexec.specs.declared.step.Operand.{Operand}
+use Rattle.tomex_rvexec.specs.declared.step.Step.{Step}
 use Rattle.tomex_timing.specs.declared.times.Done.{Done}
 
 -- the unit that is used, if any, is of this kind

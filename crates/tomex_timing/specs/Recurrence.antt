@@ -8,9 +8,9 @@ use Rattle.std.specs.Prelude.{IsTrue, List, [], ◌∷◌, Some, None, count_by,
 use Rattle.std.specs.Bool.{MatchBool}
 use Rattle.std.specs.List.{list_all}
 use Rattle.tomex_rvdec.specs.declared.pool.UnitId.{UnitId}
-use Rattle.tomex_steps.specs.Steps.{step_pool, step_unit, step_dest, j_of, k_of, bytes_of, is_branch, is_store}
-use Rattle.tomex_steps.specs.Steps.{shares_byte}
-use Rattle.tomex_steps.specs.declared.step.Step.{Step}
+use Rattle.tomex_rvexec.specs.Steps.{step_pool, step_unit, step_dest, j_of, k_of, bytes_of, is_branch, is_store}
+use Rattle.tomex_rvexec.specs.Steps.{shares_byte}
+use Rattle.tomex_rvexec.specs.declared.step.Step.{Step}
 use Rattle.tomex_config.specs.Configuration.{Configuration, option_of}
 use Rattle.tomex_timing.specs.declared.times.Done.{Done}
 use Rattle.tomex_timing.specs.declared.times.Times.{Times}

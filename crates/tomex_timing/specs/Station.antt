@@ -2,7 +2,7 @@
 use Rattle.std.specs.Prelude.{ℕ, nat_lt, nat_le, Bool, true, not, ◌&&◌, List, Option, Some, None, count_by}
 use Rattle.std.specs.List.{list_all}
 use Rattle.tomex_rvdec.specs.declared.pool.PoolId.{PoolId}
-use Rattle.tomex_steps.specs.Steps.{step_pool, is_in, is_number}
+use Rattle.tomex_rvexec.specs.Steps.{step_pool, is_in, is_number}
 use Rattle.tomex_config.specs.Configuration.{Configuration, stations_of}
 use Rattle.tomex_timing.specs.declared.times.Done.{Done}
 

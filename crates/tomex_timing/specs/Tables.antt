@@ -5,8 +5,8 @@ use Rattle.std.specs.Prelude.{List, [], ◌∷◌, ◌++◌, Option, Some, None,
 use Rattle.std.specs.List.{filter_map, range_with_len}
 use Rattle.tomex_rvdec.specs.declared.pool.PoolId.{PoolId}
 use Rattle.tomex_rvdec.specs.declared.pool.PoolId.TheVariants.{Alu, Mul, Div, Load, Store, Bru}
-use Rattle.tomex_steps.specs.Steps.{step_pool, step_dest, j_of, k_of, address_of, is_in, is_number}
-use Rattle.tomex_steps.specs.declared.step.Operand.{Operand}
+use Rattle.tomex_rvexec.specs.Steps.{step_pool, step_dest, j_of, k_of, address_of, is_in, is_number}
+use Rattle.tomex_rvexec.specs.declared.step.Operand.{Operand}
 use Rattle.tomex_timing.specs.declared.tables.Busy.{Busy}
 use Rattle.tomex_timing.specs.declared.tables.Field.{Field}
 use Rattle.tomex_timing.specs.declared.tables.Field.TheVariants.{Value, Waits, Unread}

@@ -5,7 +5,7 @@ ghost use Rattle.tomex_timing.specs.Demands.{AreDemands};
 ghost use Rattle.tomex_timing.specs.Needs.{AreNeeds, waits_in};
 ghost use Rattle.tomex_timing.specs.Recurrence.{AreTimed};
 ghost use Rattle.tomex_timing.specs.Search.{history, times_in, total_of};
-ghost use Rattle.tomex_steps.specs.declared.step.Step.{Step};
+ghost use Rattle.tomex_rvexec.specs.declared.step.Step.{Step};
 ghost use Rattle.tomex_timing.specs.Waiting.{AreWithin};
 ghost use Rattle.tomex_timing.specs.Recent.{AreFacts};
 

@@ -24,7 +24,7 @@ pub struct Run<A: Allocator = Global> {
 
 impl<A: Allocator> Model for Run<A> {
     ghost use Rattle.std.specs.Prelude.{List};
-    ghost use Rattle.tomex_steps.specs.declared.step.Step.{Step};
+    ghost use Rattle.tomex_rvexec.specs.declared.step.Step.{Step};
     ghost use Rattle.tomex_timing.specs.Recent.{AreFacts};
 
     ghost Value = { List Step };

@@ -9,9 +9,9 @@ use Rattle.std.proofs.lemmas.List.Sums.{sum_by-cons}
 use Rattle.std.proofs.Math.Nat.{mul-le-mul_left, mul-lt-mul_of_pos_left}
 use Rattle.tomex_pareto.specs.declared.front_row.FrontRow.{FrontRow}
 use Rattle.tomex_pareto.proofs.Pareto.{among, has_contains}
-use Rattle.tomex_spans.specs.Spans.{swapped}
-use Rattle.tomex_spans.proofs.NewCosts.{on_costed}
-use Rattle.tomex_spans.proofs.Swapped.{swapped_back}
+use Rattle.tomex_pareto.specs.Spans.{swapped}
+use Rattle.tomex_pareto.proofs.NewCosts.{on_costed}
+use Rattle.tomex_pareto.proofs.Swapped.{swapped_back}
 use Rattle.tomex_study.specs.Cycles.{total_at}
 use Rattle.tomex_study.specs.Program.{Workload}
 use Rattle.tomex_study.specs.Study.{DesignSpace, IsStudy}

@@ -6,9 +6,9 @@ use Rattle.std.proofs.lemmas.Bool.{and_from, and_parts, cases_Bool, cases_lt, le
 use Rattle.std.proofs.lemmas.Bool.{false≢true, or_left, or_right}
 use Rattle.tomex_pareto.specs.Front.{is_on}
 use Rattle.tomex_pareto.specs.declared.front_row.FrontRow.{FrontRow}
-use Rattle.tomex_spans.specs.Spans.{holds, span, stays}
-use Rattle.tomex_spans.proofs.AllRivals.{stay_within}
-use Rattle.tomex_spans.proofs.Settled.{settled_holds}
+use Rattle.tomex_pareto.specs.Spans.{holds, span, stays}
+use Rattle.tomex_pareto.proofs.AllRivals.{stay_within}
+use Rattle.tomex_pareto.proofs.Settled.{settled_holds}
 use Rattle.tomex_study.specs.Study.{DesignSpace, IsStudy}
 use Rattle.tomex_study.specs.StudyFront.{all_rows, front_of_study}
 use Rattle.tomex_weights.specs.declared.spans.TheConstants.{GREATEST_WEIGHT}

@@ -1,5 +1,6 @@
 -- A row that some of a study's rows leave no value is left none by all of them. The rows of its front are such rows.
-use Rattle.std.proofs.Common.{◌≡◌, ◌∙◌, ◌&&◌, ℕ, arith, inl, inr, refl, subst, sym, true, false, List, map, nat_le, nat_lt}
+use Rattle.std.proofs.Common.{◌≡◌, ◌∙◌, ◌&&◌, ℕ, arith, inl, inr, refl, subst, sym, true, false, List, map, nat_le}
+use Rattle.std.proofs.Common.{nat_lt}
 use Rattle.std.proofs.Common.{All}
 use Rattle.std.specs.List.{Contains, filter}
 use Rattle.std.proofs.lemmas.Bool.{and_from, and_parts, cases_Bool, le-leb, leb-true, lt-ltb, ltb-true, true≢false}
@@ -9,11 +10,11 @@ use Rattle.tomex_pareto.specs.declared.front_row.FrontRow.{FrontRow}
 use Rattle.tomex_pareto.specs.Front.{by_cost, front_of, is_undominated}
 use Rattle.tomex_pareto.proofs.OnFront.{contains_map}
 use Rattle.tomex_pareto.proofs.Pareto.{among, free_undominated, has_contains, ordered_moves, undominated_free}
-use Rattle.tomex_spans.specs.declared.line_row.LineRow.{LineRow}
-use Rattle.tomex_spans.specs.declared.spans.ValueSpan.{ValueSpan}
-use Rattle.tomex_spans.specs.Spans.{as_cost, holds, settled, span, stays}
-use Rattle.tomex_spans.proofs.AllRivals.{stay_within}
-use Rattle.tomex_spans.proofs.Settled.{settled_some}
+use Rattle.tomex_pareto.specs.declared.line_row.LineRow.{LineRow}
+use Rattle.tomex_pareto.specs.declared.spans.ValueSpan.{ValueSpan}
+use Rattle.tomex_pareto.specs.Spans.{as_cost, holds, settled, span, stays}
+use Rattle.tomex_pareto.proofs.AllRivals.{stay_within}
+use Rattle.tomex_pareto.proofs.Settled.{settled_some}
 use Rattle.tomex_study.specs.Study.{DesignSpace}
 use Rattle.tomex_study.specs.StudyFront.{all_rows, front_of_study}
 use Rattle.tomex_weights.specs.Spans.{by_weight, rows_by_weight}

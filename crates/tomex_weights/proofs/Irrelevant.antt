@@ -5,11 +5,11 @@ use Rattle.std.specs.List.{AllByRecursion, Contains, list_any}
 use Rattle.std.proofs.lemmas.Bool.{cases_Bool, eqb-true, or_parts, true≢false}
 use Rattle.tomex_pareto.specs.declared.front_row.FrontRow.{FrontRow}
 use Rattle.tomex_pareto.proofs.Pareto.{Has, among}
-use Rattle.tomex_spans.specs.declared.line_row.LineRow.{LineRow}
-use Rattle.tomex_spans.specs.declared.spans.ValueSpan.{ValueSpan}
-use Rattle.tomex_spans.specs.Spans.{span}
-use Rattle.tomex_spans.proofs.EqualTimes.{IsAllOrNone, all_or_none}
-use Rattle.tomex_spans.proofs.Settled.{held_some, settled_if_some}
+use Rattle.tomex_pareto.specs.declared.line_row.LineRow.{LineRow}
+use Rattle.tomex_pareto.specs.declared.spans.ValueSpan.{ValueSpan}
+use Rattle.tomex_pareto.specs.Spans.{span}
+use Rattle.tomex_pareto.proofs.EqualTimes.{IsAllOrNone, all_or_none}
+use Rattle.tomex_pareto.proofs.Settled.{held_some, settled_if_some}
 use Rattle.tomex_study.specs.Study.{DesignSpace}
 use Rattle.tomex_study.specs.StudyFront.{all_rows}
 use Rattle.tomex_weights.specs.declared.spans.TheConstants.{GREATEST_WEIGHT}

@@ -13,7 +13,7 @@ use Rattle.tomex_study.specs.Cycles.{cycles_of}
 use Rattle.tomex_study.specs.Study.{DesignSpace, IsStudy}
 use Rattle.tomex_study.specs.StudyFront.{all_rows}
 use Rattle.tomex_study.proofs.Rows.{row_there, rows_long}
-use Rattle.tomex_spans.specs.Spans.{no_values}
+use Rattle.tomex_pareto.specs.Spans.{no_values}
 use Rattle.tomex_weights.specs.Listed.{ProgramSpans, all_spans_of, has_weights, is_listed, spans_by}
 use Rattle.tomex_weights.specs.Programs.{relevant_programs_of}
 use Rattle.tomex_weights.specs.Spans.{span_of}

@@ -4,11 +4,11 @@ use Rattle.std.specs.Prelude.{sum_by}
 use Rattle.tomex_pareto.specs.Front.{is_undominated}
 use Rattle.tomex_pareto.specs.declared.front_row.FrontRow.{FrontRow}
 use Rattle.tomex_pareto.proofs.Pareto.{Has, among, has_contains}
-use Rattle.tomex_spans.specs.Percent.{AreWithin, difference_of, least_of, percent_by}
-use Rattle.tomex_spans.specs.Spans.{swapped}
-use Rattle.tomex_spans.proofs.Factors as spans
-use Rattle.tomex_spans.proofs.NewCosts.{costed}
-use Rattle.tomex_spans.proofs.Swapped.{free_swapped, has_swapped, swapped_back}
+use Rattle.tomex_pareto.specs.Percent.{AreWithin, difference_of, least_of, percent_by}
+use Rattle.tomex_pareto.specs.Spans.{swapped}
+use Rattle.tomex_pareto.proofs.Factors as spans
+use Rattle.tomex_pareto.proofs.NewCosts.{costed}
+use Rattle.tomex_pareto.proofs.Swapped.{free_swapped, has_swapped, swapped_back}
 use Rattle.tomex_study.specs.Cycles.{cycles_on, total_at}
 use Rattle.tomex_study.specs.Program.{Workload}
 use Rattle.tomex_study.specs.Study.{DesignSpace, IsStudy}

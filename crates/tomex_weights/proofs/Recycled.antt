@@ -7,9 +7,9 @@ use Rattle.tomex_pareto.specs.declared.front_row.FrontRow.{FrontRow}
 use Rattle.tomex_pareto.proofs.OnFront.{contains_map, distinct_map, on_front}
 use Rattle.tomex_pareto.proofs.Pareto.{Has, IsFree, among, apart, front_is, has_contains}
 use Rattle.tomex_pareto.proofs.Rows.{rows_apart, rows_numbered}
-use Rattle.tomex_spans.specs.Spans.{swapped}
-use Rattle.tomex_spans.proofs.NewCosts.{costed}
-use Rattle.tomex_spans.proofs.Swapped.{undominated_swapped}
+use Rattle.tomex_pareto.specs.Spans.{swapped}
+use Rattle.tomex_pareto.proofs.NewCosts.{costed}
+use Rattle.tomex_pareto.proofs.Swapped.{undominated_swapped}
 use Rattle.tomex_study.specs.Cycles.{cycles_of}
 use Rattle.tomex_study.specs.Study.{DesignSpace}
 use Rattle.tomex_study.specs.StudyFront.{all_rows, front_of_study}

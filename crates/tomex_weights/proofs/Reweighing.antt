@@ -6,7 +6,7 @@ use Rattle.std.proofs.Math.Nat.{mul_assoc}
 use Rattle.tomex_config.specs.Configuration.{Configuration, plain}
 use Rattle.tomex_pareto.specs.Front.{rows_from}
 use Rattle.tomex_pareto.specs.declared.front_row.FrontRow.{FrontRow}
-use Rattle.tomex_spans.specs.Spans.{as_cycles}
+use Rattle.tomex_pareto.specs.Spans.{as_cycles}
 use Rattle.tomex_timing.specs.Run.{total}
 use Rattle.tomex_study.specs.Cycles.{cycles_of, cycles_on, totals_on}
 use Rattle.tomex_study.specs.Program.{Workload}

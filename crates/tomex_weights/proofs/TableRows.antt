@@ -9,13 +9,13 @@ use Rattle.std.proofs.lemmas.List.Sorted.{All-permutation}
 use Rattle.tomex_pareto.specs.declared.front_row.FrontRow.{FrontRow}
 use Rattle.tomex_pareto.specs.Front.{by_cost}
 use Rattle.tomex_pareto.proofs.Pareto.{ordered_moves}
-use Rattle.tomex_row_columns.specs.RowColumns.{row_columns}
-use Rattle.tomex_row_columns.proofs.Lengths.{HasEntries, columns_long}
-use Rattle.tomex_spans.specs.declared.spans.ValueSpan.{ValueSpan}
+use Rattle.tomex_layout.specs.RowColumns.{row_columns}
+use Rattle.tomex_layout.proofs.Lengths.{HasEntries, columns_long}
+use Rattle.tomex_pareto.specs.declared.spans.ValueSpan.{ValueSpan}
 use Rattle.tomex_study.specs.Program.{Workload}
 use Rattle.tomex_study.specs.Study.{DesignSpace, IsStudy}
 use Rattle.tomex_study.specs.StudyFront.{all_rows}
-use Rattle.tomex_tables.specs.Table.{TableColumn}
+use Rattle.tomex_layout.specs.Table.{TableColumn}
 use Rattle.tomex_weights.specs.Listed.{IsOfProgram, ProgramSpans, all_spans_of, is_listed, listed_rows_of, spans_by}
 use Rattle.tomex_weights.specs.Programs.{is_relevant, relevant_programs_of}
 use Rattle.tomex_weights.specs.Reweighted.{weight_at}

@@ -13,13 +13,13 @@ use Rattle.tomex_pareto.specs.declared.front_row.FrontRow.{FrontRow}
 use Rattle.tomex_pareto.proofs.OnFront.{on_front}
 use Rattle.tomex_pareto.proofs.Pareto.{free_undominated, has_contains}
 use Rattle.tomex_pareto.proofs.Rows.{rows_apart}
-use Rattle.tomex_spans.specs.declared.spans.ValueSpan.{ValueSpan}
-use Rattle.tomex_spans.specs.Spans.{measure_at, span, stays, swapped}
-use Rattle.tomex_spans.proofs.Ends.{some_end, stays_is}
-use Rattle.tomex_spans.proofs.NewCosts.{free_keeps, on_costed, premium}
-use Rattle.tomex_spans.proofs.Settled.{settled_holds, settled_some}
-use Rattle.tomex_spans.proofs.Shares.{Counts, DoCount, one_counts, slack, stays_less}
-use Rattle.tomex_spans.proofs.Swapped.{free_swapped, swapped_back}
+use Rattle.tomex_pareto.specs.declared.spans.ValueSpan.{ValueSpan}
+use Rattle.tomex_pareto.specs.Spans.{measure_at, span, stays, swapped}
+use Rattle.tomex_pareto.proofs.SpanEnds.{some_end, stays_is}
+use Rattle.tomex_pareto.proofs.NewCosts.{free_keeps, on_costed, premium}
+use Rattle.tomex_pareto.proofs.Settled.{settled_holds, settled_some}
+use Rattle.tomex_pareto.proofs.Shares.{Counts, DoCount, one_counts, slack, stays_less}
+use Rattle.tomex_pareto.proofs.Swapped.{free_swapped, swapped_back}
 use Rattle.tomex_timing.specs.Run.{total}
 use Rattle.tomex_study.specs.Cycles.{cycles_of, cycles_on, totals_on}
 use Rattle.tomex_study.specs.Program.{Workload}

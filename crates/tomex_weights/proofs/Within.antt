@@ -5,12 +5,12 @@ use Rattle.tomex_pareto.specs.Front.{front_of, is_on}
 use Rattle.tomex_pareto.specs.declared.front_row.FrontRow.{FrontRow}
 use Rattle.tomex_pareto.proofs.OnFront.{contains_map, distinct_map}
 use Rattle.tomex_pareto.proofs.Rows.{rows_numbered}
-use Rattle.tomex_spans.specs.Laws.{HaveNumbers}
-use Rattle.tomex_spans.specs.declared.line_row.LineRow.{LineRow}
-use Rattle.tomex_spans.specs.Spans.{span}
-use Rattle.tomex_spans.proofs.AllRivals.{are_on_front_within}
-use Rattle.tomex_spans.proofs.Ends.{in_range}
-use Rattle.tomex_spans.proofs.Settled.{settled_holds}
+use Rattle.tomex_pareto.specs.SpanLaws.{HaveNumbers}
+use Rattle.tomex_pareto.specs.declared.line_row.LineRow.{LineRow}
+use Rattle.tomex_pareto.specs.Spans.{span}
+use Rattle.tomex_pareto.proofs.AllRivals.{are_on_front_within}
+use Rattle.tomex_pareto.proofs.SpanEnds.{in_range}
+use Rattle.tomex_pareto.proofs.Settled.{settled_holds}
 use Rattle.tomex_study.specs.Cycles.{cycles_of}
 use Rattle.tomex_study.specs.Study.{DesignSpace}
 use Rattle.tomex_study.specs.StudyFront.{all_rows, front_of_study}

@@ -5,15 +5,15 @@ use Rattle.std.specs.Prelude.{codes, if◌then◌else◌}
 use Rattle.std.specs.Fmt.{digits}
 use Rattle.std.specs.Int.{abs_diff}
 use Rattle.std.specs.List.{filter}
-use Rattle.tomex_csv_text.specs.Hundredths.{hundredths}
+use Rattle.tomex_layout.specs.Hundredths.{hundredths}
 use Rattle.tomex_pareto.specs.Front.{by_cost, front_of, is_on}
 use Rattle.tomex_pareto.specs.declared.front_row.FrontRow.{FrontRow}
-use Rattle.tomex_row_columns.specs.RowColumns.{column_of, heading_column, percent_text, row_columns}
-use Rattle.tomex_spans.specs.Percent.{least_of, percent_by}
-use Rattle.tomex_spans.specs.Spans.{settled, span, swapped}
-use Rattle.tomex_spans.specs.declared.line_row.LineRow.{LineRow}
-use Rattle.tomex_spans.specs.declared.spans.ValueSpan.{ValueSpan}
-use Rattle.tomex_tables.specs.Table.{TableColumn, aligned_in, spaced_in, table_line, table_of, width_of}
+use Rattle.tomex_layout.specs.RowColumns.{column_of, heading_column, percent_text, row_columns}
+use Rattle.tomex_pareto.specs.Percent.{least_of, percent_by}
+use Rattle.tomex_pareto.specs.Spans.{settled, span, swapped}
+use Rattle.tomex_pareto.specs.declared.line_row.LineRow.{LineRow}
+use Rattle.tomex_pareto.specs.declared.spans.ValueSpan.{ValueSpan}
+use Rattle.tomex_layout.specs.Table.{TableColumn, aligned_in, spaced_in, table_line, table_of, width_of}
 use Rattle.tomex_weights.specs.declared.spans.TheConstants.{GREATEST_WEIGHT}
 use Rattle.tomex_weights.specs.Listed.{has_weights}
 use Rattle.tomex_weights.specs.Texts.{span_text}

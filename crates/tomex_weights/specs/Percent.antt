@@ -1,8 +1,8 @@
 -- The percentage by which all weights of a study may be wrong at once, each in its own direction, so that a row stays.
 use Rattle.std.specs.Prelude.{ℕ}
 use Rattle.tomex_pareto.specs.declared.front_row.FrontRow.{FrontRow}
-use Rattle.tomex_spans.specs.Percent.{difference_of, least_of, percent_by}
-use Rattle.tomex_spans.specs.Spans.{swapped}
+use Rattle.tomex_pareto.specs.Percent.{difference_of, least_of, percent_by}
+use Rattle.tomex_pareto.specs.Spans.{swapped}
 use Rattle.tomex_study.specs.Cycles.{total_at}
 use Rattle.tomex_study.specs.Study.{DesignSpace}
 use Rattle.tomex_study.specs.StudyFront.{all_rows}

@@ -1,9 +1,9 @@
 -- For which weights of one program, all others as stated, a row is on the front.
 use Rattle.std.specs.Prelude.{ℕ, ◌-◌, ◌*◌, List, map}
 use Rattle.tomex_pareto.specs.declared.front_row.FrontRow.{FrontRow}
-use Rattle.tomex_spans.specs.declared.line_row.LineRow.{LineRow}
-use Rattle.tomex_spans.specs.declared.spans.ValueSpan.{ValueSpan}
-use Rattle.tomex_spans.specs.Spans.{settled, span}
+use Rattle.tomex_pareto.specs.declared.line_row.LineRow.{LineRow}
+use Rattle.tomex_pareto.specs.declared.spans.ValueSpan.{ValueSpan}
+use Rattle.tomex_pareto.specs.Spans.{settled, span}
 use Rattle.tomex_study.specs.Study.{DesignSpace}
 use Rattle.tomex_study.specs.StudyFront.{all_rows}
 use Rattle.tomex_weights.specs.declared.spans.TheConstants.{GREATEST_WEIGHT}

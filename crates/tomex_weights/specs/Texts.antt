@@ -1,7 +1,7 @@
 -- The text of the weights for which a row is on the front.
 use Rattle.std.specs.Prelude.{ℕ, ◌-◌, ◌&&◌, if◌then◌else◌, nat_le, nat_lt, not, List, [], ◌++◌, codes}
-use Rattle.tomex_csv_text.specs.Hundredths.{hundredths}
-use Rattle.tomex_spans.specs.declared.spans.ValueSpan.{ValueSpan}
+use Rattle.tomex_layout.specs.Hundredths.{hundredths}
+use Rattle.tomex_pareto.specs.declared.spans.ValueSpan.{ValueSpan}
 use Rattle.tomex_weights.specs.declared.spans.TheConstants.{GREATEST_WEIGHT}
 use Rattle.tomex_weights.specs.Listed.{has_weights}
 

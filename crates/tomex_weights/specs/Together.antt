@@ -3,7 +3,7 @@ use Rattle.std.specs.Prelude.{◌≡◌, ℕ, ◌+◌, ◌-◌, ◌*◌, ◌<◌
 use Rattle.std.specs.List.{Contains, range_with_len}
 use Rattle.tomex_pareto.specs.Front.{is_on}
 use Rattle.tomex_pareto.specs.declared.front_row.FrontRow.{FrontRow}
-use Rattle.tomex_spans.specs.declared.spans.ValueSpan.{ValueSpan}
+use Rattle.tomex_pareto.specs.declared.spans.ValueSpan.{ValueSpan}
 use Rattle.tomex_study.specs.Program.{Workload}
 use Rattle.tomex_study.specs.Study.{DesignSpace, IsStudy}
 use Rattle.tomex_study.specs.StudyFront.{front_of_study}

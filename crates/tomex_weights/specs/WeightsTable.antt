@@ -4,10 +4,10 @@ use Rattle.std.specs.Prelude.{ℕ, suc, if◌then◌else◌, List, [], ◌∷◌
 use Rattle.std.specs.Fmt.{decimal}
 use Rattle.tomex_pareto.specs.Front.{is_on}
 use Rattle.tomex_pareto.specs.declared.front_row.FrontRow.{FrontRow}
-use Rattle.tomex_row_columns.specs.RowColumns.{column_of, percent_text, row_columns}
+use Rattle.tomex_layout.specs.RowColumns.{column_of, percent_text, row_columns}
 use Rattle.tomex_study.specs.Study.{DesignSpace}
 use Rattle.tomex_study.specs.StudyFront.{front_of_study}
-use Rattle.tomex_tables.specs.Table.{TableColumn, table_of}
+use Rattle.tomex_layout.specs.Table.{TableColumn, table_of}
 use Rattle.tomex_weights.specs.Listed.{listed_rows_of}
 use Rattle.tomex_weights.specs.Percent.{percent_of}
 use Rattle.tomex_weights.specs.Programs.{relevant_programs_of}

@@ -2,7 +2,7 @@
 
 ghost use Rattle.std.specs.Prelude.{◌≡◌, ◌<◌, length, map, slice_index_or, All, IfOk};
 ghost use Rattle.std.specs.List.{Contains};
-ghost use Rattle.tomex_spans.specs.Spans.{HasRoom, no_values};
+ghost use Rattle.tomex_pareto.specs.Spans.{HasRoom, no_values};
 ghost use Rattle.tomex_study.specs.StudyFront.{all_rows};
 ghost use Rattle.tomex_weights.specs.Listed.{all_spans_of, spans_by};
 ghost use Rattle.tomex_weights.specs.Spans.{rows_by_weight, span_of};
@@ -13,8 +13,7 @@ use crate::programs::relevant_programs;
 use crate::spans::{GREATEST_WEIGHT, span_of};
 use std::alloc::{AllocError, Allocator, Global};
 use std::marker::Model;
-use tomex_pareto::FrontRow;
-use tomex_spans::{LineRow, ValueSpan, settled_span};
+use tomex_pareto::{FrontRow, LineRow, ValueSpan, settled_span};
 use tomex_study::Surveyed;
 
 /// For which weights of the program at a place each row is on the front.

@@ -2,14 +2,13 @@
 
 ghost use Rattle.std.specs.Prelude.{◌≡◌, ◌<◌, length, map, All, IfOk};
 ghost use Rattle.std.specs.List.{Contains};
-ghost use Rattle.tomex_spans.specs.Spans.{HasRoom};
+ghost use Rattle.tomex_pareto.specs.Spans.{HasRoom};
 ghost use Rattle.tomex_study.specs.StudyFront.{all_rows, front_of_study};
 ghost use Rattle.tomex_weights.specs.Spans.{by_weight, rows_by_weight};
 
 use crate::programs::own_cycles;
 use std::alloc::{AllocError, Allocator};
-use tomex_pareto::FrontRow;
-use tomex_spans::LineRow;
+use tomex_pareto::{FrontRow, LineRow};
 use tomex_study::Surveyed;
 
 /// A row by the weight of the program at a place: its cycles, in hundredths, are a line in that weight.

@@ -3,14 +3,13 @@
 ghost use Rattle.std.specs.Prelude.{◌≡◌, ◌<◌, length, slice_index_or, All, IfOk};
 ghost use Rattle.std.specs.List.{filter, list_any, Contains};
 ghost use Rattle.tomex_pareto.specs.Front.{is_on};
-ghost use Rattle.tomex_spans.specs.Spans.{no_values};
+ghost use Rattle.tomex_pareto.specs.Spans.{no_values};
 ghost use Rattle.tomex_study.specs.StudyFront.{all_rows};
 ghost use Rattle.tomex_weights.specs.Listed.{all_spans_of, has_weights, is_listed, listed_rows_of};
 
 use crate::columns::WeightColumn;
 use std::alloc::{AllocError, Allocator};
-use tomex_pareto::{FrontRow, sort_by_cost};
-use tomex_spans::ValueSpan;
+use tomex_pareto::{FrontRow, ValueSpan, sort_by_cost};
 use tomex_study::Surveyed;
 
 /// True if some weight is in a span.

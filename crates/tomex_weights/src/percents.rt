@@ -2,12 +2,11 @@
 
 ghost use Rattle.std.specs.Prelude.{◌≡◌, ◌*◌, ◌<◌, ◌≤◌, ◌^◌, length};
 ghost use Rattle.std.specs.Int.{abs_diff};
-ghost use Rattle.tomex_spans.specs.Spans.{swapped};
+ghost use Rattle.tomex_pareto.specs.Spans.{swapped};
 ghost use Rattle.tomex_weights.specs.Percent.{difference, percent_for, percent_of};
 
 use std::alloc::Allocator;
-use tomex_pareto::FrontRow;
-use tomex_spans::percent_by;
+use tomex_pareto::{FrontRow, percent_by};
 use tomex_study::Surveyed;
 
 /// How far two numbers of cycles are apart, times a weight.

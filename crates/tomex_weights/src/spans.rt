@@ -3,15 +3,14 @@
 ghost use Rattle.std.specs.Prelude.{◌≡◌, ℕ, ◌<◌, ◌≤◌, length, All};
 ghost use Rattle.std.specs.List.{Contains};
 ghost use Rattle.tomex_pareto.specs.Front.{is_on};
-ghost use Rattle.tomex_spans.specs.Spans.{HasRoom, holds};
+ghost use Rattle.tomex_pareto.specs.Spans.{HasRoom, holds};
 ghost use Rattle.tomex_study.specs.StudyFront.{all_rows, front_of_study};
 ghost use Rattle.tomex_weights.specs.Reweighted.{reweighted};
 ghost use Rattle.tomex_weights.specs.Spans.{rows_by_weight, span_of};
 
 use crate::line_rows::by_weight;
 use std::alloc::Allocator;
-use tomex_pareto::FrontRow;
-use tomex_spans::{LineRow, ValueSpan, settled_span};
+use tomex_pareto::{FrontRow, LineRow, ValueSpan, settled_span};
 use tomex_study::Surveyed;
 
 /// The greatest weight that is tried, in hundredths: the greatest one that a study may state.

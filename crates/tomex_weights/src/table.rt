@@ -14,11 +14,9 @@ use crate::listed::{is_on, listed_rows};
 use crate::percents::percent;
 use crate::texts::span_text;
 use std::alloc::{AllocError, Allocator, Global};
-use tomex_pareto::FrontRow;
-use tomex_row_columns::{percent_text, push_row_columns};
-use tomex_spans::ValueSpan;
+use tomex_layout::{Column, percent_text, push_row_columns, table_of};
+use tomex_pareto::{FrontRow, ValueSpan};
 use tomex_study::Surveyed;
-use tomex_tables::{Column, table_of};
 
 /// The percentage by which all weights may be wrong at once, if the row is on the front; else `-`.
 fn all_text<A: Allocator>(

@@ -1,14 +1,14 @@
 //! The texts of spans.
 
 ghost use Rattle.std.specs.Prelude.{◌≡◌, IfOk, OnOk, string_bytes};
-ghost use Rattle.tomex_csv_text.specs.Growth.{Appends};
+ghost use Rattle.tomex_layout.specs.Growth.{Appends};
 ghost use Rattle.tomex_weights.specs.Texts.{first_text, last_text, span_text};
 
 use crate::listed::has_weights;
 use crate::spans::GREATEST_WEIGHT;
 use std::alloc::{AllocError, Global};
-use tomex_csv_text::push_hundredths;
-use tomex_spans::ValueSpan;
+use tomex_layout::push_hundredths;
+use tomex_pareto::ValueSpan;
 
 /// Adds the first weight of a span, except if it is the least one.
 fn push_first(text: &mut String, span: ValueSpan) -> Result<(), AllocError>

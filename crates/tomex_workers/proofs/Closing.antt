@@ -13,10 +13,10 @@ use Rattle.tomex_board.proofs.Closes.{grows_on}
 use Rattle.tomex_config.specs.Configuration.{Configuration}
 use Rattle.tomex_study.specs.Study.{DesignSpace, IsStudy}
 use Rattle.tomex_study.specs.Cycles.{cycles_of, totals_on}
-use Rattle.tomex_row_runs.specs.Looks.{plain_on, weighted_cycles}
-use Rattle.tomex_row_runs.specs.Knowledge.{AreTotalsOn}
-use Rattle.tomex_row_runs.specs.Looks.{IsKnownRow, LastLookSeesMost, last_look}
-use Rattle.tomex_row_runs.specs.declared.known_row.KnownRow.{KnownRow}
+use Rattle.tomex_plateaus.specs.Looks.{plain_on, weighted_cycles}
+use Rattle.tomex_plateaus.specs.Knowledge.{AreTotalsOn}
+use Rattle.tomex_plateaus.specs.Looks.{IsKnownRow, LastLookSeesMost, last_look}
+use Rattle.tomex_plateaus.specs.declared.known_row.KnownRow.{KnownRow}
 use Rattle.tomex_study.specs.Program.{Workload}
 use Rattle.tomex_workers.specs.Plans.{IsPlanOf}
 use Rattle.tomex_workers.specs.Seats.{Continues}

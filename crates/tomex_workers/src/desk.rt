@@ -5,15 +5,15 @@ ghost use Rattle.std.specs.Prelude.{slice_get, slice_index, Some};
 ghost use Rattle.tomex_board.specs.Views.{KnowsNotOpen};
 ghost use Rattle.tomex_config.specs.Configuration.{Configuration};
 ghost use Rattle.tomex_study.specs.Cycles.{cycles_of};
-ghost use Rattle.tomex_row_runs.specs.Knowledge.{AreLearntOn, AreTotalsOn};
-ghost use Rattle.tomex_row_runs.specs.Looks.{IsKnownRow};
+ghost use Rattle.tomex_plateaus.specs.Knowledge.{AreLearntOn, AreTotalsOn};
+ghost use Rattle.tomex_plateaus.specs.Looks.{IsKnownRow};
 ghost use Rattle.tomex_workers.specs.Plans.{IsPlanOf};
 ghost use Rattle.tomex_workers.specs.Seats.{Continues};
 
 use std::alloc::{AllocError, Allocator};
 use tomex_board::{Board, Plan, Seat};
 use tomex_lanes::Lane;
-use tomex_row_runs::{Knowledge, KnownRow, the_last_look_sees_most};
+use tomex_plateaus::{Knowledge, KnownRow, the_last_look_sees_most};
 use tomex_study::{Gate, Study};
 
 /// The things that a worker uses: the study, the board that it shares with the others, the gate to

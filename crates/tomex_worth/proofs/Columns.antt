@@ -6,10 +6,10 @@ use Rattle.std.proofs.lemmas.List.{length-map}
 use Rattle.std.proofs.lemmas.List.Elements.{All-append, All-cons, All-nil}
 use Rattle.tomex_pareto.specs.declared.front_row.FrontRow.{FrontRow}
 use Rattle.tomex_study.specs.Study.{DesignSpace}
-use Rattle.tomex_tables.specs.Table.{TableColumn}
+use Rattle.tomex_layout.specs.Table.{TableColumn}
 use Rattle.tomex_worth.specs.Changes.{changes_of}
 use Rattle.tomex_worth.specs.Worth.{all_headings, columns_of, heading_column, program_column, program_columns}
-use Rattle.tomex_tables.proofs.Each.{all_if, all_map}
+use Rattle.tomex_layout.proofs.Each.{all_if, all_map}
 
 -- one more line than there are changes
 abbrev pub HasLines : DesignSpace → FrontRow → TableColumn → Type 0

@@ -8,7 +8,7 @@ use Rattle.tomex_study.specs.Study.{DesignSpace, IsStudy, config_at}
 use Rattle.tomex_study.specs.StudyFront.{all_rows}
 use Rattle.tomex_worth.specs.Changes.{change, changes_at, changes_of, differ_at, part_at}
 use Rattle.tomex_worth.specs.declared.changes.Change.{Change}
-use Rattle.tomex_tables.proofs.Each.{all_flat_map}
+use Rattle.tomex_layout.proofs.Each.{all_flat_map}
 
 -- changes are rows of the study
 pub changes_within : (s : DesignSpace) (own : FrontRow) → IsStudy s

@@ -2,13 +2,13 @@
 
 ghost use Rattle.std.specs.Prelude.{◌≡◌, IfOk, OnOk, string_bytes};
 ghost use Rattle.tomex_pareto.specs.Front.{dominates};
-ghost use Rattle.tomex_csv_text.specs.Growth.{Appends};
+ghost use Rattle.tomex_layout.specs.Growth.{Appends};
 ghost use Rattle.tomex_worth.specs.Differences.{distance, percent, sign_of, signed_difference, tenths};
 ghost use Rattle.tomex_worth.specs.Worth.{rate_text};
 
 use std::alloc::{AllocError, Allocator, Global};
 use std::fmt::Write;
-use tomex_csv_text::push_hundredths;
+use tomex_layout::push_hundredths;
 use tomex_pareto::FrontRow;
 
 /// The sign of `b - a`.

@@ -1,7 +1,7 @@
 //! The headings of the table's columns.
 
 ghost use Rattle.std.specs.Prelude.{◌≡◌, IfOk, OnOk, string_bytes};
-ghost use Rattle.tomex_csv_text.specs.Growth.{Appends};
+ghost use Rattle.tomex_layout.specs.Growth.{Appends};
 ghost use Rattle.tomex_worth.specs.Worth.{entry_text, name_of_list, name_under};
 
 use std::alloc::{AllocError, Allocator, Global};

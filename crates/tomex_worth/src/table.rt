@@ -11,9 +11,9 @@ use crate::changes::{Change, changes_of};
 use crate::differences::{percent, rate_text, signed_difference};
 use crate::heading::{Heading, entry_text, name_of_list};
 use std::alloc::{AllocError, Allocator, Global};
+use tomex_layout::{Column, table_of};
 use tomex_pareto::FrontRow;
 use tomex_study::{Program, Surveyed};
-use tomex_tables::{Column, table_of};
 
 /// A machine, and the rows that differ from it in only one list.
 #[derive(Clone, Copy)]

@@ -3,7 +3,7 @@
 ghost use Rattle.std.specs.Prelude.{◌≡◌, ◌<◌, ◌+◌, ◌-◌, ◌*◌, ℕ, Bool, false, ◌&&◌, not, if◌then◌else◌};
 ghost use Rattle.std.specs.Prelude.{drop, length, map, nat_eq, slice_index_or, OnOk, IfOk};
 ghost use Rattle.std.specs.List.{prefix_len};
-ghost use Rattle.tomex_csv_text.specs.Growth.{Appends};
+ghost use Rattle.tomex_layout.specs.Growth.{Appends};
 ghost use Rattle.tomex_front_views.specs.Axes.{x_of, y_of};
 ghost use Rattle.tomex_front_views.specs.Dots.{IsTable, all_y, column_text, dots, dots_line, stroke, stroke_at};
 ghost use Rattle.tomex_front_views.specs.Dots.{width_of};

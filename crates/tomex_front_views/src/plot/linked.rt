@@ -2,7 +2,7 @@
 
 ghost use Rattle.std.specs.Prelude.{◌≡◌, length, OnOk};
 ghost use Rattle.std.specs.List.{flat_map};
-ghost use Rattle.tomex_csv_text.specs.Growth.{Appends};
+ghost use Rattle.tomex_layout.specs.Growth.{Appends};
 ghost use Rattle.tomex_front_views.specs.LinkedPlot.{is_shown, link_start, link_to, linked_circle, linked_line};
 ghost use Rattle.tomex_front_views.specs.LinkedPlot.{linked_over, linked_picture_of, linked_rows};
 ghost use Rattle.tomex_front_views.specs.Plot.{circle, radius_of};

@@ -1,7 +1,7 @@
 //! The lines and numbers of the axes.
 
 ghost use Rattle.std.specs.Prelude.{◌≡◌, OnOk};
-ghost use Rattle.tomex_csv_text.specs.Growth.{Appends};
+ghost use Rattle.tomex_layout.specs.Growth.{Appends};
 ghost use Rattle.tomex_front_views.specs.Plot.{mark_at, marks_of, span_of};
 
 use crate::plot::axes::{Axes, Span};

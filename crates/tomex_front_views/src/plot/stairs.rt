@@ -1,7 +1,7 @@
 //! The staircase above which all rows lie.
 
 ghost use Rattle.std.specs.Prelude.{codes, OnOk};
-ghost use Rattle.tomex_csv_text.specs.Growth.{Appends};
+ghost use Rattle.tomex_layout.specs.Growth.{Appends};
 ghost use Rattle.tomex_front_views.specs.Plot.{move_to, staircase, steps_down};
 
 use crate::plot::axes::{Axes, Point};

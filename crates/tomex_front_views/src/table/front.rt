@@ -10,9 +10,9 @@ ghost use Rattle.tomex_front_views.specs.FrontTable.{setting_columns};
 use super::heading::{Heading, Setting};
 use super::rate::rate_column;
 use std::alloc::{AllocError, Allocator, Global};
+use tomex_layout::{Column, table_of};
 use tomex_pareto::FrontRow;
 use tomex_study::Study;
-use tomex_tables::{Column, table_of};
 
 /// The number under a heading for a front row.
 #[tactic(auto, unfolding(crate::specs::FrontTable::number_under))]

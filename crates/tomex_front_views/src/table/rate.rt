@@ -4,9 +4,8 @@ ghost use Rattle.std.specs.Prelude.{◌≡◌, IfOk, string_bytes};
 ghost use Rattle.tomex_front_views.specs.FrontTable.{rate_after, rate_column};
 
 use std::alloc::{AllocError, Global};
-use tomex_csv_text::push_hundredths;
+use tomex_layout::{Column, push_hundredths};
 use tomex_pareto::FrontRow;
-use tomex_tables::Column;
 
 /// The cycles that a row saves over the row before, for 1 of extra cost.
 fn rate_after(heap: Global, before: Option<FrontRow>, row: FrontRow) -> Result<String, AllocError>

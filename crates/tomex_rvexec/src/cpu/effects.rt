@@ -7,8 +7,8 @@ use std::alloc::Allocator;
 impl<'a, A: Allocator> Cpu<'a, A> {
     ghost use Rattle.std.specs.Prelude.{◌≡◌, IfOk, IfErr, ◌%◌, ◌<◌, true, false, nat_eq};
     ghost use Rattle.tomex_rvexec.specs.Machine.{writes, jumps, branches, loads, stores, next_pc, with_register};
-    ghost use Rattle.tomex_steps.specs.Memory.{from_byte, from_half, byte_read, half_read, word_read, byte_written};
-    ghost use Rattle.tomex_steps.specs.Memory.{half_written, word_written};
+    ghost use Rattle.tomex_rvexec.specs.Memory.{from_byte, from_half, byte_read, half_read, word_read, byte_written};
+    ghost use Rattle.tomex_rvexec.specs.Memory.{half_written, word_written};
     ghost use Rattle.tomex_rvexec.specs.Run.{Answers};
 
     fn write_register(&mut self, r: u8, value: u32)

@@ -4,9 +4,9 @@ use super::studies::{STUDY_L, STUDY_M};
 use std::alloc::Global;
 use std::test::Fail;
 use tomex_config::Config;
+use tomex_document::{StudyError, file_names, read_study};
 use tomex_rvdec::PoolId;
 use tomex_study::{Program, Study, WatchRange};
-use tomex_study_reader::{StudyError, file_names, read_study};
 use tomex_tests_fixtures::programs::{ELF, LOOP, PRODUCT};
 
 /// The result of reading a study and its files.

@@ -4,7 +4,7 @@
 use super::plain::{Plain, replaced};
 use std::alloc::Global;
 use std::test::Fail;
-use tomex_spans::ValueSpan;
+use tomex_pareto::ValueSpan;
 use tomex_study::{Study, Surveyed};
 use tomex_tests_fixtures::Random;
 use tomex_tests_random::{holds_for, random_study, surveyed};

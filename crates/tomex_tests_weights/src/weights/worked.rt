@@ -2,8 +2,8 @@
 
 use std::alloc::{AllocError, Global};
 use std::test::Fail;
+use tomex_document::read_study;
 use tomex_study::{OpenGate, Study, Surveyed};
-use tomex_study_reader::read_study;
 use tomex_survey::survey;
 use tomex_tests_fixtures::{Attempt, Heap, Try, ample, refusals};
 use tomex_weights::{

@@ -1,7 +1,7 @@
 -- One piece after the other.
 use Rattle.std.proofs.lemmas.Result.{on_ok_weaker}
 use Rattle.tomex_animate.specs.Machine.{machine_table}
-use Rattle.tomex_csv_text.proofs.Pieces.{◌▸◌, last_piece}
+use Rattle.tomex_layout.proofs.Pieces.{◌▸◌, last_piece}
 use Rattle.tomex_animate.proofs.machine.push_machine_table.Goals as goal
 
 pub returns : goal.returns

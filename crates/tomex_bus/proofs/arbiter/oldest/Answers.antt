@@ -1,7 +1,7 @@
 use Rattle.std.proofs.Common.{◌≡◌, true, arith, inl, ⊎_elim}
-use Rattle.tomex_sets.specs.Sets.{has}
-use Rattle.tomex_sets.proofs.Bits.{member_some}
-use Rattle.tomex_sets.proofs.Members.{inside_left}
+use Rattle.tomex_bus.specs.Sets.{has}
+use Rattle.tomex_bus.proofs.Bits.{member_some}
+use Rattle.tomex_bus.proofs.Members.{inside_left}
 use Rattle.tomex_bus.proofs.Picking.{best_left}
 use Rattle.tomex_bus.proofs.arbiter.oldest.Goals as goal
 

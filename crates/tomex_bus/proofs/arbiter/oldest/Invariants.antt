@@ -1,5 +1,5 @@
 use Rattle.std.proofs.Common.{ℕ, ◌≡◌, ◌<◌, ◌≤◌, true, slice_index, ◌⊎◌}
-use Rattle.tomex_sets.specs.Sets.{has}
+use Rattle.tomex_bus.specs.Sets.{has}
 use Rattle.tomex_bus.proofs.arbiter.oldest.Given as goal
 
 -- no visited member is older

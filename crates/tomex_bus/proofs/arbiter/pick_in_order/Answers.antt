@@ -1,5 +1,5 @@
 use Rattle.std.proofs.Common.{arith, refl}
-use Rattle.tomex_sets.proofs.Bits.{member_some}
+use Rattle.tomex_bus.proofs.Bits.{member_some}
 use Rattle.tomex_bus.proofs.Picking.{all_taken, none_made, one_more, taken_some}
 use Rattle.tomex_bus.proofs.arbiter.pick_in_order.Goals as goal
 

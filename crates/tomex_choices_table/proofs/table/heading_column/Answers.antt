@@ -1,6 +1,6 @@
 -- The text of one list more.
 use Rattle.std.proofs.Common.{◌∙◌, ap}
-use Rattle.tomex_tables.specs.Table.{TableColumn}
+use Rattle.tomex_layout.specs.Table.{TableColumn}
 use Rattle.tomex_choices_table.specs.ChoicesTable.{text_under}
 use Rattle.tomex_choices_table.proofs.Steps.{text_more}
 use Rattle.tomex_choices_table.proofs.table.heading_column.Goals as goal

@@ -2,8 +2,8 @@
 use Rattle.std.proofs.Common.{◌≡◌, ◌∙◌, All, length, subst, sym}
 use Rattle.std.proofs.lemmas.List.{length-map}
 use Rattle.std.proofs.lemmas.List.Elements.{All-get_or}
-use Rattle.tomex_tables.proofs.Each.{all_map}
-use Rattle.tomex_tables.specs.Table.{TableColumn}
+use Rattle.tomex_layout.proofs.Each.{all_map}
+use Rattle.tomex_layout.specs.Table.{TableColumn}
 use Rattle.tomex_compare.specs.GroupTable.{all_headings, heading_column}
 use Rattle.tomex_compare.proofs.group_table.group_table.Goals as goal
 

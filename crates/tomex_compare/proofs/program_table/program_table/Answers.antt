@@ -1,8 +1,8 @@
 -- Each column has three lines.
 use Rattle.std.proofs.Common.{◌≡◌, ◌∙◌, All, length, refl, subst, sym}
 use Rattle.std.proofs.lemmas.List.Elements.{All-get_or}
-use Rattle.tomex_tables.proofs.Each.{all_map}
-use Rattle.tomex_tables.specs.Table.{TableColumn}
+use Rattle.tomex_layout.proofs.Each.{all_map}
+use Rattle.tomex_layout.specs.Table.{TableColumn}
 use Rattle.tomex_compare.specs.ProgramTable.{all_headings, heading_column}
 use Rattle.tomex_compare.proofs.program_table.program_table.Goals as goal
 

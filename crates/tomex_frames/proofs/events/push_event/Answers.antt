@@ -1,7 +1,7 @@
 -- One piece after the other.
 use Rattle.std.proofs.lemmas.Result.{on_ok_weaker}
 use Rattle.tomex_frames.specs.Events.{event_text}
-use Rattle.tomex_csv_text.proofs.Pieces.{◌▸◌, last_piece}
+use Rattle.tomex_layout.proofs.Pieces.{◌▸◌, last_piece}
 use Rattle.tomex_frames.proofs.events.push_event.Goals as goal
 
 pub returns : goal.returns

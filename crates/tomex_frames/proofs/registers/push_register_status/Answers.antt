@@ -1,7 +1,7 @@
 -- One piece after the other.
 use Rattle.std.proofs.lemmas.Result.{on_ok_weaker}
 use Rattle.tomex_frames.specs.Stations.{register_status}
-use Rattle.tomex_csv_text.proofs.Pieces.{◌▸◌, last_piece}
+use Rattle.tomex_layout.proofs.Pieces.{◌▸◌, last_piece}
 use Rattle.tomex_frames.proofs.registers.push_register_status.Goals as goal
 
 pub returns : goal.returns

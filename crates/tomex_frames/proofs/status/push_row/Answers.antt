@@ -5,7 +5,7 @@ use Rattle.std.proofs.lemmas.Result.{on_ok_weaker}
 use Rattle.tomex_frames.specs.Cells.{doing_text}
 use Rattle.tomex_frames.specs.Status.{step_row}
 use Rattle.tomex_frames.specs.declared.doing.Doing.{Doing}
-use Rattle.tomex_csv_text.proofs.Pieces.{◌▸◌, last_piece}
+use Rattle.tomex_layout.proofs.Pieces.{◌▸◌, last_piece}
 use Rattle.tomex_frames.proofs.status.push_row.Goals as goal
 
 pub returns : goal.returns

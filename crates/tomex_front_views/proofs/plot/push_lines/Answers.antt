@@ -1,5 +1,5 @@
 -- One piece after another.
-use Rattle.tomex_csv_text.proofs.Pieces.{◌▸◌, last_piece}
+use Rattle.tomex_layout.proofs.Pieces.{◌▸◌, last_piece}
 use Rattle.tomex_front_views.specs.Plot.{lines_text}
 use Rattle.tomex_front_views.proofs.plot.push_lines.Goals as goal
 

@@ -1,8 +1,8 @@
 -- The records of the names so far are written.
 use Rattle.std.proofs.Common.{take, string_bytes}
 use Rattle.std.specs.List.{flat_map}
-use Rattle.tomex_csv_text.specs.Csv.{IsReady, record_text}
-use Rattle.tomex_csv_text.specs.Growth.{Writes}
+use Rattle.tomex_layout.specs.Csv.{IsReady, record_text}
+use Rattle.tomex_layout.specs.Growth.{Writes}
 use Rattle.tomex_function_changes.specs.Changes.{change_fields}
 use Rattle.tomex_function_changes.proofs.report.put_names.Given as goal
 

@@ -4,7 +4,7 @@ use Rattle.std.specs.List.{flat_map}
 use Rattle.std.specs.Str.{is_utf8}
 use Rattle.std.proofs.lemmas.Bool.{cases_Bool}
 use Rattle.std.proofs.lemmas.Str.{IsUtf8-from_is_utf8, is_utf8-from_IsUtf8}
-use Rattle.tomex_csv_text.specs.Names.{shown_name}
+use Rattle.tomex_layout.specs.Names.{shown_name}
 use Rattle.tomex_functions.specs.ShownNames.{shown_byte}
 use Rattle.tomex_functions.proofs.shown_names.shown_bytes.Goals as goal
 

@@ -2,7 +2,7 @@
 use Rattle.std.proofs.Common.{◌∙◌, ◌++◌, List, ap}
 use Rattle.std.specs.List.{flat_map}
 use Rattle.std.proofs.lemmas.List.{take_all}
-use Rattle.tomex_csv_text.proofs.Pieces.{next_piece}
+use Rattle.tomex_layout.proofs.Pieces.{next_piece}
 use Rattle.tomex_konata.specs.declared.entries.Entry.{Entry}
 use Rattle.tomex_konata.specs.Kept.{changes_of}
 use Rattle.tomex_konata.proofs.events.push_all_changes.Goals as goal

@@ -1,5 +1,5 @@
 use Rattle.std.proofs.Common.{◌∙◌, refl, sym}
-use Rattle.tomex_sets.proofs.Members.{none_rest}
+use Rattle.tomex_bus.proofs.Members.{none_rest}
 use Rattle.tomex_membuf.proofs.Older.{clear_here, clear_free}
 use Rattle.tomex_membuf.proofs.order.may_access.Goals as goal
 

@@ -1,6 +1,6 @@
 -- One piece after the other.
 use Rattle.std.proofs.lemmas.Result.{on_ok_weaker}
-use Rattle.tomex_csv_text.proofs.Pieces.{◌▸◌, last_piece}
+use Rattle.tomex_layout.proofs.Pieces.{◌▸◌, last_piece}
 use Rattle.tomex_page.specs.Bars.{cycle_cells}
 use Rattle.tomex_page.proofs.bars.push_cycles.Goals as goal
 

@@ -1,6 +1,6 @@
 -- One piece after the other.
 use Rattle.std.proofs.lemmas.Result.{on_ok_weaker}
-use Rattle.tomex_csv_text.proofs.Pieces.{◌▸◌, last_piece}
+use Rattle.tomex_layout.proofs.Pieces.{◌▸◌, last_piece}
 use Rattle.tomex_page.specs.Page.{page_over}
 use Rattle.tomex_page.proofs.page.push_page.Goals as goal
 

@@ -2,7 +2,7 @@
 use Rattle.std.proofs.Common.{◌∙◌, ◌<◌, ap, subst, sym, length, take, All}
 use Rattle.std.proofs.lemmas.List.Elements.{All-get_or, All-take}
 use Rattle.std.proofs.lemmas.Result.{on_ok_weaker}
-use Rattle.tomex_csv_text.proofs.Pieces.{◌▸◌, last_piece}
+use Rattle.tomex_layout.proofs.Pieces.{◌▸◌, last_piece}
 use Rattle.tomex_worth.specs.declared.changes.Change.{Change}
 use Rattle.tomex_page_rows.specs.Changed.{changes_table}
 use Rattle.tomex_page_tables.specs.Pieces.{most_lines}

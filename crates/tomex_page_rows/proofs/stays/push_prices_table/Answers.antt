@@ -6,7 +6,7 @@ use Rattle.std.proofs.lemmas.List.{get_or_default}
 use Rattle.std.proofs.lemmas.List.Elements.{All-get_or}
 use Rattle.std.proofs.lemmas.Result.{on_ok_weaker}
 use Rattle.tomex_prices.specs.Percent.{percent_of}
-use Rattle.tomex_csv_text.proofs.Pieces.{◌▸◌, last_piece}
+use Rattle.tomex_layout.proofs.Pieces.{◌▸◌, last_piece}
 use Rattle.tomex_page_rows.specs.Stays.{PriceRanges, prices_table, range_row_at, shown_prices}
 use Rattle.tomex_page_tables.specs.Shown.{no_row}
 use Rattle.tomex_page_rows.proofs.PriceLines.{lines_at, ranges_long}

@@ -2,7 +2,7 @@
 use Rattle.std.proofs.Common.{◌≡◌, ◌∙◌, ap}
 use Rattle.std.specs.List.{flat_map}
 use Rattle.std.proofs.lemmas.Result.{on_ok_weaker}
-use Rattle.tomex_csv_text.proofs.Pieces.{◌▸◌, last_piece}
+use Rattle.tomex_layout.proofs.Pieces.{◌▸◌, last_piece}
 use Rattle.tomex_page_tables.specs.Front.{front_cells, own_programs, total_cell}
 use Rattle.tomex_html.specs.Tables.{number_cell}
 use Rattle.tomex_page_tables.specs.Shown.{row_of}

@@ -1,6 +1,6 @@
 -- One piece after the other.
 use Rattle.std.proofs.lemmas.Result.{on_ok_weaker}
-use Rattle.tomex_csv_text.proofs.Pieces.{◌▸◌, last_piece}
+use Rattle.tomex_layout.proofs.Pieces.{◌▸◌, last_piece}
 use Rattle.tomex_html.specs.Tables.{column_head}
 use Rattle.tomex_page_tables.proofs.settings.push_setting_head.Goals as goal
 

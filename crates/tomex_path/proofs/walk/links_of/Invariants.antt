@@ -1,6 +1,6 @@
 -- The links so far, and those of the steps that are left.
 use Rattle.std.proofs.Common.{◌≡◌, ◌-◌, ◌++◌, List, take}
-use Rattle.tomex_steps.specs.declared.step.Step.{Step}
+use Rattle.tomex_rvexec.specs.declared.step.Step.{Step}
 use Rattle.tomex_config.specs.Configuration.{Configuration}
 use Rattle.tomex_timing.specs.Search.{history}
 use Rattle.tomex_path.specs.declared.event.Holder.TheVariants.{Last}

@@ -1,8 +1,8 @@
 -- The records of the rows so far are written.
 use Rattle.std.proofs.Common.{take}
 use Rattle.std.specs.List.{flat_map}
-use Rattle.tomex_csv_text.specs.Csv.{IsReady, record_text}
-use Rattle.tomex_csv_text.specs.Growth.{Writes}
+use Rattle.tomex_layout.specs.Csv.{IsReady, record_text}
+use Rattle.tomex_layout.specs.Growth.{Writes}
 use Rattle.tomex_path_views.specs.ByFunction.{row_fields}
 use Rattle.tomex_path_views.proofs.by_function.put_rows.Given as goal
 

@@ -2,7 +2,7 @@
 use Rattle.std.proofs.Common.{◌≡◌, ◌++◌, [], List, map}
 use Rattle.std.specs.Prelude.{All}
 use Rattle.std.specs.BTreeMap.{values}
-use Rattle.tomex_steps.specs.declared.step.Step.{Step}
+use Rattle.tomex_rvexec.specs.declared.step.Step.{Step}
 use Rattle.tomex_symbols.specs.declared.symbol.Symbol.{Symbol}
 use Rattle.tomex_functions.specs.Kept.{HasAddress, IsIndexOf, row_of_group}
 use Rattle.tomex_path_views.proofs.by_function.rows_of.Given as goal

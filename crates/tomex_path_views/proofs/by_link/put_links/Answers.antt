@@ -1,7 +1,7 @@
 -- The record of one more link.
 use Rattle.std.proofs.Common.{refl}
-use Rattle.tomex_csv_text.specs.Csv.{text_written}
-use Rattle.tomex_csv_text.proofs.Pieces.{next_piece}
+use Rattle.tomex_layout.specs.Csv.{text_written}
+use Rattle.tomex_layout.proofs.Pieces.{next_piece}
 use Rattle.tomex_run_views.proofs.Written.{all_put}
 use Rattle.tomex_path_views.specs.ByLink.{link_record}
 use Rattle.tomex_path_views.proofs.by_link.put_links.Goals as goal

@@ -2,8 +2,8 @@
 use Rattle.std.proofs.Common.{◌≡◌, ◌++◌, ℕ, List, take}
 use Rattle.std.specs.List.{flat_map}
 use Rattle.std.specs.Prelude.{All}
-use Rattle.tomex_steps.specs.declared.step.Step.{Step}
-use Rattle.tomex_csv_text.specs.Csv.{IsReady, text_written}
+use Rattle.tomex_rvexec.specs.declared.step.Step.{Step}
+use Rattle.tomex_layout.specs.Csv.{IsReady, text_written}
 use Rattle.tomex_path_views.specs.ByLink.{link_record}
 use Rattle.tomex_path_views.proofs.by_link.put_links.Given as goal
 

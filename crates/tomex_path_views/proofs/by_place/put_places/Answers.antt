@@ -1,7 +1,7 @@
 -- The record of one address more.
 use Rattle.std.proofs.Common.{◌≡◌, [], refl, rules}
 use Rattle.std.specs.BTreeMap.{values}
-use Rattle.tomex_csv_text.specs.Csv.{record_text}
+use Rattle.tomex_layout.specs.Csv.{record_text}
 use Rattle.tomex_path_views.specs.ByPlace.{group_fields}
 use Rattle.tomex_run_views.proofs.Written.{first_of, last_put, next_put}
 use Rattle.tomex_path_views.proofs.by_place.put_places.Goals as goal

@@ -1,8 +1,8 @@
 -- The record of one more latency.
 use Rattle.std.proofs.Common.{refl}
 use Rattle.tomex_timing.specs.Needs.{all_units}
-use Rattle.tomex_csv_text.specs.Csv.{text_written}
-use Rattle.tomex_csv_text.proofs.Pieces.{next_piece}
+use Rattle.tomex_layout.specs.Csv.{text_written}
+use Rattle.tomex_layout.proofs.Pieces.{next_piece}
 use Rattle.tomex_run_views.proofs.Written.{all_put}
 use Rattle.tomex_path_views.specs.ByReason.{latency_record}
 use Rattle.tomex_path_views.proofs.by_reason.put_latencies.Goals as goal

@@ -1,7 +1,7 @@
 -- The records of the reasons so far are written.
 use Rattle.std.proofs.Common.{◌≡◌, ◌++◌, take}
 use Rattle.std.specs.List.{flat_map}
-use Rattle.tomex_csv_text.specs.Csv.{IsReady, text_written}
+use Rattle.tomex_layout.specs.Csv.{IsReady, text_written}
 use Rattle.tomex_path.specs.Laws.{all_reasons}
 use Rattle.tomex_path_views.specs.ByReason.{reason_record}
 use Rattle.tomex_path_views.proofs.by_reason.put_reasons.Given as goal

@@ -1,7 +1,7 @@
 -- The entries so far, and the remaining ones.
 use Rattle.std.proofs.Common.{◌≡◌, ◌∷◌, ◌++◌, drop, map}
 use Rattle.std.specs.Prelude.{codes}
-use Rattle.tomex_row_columns.specs.RowColumns.{percent_text}
+use Rattle.tomex_layout.specs.RowColumns.{percent_text}
 use Rattle.tomex_prices.specs.Percent.{percent_of}
 use Rattle.tomex_prices.proofs.table.percent_column.Given as goal
 

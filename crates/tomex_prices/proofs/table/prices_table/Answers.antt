@@ -2,9 +2,9 @@
 use Rattle.std.proofs.Common.{◌≡◌, ◌∙◌, ap, add-one, length, subst, sym, List, ◌+◌, ◌++◌}
 use Rattle.std.specs.Prelude.{All}
 use Rattle.tomex_pareto.specs.declared.front_row.FrontRow.{FrontRow}
-use Rattle.tomex_row_columns.proofs.Lengths.{HasEntries}
+use Rattle.tomex_layout.proofs.Lengths.{HasEntries}
 use Rattle.tomex_study.specs.StudyFront.{front_of_study}
-use Rattle.tomex_tables.specs.Table.{TableColumn}
+use Rattle.tomex_layout.specs.Table.{TableColumn}
 use Rattle.tomex_prices.specs.PricesTable.{columns_of, prices_table_of}
 use Rattle.tomex_prices.proofs.Columns.{all_long}
 use Rattle.tomex_prices.proofs.table.prices_table.Goals as goal

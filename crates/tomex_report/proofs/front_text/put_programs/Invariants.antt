@@ -1,7 +1,7 @@
 -- The text so far, and that of the programs to come.
 use Rattle.std.proofs.Common.{◌≡◌, ◌++◌, drop}
 use Rattle.std.specs.List.{flat_map}
-use Rattle.tomex_csv_text.specs.Csv.{IsReady, text_written}
+use Rattle.tomex_layout.specs.Csv.{IsReady, text_written}
 use Rattle.tomex_texts.specs.FrontReport.{program_record}
 use Rattle.tomex_report.proofs.front_text.put_programs.Given as goal
 

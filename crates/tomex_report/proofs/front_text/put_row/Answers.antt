@@ -1,6 +1,6 @@
 -- The row of the front is that of the study.
 use Rattle.std.proofs.Common.{◌∙◌, ◌++◌, ap, List, ℕ}
-use Rattle.tomex_csv_text.specs.Csv.{text_written}
+use Rattle.tomex_layout.specs.Csv.{text_written}
 use Rattle.tomex_texts.proofs.Records.{records_are, same_config}
 use Rattle.tomex_report.proofs.front_text.put_row.Goals as goal
 

@@ -1,7 +1,7 @@
 -- No program takes more cycles than the machine advances to, so it has ended, in the last state.
 use Rattle.std.proofs.Common.{◌∙◌}
-use Rattle.tomex_row_runs.proofs.Machines.{to_end}
-use Rattle.tomex_row_runs.proofs.Totals.{ends_at_most}
+use Rattle.tomex_sweep.proofs.Machines.{to_end}
+use Rattle.tomex_plateaus.proofs.Totals.{ends_at_most}
 use Rattle.tomex_texts.proofs.Ended.{filled}
 use Rattle.tomex_report.proofs.Machines.{is_last}
 use Rattle.tomex_report.proofs.program_ends.program_end.Goals as goal

@@ -1,7 +1,7 @@
 -- The record of the row.
 use Rattle.std.proofs.Common.{◌∙◌, ap, List, ℕ, ◌++◌}
 use Rattle.std.proofs.lemmas.Result.{on_ok_weaker}
-use Rattle.tomex_csv_text.specs.Csv.{record_text, text_written}
+use Rattle.tomex_layout.specs.Csv.{record_text, text_written}
 use Rattle.tomex_study.proofs.Rows.{totals_there}
 use Rattle.tomex_rows.proofs.Lines.{record_there}
 use Rattle.tomex_rows.proofs.report.put_row.Goals as goal

@@ -1,8 +1,8 @@
 -- The text so far: the records of the rows up to here.
 use Rattle.std.proofs.Common.{take}
 use Rattle.std.specs.List.{flat_map}
-use Rattle.tomex_csv_text.specs.Csv.{IsReady}
-use Rattle.tomex_csv_text.specs.Growth.{Writes}
+use Rattle.tomex_layout.specs.Csv.{IsReady}
+use Rattle.tomex_layout.specs.Growth.{Writes}
 use Rattle.tomex_rows.specs.RowsReport.{row_record}
 use Rattle.tomex_study.specs.StudyFront.{all_rows}
 use Rattle.tomex_rows.proofs.report.put_rows.Given as goal

@@ -3,8 +3,8 @@ use Rattle.std.proofs.Common.{◌≡◌, ◌++◌, ℕ, List}
 use Rattle.std.specs.Prelude.{All}
 use Rattle.std.specs.BTreeMap.{values}
 use Rattle.std.specs.List.{flat_map}
-use Rattle.tomex_steps.specs.declared.step.Step.{Step}
-use Rattle.tomex_csv_text.specs.Csv.{IsReady, record_text, text_written}
+use Rattle.tomex_rvexec.specs.declared.step.Step.{Step}
+use Rattle.tomex_layout.specs.Csv.{IsReady, record_text, text_written}
 use Rattle.tomex_run_views.specs.Tally.{place_fields}
 use Rattle.tomex_run_views.proofs.by_place.put_places.Given as goal
 

@@ -2,7 +2,7 @@
 use Rattle.std.proofs.Common.{◌∙◌, [], refl, subst, List}
 use Rattle.std.specs.Prelude.{IfOk}
 use Rattle.std.proofs.lemmas.Result.{IfOk-weaker}
-use Rattle.tomex_steps.specs.declared.step.Step.{Step}
+use Rattle.tomex_rvexec.specs.declared.step.Step.{Step}
 use Rattle.tomex_run_views.specs.ByPlace.{IsReportByPlace, pc_of}
 use Rattle.tomex_run_views.proofs.Reports.{report_if_made}
 use Rattle.tomex_run_views.proofs.by_place.stalls_by_pc.Goals as goal

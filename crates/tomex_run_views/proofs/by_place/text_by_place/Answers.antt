@@ -1,7 +1,7 @@
 -- The text is what was written.
 use Rattle.std.proofs.Common.{◌≡◌, ◌∙◌, ◌++◌, [], ap, map, rules, ℕ, List}
 use Rattle.std.proofs.lemmas.Result.{IfOk-weaker}
-use Rattle.tomex_csv_text.specs.Csv.{text_written}
+use Rattle.tomex_layout.specs.Csv.{text_written}
 use Rattle.tomex_run_views.specs.Tally.{report_of_counted}
 use Rattle.tomex_run_views.proofs.by_place.text_by_place.Goals as goal
 

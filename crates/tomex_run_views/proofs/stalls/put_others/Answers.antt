@@ -1,6 +1,6 @@
 -- One record after the other.
 use Rattle.std.proofs.lemmas.Result.{on_ok_weaker}
-use Rattle.tomex_csv_text.proofs.Pieces.{◌▸◌, last_piece}
+use Rattle.tomex_layout.proofs.Pieces.{◌▸◌, last_piece}
 use Rattle.tomex_run_views.proofs.stalls.put_others.Goals as goal
 
 pub returns-clause-text : goal.returns-clause-text

@@ -2,8 +2,8 @@
 use Rattle.std.proofs.Common.{refl}
 use Rattle.tomex_timing.specs.Needs.{all_parts}
 use Rattle.tomex_run_views.specs.StallsReport.{part_record}
-use Rattle.tomex_csv_text.specs.Csv.{text_written}
-use Rattle.tomex_csv_text.proofs.Pieces.{next_piece}
+use Rattle.tomex_layout.specs.Csv.{text_written}
+use Rattle.tomex_layout.proofs.Pieces.{next_piece}
 use Rattle.tomex_run_views.proofs.Written.{all_put}
 use Rattle.tomex_run_views.proofs.stalls.put_parts.Goals as goal
 

@@ -2,7 +2,7 @@
 use Rattle.std.proofs.Common.{◌≡◌, ◌++◌, take}
 use Rattle.std.specs.List.{flat_map}
 use Rattle.tomex_timing.specs.Needs.{all_parts}
-use Rattle.tomex_csv_text.specs.Csv.{IsReady, text_written}
+use Rattle.tomex_layout.specs.Csv.{IsReady, text_written}
 use Rattle.tomex_run_views.specs.StallsReport.{part_record}
 use Rattle.tomex_run_views.proofs.stalls.put_parts.Given as goal
 

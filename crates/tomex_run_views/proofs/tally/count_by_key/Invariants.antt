@@ -1,6 +1,6 @@
 -- The visits so far are counted.
 use Rattle.std.proofs.Common.{◌≡◌, ℕ, map, take}
-use Rattle.tomex_steps.specs.declared.step.Step.{Step}
+use Rattle.tomex_rvexec.specs.declared.step.Step.{Step}
 use Rattle.tomex_run_views.specs.Tally.{IsTally, visits_by}
 use Rattle.tomex_run_views.proofs.tally.count_by_key.Given as goal
 

@@ -1,5 +1,5 @@
-use Rattle.tomex_steps.proofs.Fields.{bytes_are_some, bytes_of_memory, dest_needs_pool, store_has_no_dest}
-use Rattle.tomex_steps.proofs.Fields.{unit_with_pool}
+use Rattle.tomex_rvexec.proofs.Fields.{bytes_are_some, bytes_of_memory, dest_needs_pool, store_has_no_dest}
+use Rattle.tomex_rvexec.proofs.Fields.{unit_with_pool}
 use Rattle.tomex_rvexec.proofs.laws.step_says_one_thing_of_itself.Goals as goal
 
 pub returns-clause-unit : goal.returns-clause-unit

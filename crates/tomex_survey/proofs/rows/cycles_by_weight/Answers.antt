@@ -1,6 +1,6 @@
 -- One more program's cycles, which are small.
 use Rattle.std.proofs.Common.{◌≡◌, arith, length, refl, sym}
-use Rattle.tomex_row_runs.proofs.Totals.{as_many_totals, no_cycles}
+use Rattle.tomex_plateaus.proofs.Totals.{as_many_totals, no_cycles}
 use Rattle.tomex_survey.proofs.Weighing.{all_weighed, one_weighed, weighed_small}
 use Rattle.tomex_survey.proofs.rows.cycles_by_weight.Goals as goal
 

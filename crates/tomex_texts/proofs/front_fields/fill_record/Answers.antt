@@ -1,7 +1,7 @@
 -- The configuration's fields, the program's name, and its end.
 use Rattle.std.proofs.Common.{◌∙◌, ap, sym}
 use Rattle.tomex_study.specs.Watch.{watched_bytes}
-use Rattle.tomex_csv_text.proofs.Pieces.{◌▸◌, last_piece}
+use Rattle.tomex_layout.proofs.Pieces.{◌▸◌, last_piece}
 use Rattle.tomex_texts.proofs.Records.{record_is, watched_long}
 use Rattle.tomex_texts.proofs.front_fields.fill_record.Goals as goal
 

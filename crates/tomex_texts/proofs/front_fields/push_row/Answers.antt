@@ -1,6 +1,6 @@
 -- One part after another.
 use Rattle.std.proofs.Common.{◌∙◌}
-use Rattle.tomex_csv_text.proofs.Pieces.{◌▸◌, last_piece}
+use Rattle.tomex_layout.proofs.Pieces.{◌▸◌, last_piece}
 use Rattle.tomex_texts.specs.FrontReport.{row_fields}
 use Rattle.tomex_texts.proofs.front_fields.push_row.Goals as goal
 

@@ -2,7 +2,7 @@
 use Rattle.std.proofs.Common.{[], ◌∷◌, ◌++◌}
 use Rattle.std.specs.Prelude.{codes}
 use Rattle.std.proofs.lemmas.Result.{on_ok_weaker}
-use Rattle.tomex_csv_text.proofs.Pieces.{joined}
+use Rattle.tomex_layout.proofs.Pieces.{joined}
 use Rattle.tomex_texts.specs.FrontReport.{if_wide, station_columns, unit_columns}
 use Rattle.tomex_texts.proofs.front_header.push_row_columns.Goals as goal
 

@@ -1,6 +1,6 @@
 -- The text so far, and that of the remaining steps.
 use Rattle.std.proofs.Common.{◌≡◌, ◌+◌, ◌++◌, drop}
-use Rattle.tomex_csv_text.specs.Csv.{IsReady, text_written}
+use Rattle.tomex_layout.specs.Csv.{IsReady, text_written}
 use Rattle.tomex_texts.specs.TimesReport.{step_records}
 use Rattle.tomex_texts.proofs.times.put_steps.Given as goal
 

@@ -1,6 +1,6 @@
 -- What is held shows the steps so far, and so do the demands.
 use Rattle.std.proofs.Common.{List, take}
-use Rattle.tomex_steps.specs.declared.step.Step.{Step}
+use Rattle.tomex_rvexec.specs.declared.step.Step.{Step}
 use Rattle.tomex_timing.specs.Ahead.{held_by}
 use Rattle.tomex_timing.specs.Demands.{AreDemands}
 use Rattle.tomex_timing.specs.Search.{history}

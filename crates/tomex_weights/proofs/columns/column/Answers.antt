@@ -1,7 +1,7 @@
 -- The rows of the front are rows of the study.
 use Rattle.std.proofs.Common.{subst, sym, All, List}
 use Rattle.std.specs.List.{Contains}
-use Rattle.tomex_spans.specs.declared.line_row.LineRow.{LineRow}
+use Rattle.tomex_pareto.specs.declared.line_row.LineRow.{LineRow}
 use Rattle.tomex_weights.specs.Spans.{rows_by_weight}
 use Rattle.tomex_weights.proofs.columns.column.Goals as goal
 

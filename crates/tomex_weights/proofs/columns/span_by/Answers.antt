@@ -1,8 +1,8 @@
 -- If the front leaves a row no weight, all rows leave it none.
 use Rattle.std.proofs.Common.{◌≡◌, ◌∙◌, ap, subst, sym, false, nat_lt}
-use Rattle.tomex_spans.specs.declared.line_row.LineRow.{LineRow}
-use Rattle.tomex_spans.specs.declared.spans.ValueSpan.{ValueSpan}
-use Rattle.tomex_spans.specs.Spans.{settled, span}
+use Rattle.tomex_pareto.specs.declared.line_row.LineRow.{LineRow}
+use Rattle.tomex_pareto.specs.declared.spans.ValueSpan.{ValueSpan}
+use Rattle.tomex_pareto.specs.Spans.{settled, span}
 use Rattle.tomex_weights.specs.declared.spans.TheConstants.{GREATEST_WEIGHT}
 use Rattle.tomex_weights.specs.Spans.{rows_by_weight}
 use Rattle.tomex_weights.proofs.FrontFirst.{none_more}

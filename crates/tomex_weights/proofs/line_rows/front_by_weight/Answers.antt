@@ -3,7 +3,7 @@ use Rattle.std.proofs.Common.{sym, subst, All, List}
 use Rattle.std.specs.List.{Contains}
 use Rattle.std.proofs.lemmas.Result.{IfOk-weaker}
 use Rattle.tomex_pareto.specs.declared.front_row.FrontRow.{FrontRow}
-use Rattle.tomex_spans.specs.declared.line_row.LineRow.{LineRow}
+use Rattle.tomex_pareto.specs.declared.line_row.LineRow.{LineRow}
 use Rattle.tomex_study.specs.StudyFront.{all_rows}
 use Rattle.tomex_weights.specs.Spans.{rows_by_weight}
 use Rattle.tomex_weights.proofs.FrontFirst.{front_there, lines_there}

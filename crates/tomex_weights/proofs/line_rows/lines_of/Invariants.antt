@@ -1,6 +1,6 @@
 -- The rows so far, and the remaining ones.
 use Rattle.std.proofs.Common.{◌≡◌, ◌++◌, drop, map, All}
-use Rattle.tomex_spans.specs.Spans.{HasRoom}
+use Rattle.tomex_pareto.specs.Spans.{HasRoom}
 use Rattle.tomex_weights.specs.Spans.{by_weight}
 use Rattle.tomex_weights.proofs.line_rows.lines_of.Given as goal
 

@@ -1,7 +1,7 @@
 -- The remaining programs.
 use Rattle.std.proofs.Common.{◌≡◌, drop, get_or}
 use Rattle.std.specs.List.{list_any}
-use Rattle.tomex_spans.specs.Spans.{no_values}
+use Rattle.tomex_pareto.specs.Spans.{no_values}
 use Rattle.tomex_weights.specs.Listed.{has_weights}
 use Rattle.tomex_weights.proofs.listed.comes_by_weights.Given as goal
 

@@ -5,7 +5,7 @@ use Rattle.std.proofs.lemmas.Bool.{or_left}
 use Rattle.tomex_pareto.specs.Front.{is_on}
 use Rattle.tomex_pareto.specs.declared.front_row.FrontRow.{FrontRow}
 use Rattle.tomex_study.specs.StudyFront.{front_of_study}
-use Rattle.tomex_spans.specs.Spans.{no_values}
+use Rattle.tomex_pareto.specs.Spans.{no_values}
 use Rattle.tomex_weights.specs.Listed.{ProgramSpans, has_weights, is_listed}
 use Rattle.tomex_weights.specs.Programs.{relevant_programs_of}
 use Rattle.tomex_weights.specs.Spans.{span_of}

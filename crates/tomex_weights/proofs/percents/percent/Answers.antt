@@ -1,6 +1,6 @@
 -- No percentage is above 100 at first.
 use Rattle.std.proofs.Common.{arith, ◌≤◌}
-use Rattle.tomex_spans.proofs.Factors.{least_few}
+use Rattle.tomex_pareto.proofs.Factors.{least_few}
 use Rattle.tomex_weights.specs.Percent.{percent_for}
 use Rattle.tomex_weights.proofs.percents.percent.Goals as goal
 

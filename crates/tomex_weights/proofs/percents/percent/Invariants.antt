@@ -1,7 +1,7 @@
 -- The least of the rivals so far, and of the remaining ones.
 use Rattle.std.proofs.Common.{◌≡◌, ◌≤◌, drop}
 use Rattle.std.specs.Prelude.{min}
-use Rattle.tomex_spans.specs.Percent.{least_of}
+use Rattle.tomex_pareto.specs.Percent.{least_of}
 use Rattle.tomex_weights.specs.Percent.{percent_for}
 use Rattle.tomex_weights.proofs.percents.percent.Given as goal
 

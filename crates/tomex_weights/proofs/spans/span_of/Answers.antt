@@ -1,8 +1,8 @@
 -- With one weight replaced, a row is on the front exactly if the weight is in its span.
 use Rattle.std.proofs.Common.{◌≡◌, ◌∙◌, ap, ap₂, sym, List}
-use Rattle.tomex_spans.specs.declared.line_row.LineRow.{LineRow}
-use Rattle.tomex_spans.specs.declared.spans.ValueSpan.{ValueSpan}
-use Rattle.tomex_spans.specs.Spans.{holds, settled, span}
+use Rattle.tomex_pareto.specs.declared.line_row.LineRow.{LineRow}
+use Rattle.tomex_pareto.specs.declared.spans.ValueSpan.{ValueSpan}
+use Rattle.tomex_pareto.specs.Spans.{holds, settled, span}
 use Rattle.tomex_weights.specs.declared.spans.TheConstants.{GREATEST_WEIGHT}
 use Rattle.tomex_weights.specs.Spans.{span_of}
 use Rattle.tomex_weights.proofs.Within.{on_within}

@@ -1,6 +1,6 @@
 -- A row's span stands at its number.
 use Rattle.std.proofs.Common.{◌∙◌}
-use Rattle.tomex_spans.specs.Spans.{no_values}
+use Rattle.tomex_pareto.specs.Spans.{no_values}
 use Rattle.tomex_weights.proofs.TableRows.{stands_at}
 use Rattle.tomex_weights.proofs.table.span_at.Goals as goal
 

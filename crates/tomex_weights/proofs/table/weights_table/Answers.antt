@@ -2,9 +2,9 @@
 use Rattle.std.proofs.Common.{◌≡◌, ◌∙◌, ap, add-one, length, subst, sym, List, ◌++◌}
 use Rattle.std.specs.Prelude.{All}
 use Rattle.std.specs.List.{Contains}
-use Rattle.tomex_row_columns.proofs.Lengths.{HasEntries}
+use Rattle.tomex_layout.proofs.Lengths.{HasEntries}
 use Rattle.tomex_study.specs.StudyFront.{all_rows}
-use Rattle.tomex_tables.specs.Table.{TableColumn}
+use Rattle.tomex_layout.specs.Table.{TableColumn}
 use Rattle.tomex_weights.specs.Listed.{listed_rows_of}
 use Rattle.tomex_weights.specs.WeightsTable.{columns_of, weights_table_of}
 use Rattle.tomex_weights.proofs.TableRows.{all_long, listed_there}

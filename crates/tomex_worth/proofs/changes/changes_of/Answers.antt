@@ -3,7 +3,7 @@ use Rattle.std.proofs.Common.{◌≡◌, ◌<◌, ◌-◌, ◌∙◌, ◌++◌, 
 use Rattle.std.specs.List.{flat_map, range_with_len}
 use Rattle.std.proofs.lemmas.List.{append-nil}
 use Rattle.std.proofs.lemmas.List.Elements.{All-get_or}
-use Rattle.tomex_tables.proofs.Loops.{number_more}
+use Rattle.tomex_layout.proofs.Loops.{number_more}
 use Rattle.tomex_worth.specs.Changes.{changes_at, changes_of}
 use Rattle.tomex_worth.specs.declared.changes.Change.{Change}
 use Rattle.tomex_worth.proofs.Rows.{changes_within}

@@ -2,7 +2,7 @@
 use Rattle.std.proofs.Common.{◌<◌, ◌≤◌, ◌++◌, ◌∙◌, List, ap, length, subst, sym}
 use Rattle.std.proofs.lemmas.List.{append-nil}
 use Rattle.tomex_study.specs.Program.{Workload}
-use Rattle.tomex_tables.specs.Table.{TableColumn}
+use Rattle.tomex_layout.specs.Table.{TableColumn}
 use Rattle.tomex_worth.proofs.Columns.{no_column, several_columns}
 use Rattle.tomex_worth.proofs.table.push_programs.Goals as goal
 

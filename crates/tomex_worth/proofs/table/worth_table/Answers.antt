@@ -3,7 +3,7 @@ use Rattle.std.proofs.Common.{◌≡◌, ◌∙◌, ap, ap₂, arith, subst, sym
 use Rattle.std.proofs.lemmas.List.Elements.{All-get_or}
 use Rattle.std.proofs.lemmas.Result.{IfOk-weaker}
 use Rattle.tomex_pareto.specs.declared.front_row.FrontRow.{FrontRow}
-use Rattle.tomex_tables.specs.Table.{table_of}
+use Rattle.tomex_layout.specs.Table.{table_of}
 use Rattle.tomex_worth.specs.Worth.{columns_of, worth_table_of}
 use Rattle.tomex_worth.specs.Changes.{changes_of}
 use Rattle.tomex_worth.proofs.Columns.{HasLines, all_columns, columns_long}

@@ -1,5 +1,5 @@
 use Rattle.tomex_cycle.proofs.Words.{ap, ℕ, refl}
-use Rattle.tomex_steps.specs.Memory.{Bytes}
+use Rattle.tomex_rvexec.specs.Memory.{Bytes}
 use Rattle.tomex_cycle.specs.declared.fetch.Fetch.TheVariants.{At}
 use Rattle.tomex_cycle.proofs.Outer.{start_shown}
 use Rattle.tomex_cycle.proofs.inner.Inner.at_start.Goals as goal

@@ -1,7 +1,7 @@
 -- An access to the step's bytes waits for the accesses that the step conflicts with.
 use Rattle.std.proofs.Common.{ℕ, ◌≡◌, ◌∙◌, ap, sym, Some, None}
 use Rattle.std.proofs.lemmas.List.{get_or-replicate}
-use Rattle.tomex_steps.specs.Steps.{bytes_of, is_store}
+use Rattle.tomex_rvexec.specs.Steps.{bytes_of, is_store}
 use Rattle.tomex_floor.proofs.Touching.{conflict_is, no_conflict}
 use Rattle.tomex_floor.proofs.accesses.Accesses.conflict.Goals as goal
 

@@ -1,6 +1,6 @@
 -- One piece after another.
 use Rattle.std.proofs.lemmas.Result.{on_ok_weaker}
-use Rattle.tomex_csv_text.proofs.Pieces.{◌▸◌, last_piece}
+use Rattle.tomex_layout.proofs.Pieces.{◌▸◌, last_piece}
 use Rattle.tomex_front_views.specs.Dots.{dots_line}
 use Rattle.tomex_front_views.proofs.plot.dots.push_dots_line.Goals as goal
 

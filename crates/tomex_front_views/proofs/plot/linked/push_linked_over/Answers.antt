@@ -3,7 +3,7 @@ use Rattle.std.proofs.Common.{◌∙◌, ◌++◌, ap, List, ℕ}
 use Rattle.std.proofs.lemmas.Result.{on_ok_weaker}
 use Rattle.tomex_front_views.specs.LinkedPlot.{linked_over}
 use Rattle.tomex_front_views.specs.Plot.{staircase}
-use Rattle.tomex_csv_text.proofs.Pieces.{◌▸◌, last_piece}
+use Rattle.tomex_layout.proofs.Pieces.{◌▸◌, last_piece}
 use Rattle.tomex_front_views.proofs.plot.linked.push_linked_over.Goals as goal
 
 pub returns : goal.returns

@@ -2,7 +2,7 @@
 use Rattle.std.proofs.Common.{◌∙◌, ap₂, arith, ℕ, List, map}
 use Rattle.std.proofs.lemmas.Slice.Zip.{AllZip-long}
 use Rattle.tomex_front_views.specs.FrontTable.{program_column}
-use Rattle.tomex_tables.specs.Table.{TableColumn}
+use Rattle.tomex_layout.specs.Table.{TableColumn}
 use Rattle.std.specs.Fmt.{decimal}
 use Rattle.tomex_front_views.proofs.Loops.{item_more}
 use Rattle.tomex_front_views.proofs.Zips.{at_both}

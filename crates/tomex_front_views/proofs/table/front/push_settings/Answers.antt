@@ -1,6 +1,6 @@
 -- The column of one more setting.
 use Rattle.std.proofs.Common.{refl}
-use Rattle.tomex_csv_text.proofs.Pieces.{next_piece}
+use Rattle.tomex_layout.proofs.Pieces.{next_piece}
 use Rattle.tomex_front_views.specs.FrontTable.{all_settings, setting_columns}
 use Rattle.tomex_front_views.proofs.table.front.push_settings.Goals as goal
 

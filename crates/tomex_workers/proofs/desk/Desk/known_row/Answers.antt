@@ -3,7 +3,7 @@ use Rattle.std.proofs.Common.{◌≡◌, List, Some, length, slice_get, subst, t
 use Rattle.tomex_config.specs.Configuration.{Configuration}
 use Rattle.tomex_study.specs.Program.{Workload}
 use Rattle.tomex_study.specs.Cycles.{totals_on}
-use Rattle.tomex_row_runs.specs.Looks.{IsKnownRow}
+use Rattle.tomex_plateaus.specs.Looks.{IsKnownRow}
 use Rattle.tomex_workers.proofs.Closing.{known_cycles, known_made, row_read}
 use Rattle.tomex_workers.proofs.desk.Desk.known_row.Goals as goal
 

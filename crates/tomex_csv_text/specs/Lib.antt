@@ -1,5 +1,0 @@
-pub mod Csv
-pub mod Aligned
-pub mod Hundredths
-pub mod Names
-pub mod Growth

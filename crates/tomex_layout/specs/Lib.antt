@@ -1,0 +1,7 @@
+pub mod Csv
+pub mod Aligned
+pub mod Hundredths
+pub mod Names
+pub mod Growth
+pub mod Table
+pub mod RowColumns

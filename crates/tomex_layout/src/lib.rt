@@ -1,0 +1,24 @@
+//! The elements of reports: CSV records, by the crate `csv` with its defaults, aligned texts, numbers
+//! of hundredths, and names as they are shown.
+//! Tests: tomex_tests_reports, tomex_tests_surveys.
+#![tactic(auto)]
+
+mod aligned;
+mod column;
+mod fields;
+mod headings;
+mod hundredths;
+mod names;
+mod percents;
+mod table;
+mod writing;
+
+pub use aligned::{push_aligned, push_aligned_number, push_left_aligned};
+pub use column::Column;
+pub use fields::{push_decimal, push_instruction, push_names};
+pub use headings::push_row_columns;
+pub use hundredths::push_hundredths;
+pub use names::{push_shown, shown_name};
+pub use percents::percent_text;
+pub use table::table_of;
+pub use writing::{into_text, put_record};

@@ -1,0 +1,150 @@
+//! The table of what choices that the lists lack would bring.
+
+ghost use Rattle.std.specs.Prelude.{◌≡◌, ◌<◌, OnOk};
+ghost use Rattle.std.specs.List.{flat_map};
+ghost use Rattle.tomex_layout.specs.Growth.{Appends};
+ghost use Rattle.tomex_html.specs.Html.{td};
+ghost use Rattle.tomex_timing.specs.Needs.{all_parts};
+ghost use Rattle.tomex_worth.specs.Changes.{part_at};
+ghost use Rattle.tomex_choices_table.specs.ChoicesTable.{percent_cell};
+ghost use Rattle.tomex_page_rows.specs.Additions.{addition_cells, addition_row, additions_cell, choices_table};
+ghost use Rattle.tomex_page_rows.specs.Additions.{cost_cell, enough_cell, saving_cells};
+
+use crate::lists::push_choices_cell;
+use std::alloc::{AllocError, Allocator, Global};
+use tomex_choices::{Saving, WeighedChoices, most_of};
+use tomex_choices_table::push_saving;
+use tomex_html::{push_empty, push_number, push_table_end, push_table_head};
+use tomex_page_tables::push_list_start;
+use tomex_timing::Part;
+
+/// Adds a cell with a saving's percentage.
+fn push_percent_cell<A: Allocator>(
+    text: &mut String<A>,
+    saving: Option<Saving>,
+) -> Result<(), AllocError>
+    ensures { OnOk result (Appends (td (percent_cell saving)) text.old text.new) }
+{
+    text.push_str("<td>")?;
+    push_saving(text, saving)?;
+    text.push_str("</td>")
+}
+
+/// Adds a cell with a saving's cost, if there is one.
+fn push_cost_cell<A: Allocator>(
+    text: &mut String<A>,
+    saving: Option<Saving>,
+) -> Result<(), AllocError>
+    ensures { OnOk result (Appends (cost_cell saving) text.old text.new) }
+{
+    match saving {
+        Some(saving) => push_number(text, saving.cost),
+        None => push_empty(text),
+    }
+}
+
+/// Adds a saving's percentage, and its cost.
+fn push_saving_cells<A: Allocator>(
+    text: &mut String<A>,
+    saving: Option<Saving>,
+) -> Result<(), AllocError>
+    ensures { OnOk result (Appends (saving_cells saving) text.old text.new) }
+{
+    push_percent_cell(text, saving)?;
+    push_cost_cell(text, saving)
+}
+
+/// Adds a cell with the number of a part that is enough, unless it is the most.
+fn push_enough_cell<A: Allocator>(
+    text: &mut String<A>,
+    part: Part,
+    enough: u8,
+) -> Result<(), AllocError>
+    ensures { OnOk result (Appends (enough_cell part enough) text.old text.new) }
+{
+    if enough == most_of(part) {
+        push_empty(text)
+    } else {
+        push_number(text, u64::from(enough))
+    }
+}
+
+/// Adds a cell with the choices that are worth adding to the list at a place.
+fn push_additions_cell<A: Allocator, B: Allocator>(
+    text: &mut String<A>,
+    heap: Global,
+    weighed: &WeighedChoices<'_, B>,
+    place: usize,
+) -> Result<(), AllocError>
+    requires { place < 13 }
+    ensures { OnOk result (Appends (additions_cell weighed.now (part_at place)) text.old text.new) }
+{
+    let additions = weighed.additions(heap, place)?;
+    let prices = weighed.surveyed().study().prices();
+    push_choices_cell(text, &prices, Part::ALL[place], additions.as_slice())
+}
+
+fn push_addition_cells<A: Allocator, B: Allocator>(
+    text: &mut String<A>,
+    heap: Global,
+    weighed: &WeighedChoices<'_, B>,
+    place: usize,
+) -> Result<(), AllocError>
+    requires { place < 13 }
+    ensures { OnOk result (Appends (addition_cells weighed.now (part_at place)) text.old text.new) }
+{
+    push_additions_cell(text, heap, weighed, place)?;
+    push_saving_cells(text, weighed.saving(place))?;
+    push_enough_cell(text, Part::ALL[place], weighed.enough(place))
+}
+
+#[tactic(auto, unfolding(crate::specs::Additions::addition_row, tomex_html::specs::Tables::table_row))]
+fn push_addition_row<A: Allocator, B: Allocator>(
+    text: &mut String<A>,
+    heap: Global,
+    weighed: &WeighedChoices<'_, B>,
+    place: usize,
+) -> Result<(), AllocError>
+    requires { place < 13 }
+    ensures { OnOk result (Appends (addition_row weighed.now (part_at place)) text.old text.new) }
+{
+    push_list_start(text, Part::ALL[place])?;
+    push_addition_cells(text, heap, weighed, place)?;
+    text.push_str("</tr>\n")
+}
+
+fn push_addition_rows<A: Allocator, B: Allocator>(
+    text: &mut String<A>,
+    heap: Global,
+    weighed: &WeighedChoices<'_, B>,
+) -> Result<(), AllocError>
+    ensures { OnOk result (Appends (flat_map (addition_row weighed.now) all_parts) text.old text.new) }
+{
+    for place in 0..13 {
+        push_addition_row(text, heap, weighed, place)?;
+    }
+    Ok(())
+}
+
+/// Adds the table of what choices that the lists lack would bring: for each list those that are worth adding, what they
+/// save and at which cost, and how many of the part are enough.
+#[tactic(auto, unfolding(crate::specs::Additions::choices_table))]
+pub fn push_choices_table<A: Allocator, B: Allocator>(
+    text: &mut String<A>,
+    heap: Global,
+    weighed: &WeighedChoices<'_, B>,
+) -> Result<(), AllocError>
+    ensures { OnOk result (Appends (choices_table weighed.now) text.old text.new) }
+{
+    let caption = "What choices that the lists lack would bring";
+    let names = [
+        "Part",
+        "Would join the front",
+        "% of cycles",
+        "At cost",
+        "Enough",
+    ];
+    push_table_head(text, " class=\"a x\"", caption, &names)?;
+    push_addition_rows(text, heap, weighed)?;
+    push_table_end(text)
+}

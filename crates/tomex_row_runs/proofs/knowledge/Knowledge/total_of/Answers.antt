@@ -1,9 +1,0 @@
--- A known total is right.
-use Rattle.tomex_row_runs.specs.Knowledge.{IsTotalAt}
-use Rattle.std.proofs.Common.{Option, ℕ, subst}
-use Rattle.tomex_row_runs.proofs.knowledge.Knowledge.total_of.Goals as goal
-
-pub returns-in-Some-clause-total : goal.returns-in-Some-clause-total
-returns-in-Some-clause-total g c =
-    subst (λ (o : Option ℕ). IsTotalAt c.args.self.now.programs c.args.config.now c.args.place o) c.in-Some.is
-    c.requires.known

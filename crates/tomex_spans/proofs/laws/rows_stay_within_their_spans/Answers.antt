@@ -1,8 +1,0 @@
-use Rattle.tomex_spans.proofs.AllRivals.{stay_either_way, stay_within}
-use Rattle.tomex_spans.proofs.laws.rows_stay_within_their_spans.Goals as goal
-
-pub returns-clause-costs : goal.returns-clause-costs
-returns-clause-costs c = stay_within
-
-pub returns-clause-cycles : goal.returns-clause-cycles
-returns-clause-cycles c = stay_either_way

@@ -1,5 +1,0 @@
-use Rattle.std.proofs.Common.{rules}
-use Rattle.tomex_steps.proofs.memory.Memory.word.Goals as goal
-
-pub returns : goal.returns
-returns g c = search rules fits 100

@@ -1,5 +1,0 @@
-use Rattle.std.proofs.Common.{rules}
-use Rattle.tomex_steps.proofs.operation.alu_result.Goals as goal
-
-pub returns-in-Jal : goal.returns-in-Jal
-returns-in-Jal c = search rules fits 100

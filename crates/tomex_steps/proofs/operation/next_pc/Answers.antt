@@ -1,6 +1,0 @@
-use Rattle.std.proofs.Common.{arith}
-use Rattle.std.proofs.lemmas.Grind.{common_steps}
-use Rattle.tomex_steps.proofs.operation.next_pc.Goals as goal
-
-pub returns-in-Jalr : goal.returns-in-Jalr
-returns-in-Jalr c = grind (arith, common_steps)

@@ -1,5 +1,0 @@
-use Rattle.std.proofs.Common.{rules}
-use Rattle.tomex_steps.proofs.step.Step.bytes.Goals as goal
-
-pub returns : goal.returns
-returns c = search rules fits 100

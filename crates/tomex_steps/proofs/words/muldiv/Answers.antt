@@ -1,5 +1,0 @@
-use Rattle.std.proofs.Common.{rules}
-use Rattle.tomex_steps.proofs.words.muldiv.Goals as goal
-
-pub returns-then-b-eq0 : goal.returns-then-b-eq0
-returns-then-b-eq0 c = search rules fits 100

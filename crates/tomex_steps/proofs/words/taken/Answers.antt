@@ -1,5 +1,0 @@
-use Rattle.std.proofs.Common.{rules}
-use Rattle.tomex_steps.proofs.words.taken.Goals as goal
-
-pub returns-in-Bltu : goal.returns-in-Bltu
-returns-in-Bltu c = search rules fits 100
