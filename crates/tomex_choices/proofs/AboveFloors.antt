@@ -7,7 +7,8 @@ use Rattle.std.proofs.lemmas.List.Elements.{All-contains}
 use Rattle.std.proofs.lemmas.List.Sums.{sum_by-cons}
 use Rattle.tomex_config.specs.Configuration.{Configuration, IsWithinLimits}
 use Rattle.tomex_floor.proofs.Above.{floor_is_bound}
-use Rattle.tomex_floor.specs.Floor.{floor_of, latency_of}
+use Rattle.tomex_floor.specs.Floor.{floor_of}
+use Rattle.tomex_config.specs.Configuration.{latency_of}
 use Rattle.tomex_plateaus.proofs.Totals.{total_within}
 use Rattle.tomex_study.specs.Cycles.{cycles_on}
 use Rattle.tomex_study.specs.Program.{IsProgram, Workload}

@@ -8,15 +8,16 @@ use Rattle.std.proofs.lemmas.List.Elements.{filter-append}
 use Rattle.std.proofs.lemmas.Option.{slice_get_read}
 use Rattle.tomex_config.specs.Configuration.{Configuration}
 use Rattle.tomex_study.specs.Study.{DesignSpace}
-use Rattle.tomex_timing.specs.declared.part.Part.{Part}
-use Rattle.tomex_worth.specs.Changes.{part_at}
+use Rattle.tomex_config.specs.declared.part.Part.{Part}
+use Rattle.tomex_config.specs.Parts.{part_at}
 use Rattle.tomex_choices.specs.Additions.{additions, has_entry, useful}
-use Rattle.tomex_choices.specs.Asking.{ListOf, is_like}
-use Rattle.tomex_choices.specs.Choices.{firsts, most_of, same_latency}
+use Rattle.tomex_choices.specs.Asking.{ListOf}
+use Rattle.tomex_config.specs.Parts.{is_like}
+use Rattle.tomex_config.specs.Parts.{firsts, most_of, same_latency}
 use Rattle.tomex_choices.specs.NewMachines.{configurations_if, grown, lacking}
 use Rattle.tomex_choices.specs.Passing.{Has}
 use Rattle.tomex_choices.specs.Weighed.{AreWeighed, added_by, added_if}
-use Rattle.tomex_choices.specs.declared.choices.Likeness.TheVariants.{Latency}
+use Rattle.tomex_config.specs.declared.likeness.Likeness.TheVariants.{Latency}
 use Rattle.tomex_choices.specs.declared.new_machine.NewMachine.{NewMachine}
 use Rattle.tomex_choices.specs.declared.weighing.WeighedList.{WeighedList}
 use Rattle.tomex_choices.proofs.EnoughFrom.{any_at, any_from}

@@ -15,21 +15,22 @@ use Rattle.tomex_rvdec.specs.declared.pool.UnitId.TheVariants as units
 use Rattle.tomex_config.specs.Configuration.{Configuration, IsWithinLimits, option_of, plain_option, same_option}
 use Rattle.tomex_config.specs.Configuration.{config_of, is_between, with_option}
 use Rattle.tomex_config.specs.declared.config.UnitOption.{UnitOption}
-use Rattle.tomex_floor.specs.Floor.{latency_of}
+use Rattle.tomex_config.specs.Configuration.{latency_of}
 use Rattle.tomex_study.specs.Program.{Workload}
 use Rattle.tomex_study.specs.Study.{DesignSpace}
-use Rattle.tomex_timing.specs.Needs.{count_of}
+use Rattle.tomex_config.specs.Parts.{count_of}
 use Rattle.tomex_timing.specs.Run.{total}
-use Rattle.tomex_timing.specs.declared.part.Part.{Part}
-use Rattle.tomex_timing.specs.declared.part.Part.TheVariants.{Stations, Units, Buses, Width}
-use Rattle.tomex_worth.specs.Changes.{part_at, same_entry}
+use Rattle.tomex_config.specs.declared.part.Part.{Part}
+use Rattle.tomex_config.specs.declared.part.Part.TheVariants.{Stations, Units, Buses, Width}
+use Rattle.tomex_config.specs.Parts.{part_at, same_entry}
 use Rattle.tomex_choices.specs.Asking.{are_alike, are_alike_in, changes_at, last_change}
-use Rattle.tomex_choices.specs.Choices.{latency_in, most_of, same_latency}
+use Rattle.tomex_config.specs.Parts.{latency_in, most_of, same_latency}
 use Rattle.tomex_choices.specs.Enough.{total_with}
 use Rattle.tomex_choices.specs.Extremes.{greatest}
-use Rattle.tomex_choices.specs.NewMachines.{brought_by, greatest_units, grown, machine_if, more_units, with_count}
+use Rattle.tomex_choices.specs.NewMachines.{brought_by, greatest_units, grown, machine_if, more_units}
+use Rattle.tomex_config.specs.Parts.{with_count}
 use Rattle.tomex_choices.specs.Passing.{Has}
-use Rattle.tomex_choices.proofs.Configurations.{count_within}
+use Rattle.tomex_config.proofs.Within.{count_within}
 use Rattle.tomex_choices.proofs.EnoughFrom.{all_at, from_range, in_range}
 use Rattle.tomex_choices.proofs.SameTotals.{same_total}
 

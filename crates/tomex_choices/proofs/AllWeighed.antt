@@ -6,7 +6,7 @@ use Rattle.std.proofs.lemmas.Bool.Decides.{nat_tests}
 use Rattle.std.proofs.lemmas.List.{get_or_append_left, get_or_push, length_push}
 use Rattle.std.proofs.lemmas.Option.{get_or_from_slice_get, slice_get-get_or, slice_get_within}
 use Rattle.tomex_study.specs.Study.{DesignSpace, config_at}
-use Rattle.tomex_worth.specs.Changes.{part_at}
+use Rattle.tomex_config.specs.Parts.{part_at}
 use Rattle.tomex_choices.specs.Asking.{AreFound, IsFound, last_change}
 use Rattle.tomex_choices.specs.Weighed.{AreWeighed, IsWeighed}
 use Rattle.tomex_choices.specs.declared.found.ListFound.{ListFound}

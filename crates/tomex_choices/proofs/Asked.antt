@@ -7,18 +7,19 @@ use Rattle.std.specs.List.{filter, flat_map, list_any, range_with_len}
 use Rattle.std.proofs.lemmas.Bool.{cases_Bool}
 use Rattle.std.proofs.lemmas.List.{length-map, length-take}
 use Rattle.tomex_config.specs.Configuration.{Configuration, IsWithinLimits, option_of, with_option}
-use Rattle.tomex_floor.specs.Floor.{latency_of}
+use Rattle.tomex_config.specs.Configuration.{latency_of}
 use Rattle.tomex_study.specs.Cycles.{totals_on}
 use Rattle.tomex_study.specs.Program.{Workload}
 use Rattle.tomex_study.specs.Study.{DesignSpace}
-use Rattle.tomex_timing.specs.Needs.{count_of}
+use Rattle.tomex_config.specs.Parts.{count_of}
 use Rattle.tomex_timing.specs.Run.{total}
-use Rattle.tomex_timing.specs.declared.part.Part.{Part}
-use Rattle.tomex_timing.specs.declared.part.Part.TheVariants.{Stations, Units, Buses, Width}
+use Rattle.tomex_config.specs.declared.part.Part.{Part}
+use Rattle.tomex_config.specs.declared.part.Part.TheVariants.{Stations, Units, Buses, Width}
 use Rattle.tomex_choices.specs.Asking.{IsAsked, IsNumberAsked, changes_at, differ, last_change}
-use Rattle.tomex_choices.specs.Choices.{most_of}
+use Rattle.tomex_config.specs.Parts.{most_of}
 use Rattle.tomex_choices.specs.Extremes.{greatest}
-use Rattle.tomex_choices.specs.NewMachines.{brought_by, greatest_units, grown, machine_if, more_units, with_count}
+use Rattle.tomex_choices.specs.NewMachines.{brought_by, greatest_units, grown, machine_if, more_units}
+use Rattle.tomex_config.specs.Parts.{with_count}
 use Rattle.tomex_choices.specs.Passing.{Has}
 use Rattle.tomex_choices.specs.declared.found.ListFound.{ListFound}
 use Rattle.tomex_choices.specs.declared.new_machine.NewMachine.{NewMachine}

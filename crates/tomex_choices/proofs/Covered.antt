@@ -9,16 +9,16 @@ use Rattle.tomex_rvdec.specs.declared.pool.UnitId.{UnitId}
 use Rattle.tomex_config.specs.Configuration.{Configuration, IsWithinLimits, most_units, option_of}
 use Rattle.tomex_config.specs.Cost.{cost_of}
 use Rattle.tomex_config.specs.declared.config.UnitOption.{UnitOption}
-use Rattle.tomex_floor.specs.Floor.{latency_of}
+use Rattle.tomex_config.specs.Configuration.{latency_of}
 use Rattle.tomex_pareto.specs.declared.front_row.FrontRow.{FrontRow}
 use Rattle.tomex_study.specs.Cycles.{cycles_on}
 use Rattle.tomex_study.specs.Study.{DesignSpace, IsStudy}
 use Rattle.tomex_study.specs.StudyFront.{all_rows}
-use Rattle.tomex_timing.specs.Needs.{count_of}
-use Rattle.tomex_timing.specs.declared.part.Part.{Part}
-use Rattle.tomex_timing.specs.declared.part.Part.TheVariants.{Stations, Units, Buses, Width}
+use Rattle.tomex_config.specs.Parts.{count_of}
+use Rattle.tomex_config.specs.declared.part.Part.{Part}
+use Rattle.tomex_config.specs.declared.part.Part.TheVariants.{Stations, Units, Buses, Width}
 use Rattle.tomex_choices.specs.Additions.{additions, has_entry, useful}
-use Rattle.tomex_choices.specs.Choices.{most_of}
+use Rattle.tomex_config.specs.Parts.{most_of}
 use Rattle.tomex_choices.specs.Extremes.{least}
 use Rattle.tomex_choices.specs.Laws.{CoveredIsNothingToAdd, CoveredMachinesAddNoPoints}
 use Rattle.tomex_choices.specs.Laws.{AreLongerCovered, IsDearer, IsLonger, NothingToAddIsCovered}
@@ -29,7 +29,7 @@ use Rattle.tomex_choices.specs.Points.{IsCovered, row_of}
 use Rattle.tomex_choices.specs.Savings.{is_as_good, is_of_use}
 use Rattle.tomex_choices.specs.declared.new_machine.NewMachine.{NewMachine}
 use Rattle.tomex_choices.proofs.Asked.{is_grown, is_more}
-use Rattle.tomex_choices.proofs.Configurations.{count_within, option_within, other_units, own_price}
+use Rattle.tomex_config.proofs.Within.{count_within, option_within, other_units, own_price}
 use Rattle.tomex_choices.proofs.EnoughFrom.{any_from, from_range}
 use Rattle.tomex_choices.proofs.Longer.{complete_is_complete, same_again}
 use Rattle.tomex_choices.proofs.Members.{from_filter, from_map, has_either, has_left, least_has}

@@ -18,9 +18,9 @@ use Rattle.tomex_pareto.proofs.Rows.{rows_apart}
 use Rattle.tomex_study.specs.Cycles.{cycles_of}
 use Rattle.tomex_study.specs.Study.{DesignSpace, config_at}
 use Rattle.tomex_study.specs.StudyFront.{all_rows, front_of_study}
-use Rattle.tomex_timing.specs.Needs.{all_parts}
-use Rattle.tomex_timing.specs.declared.part.Part.{Part}
-use Rattle.tomex_worth.specs.Changes.{same_entry}
+use Rattle.tomex_config.specs.Parts.{all_parts}
+use Rattle.tomex_config.specs.declared.part.Part.{Part}
+use Rattle.tomex_config.specs.Parts.{same_entry}
 use Rattle.tomex_choices.specs.Choices.{choices, is_used, unused}
 use Rattle.tomex_choices.specs.Laws.{has_no_unwanted, has_none}
 use Rattle.tomex_choices.specs.Passing.{Has}

@@ -11,11 +11,11 @@ use Rattle.tomex_study.specs.Cycles.{cycles_of, cycles_on}
 use Rattle.tomex_study.specs.Program.{Workload}
 use Rattle.tomex_study.specs.Study.{DesignSpace}
 use Rattle.tomex_study.specs.StudyFront.{all_rows}
-use Rattle.tomex_timing.specs.Needs.{count_of}
-use Rattle.tomex_timing.specs.declared.part.Part.{Part}
-use Rattle.tomex_timing.specs.declared.part.Part.TheVariants.{Stations, Units, Buses, Width}
-use Rattle.tomex_worth.specs.Changes.{same_entry}
-use Rattle.tomex_choices.specs.Choices.{latency_in}
+use Rattle.tomex_config.specs.Parts.{count_of}
+use Rattle.tomex_config.specs.declared.part.Part.{Part}
+use Rattle.tomex_config.specs.declared.part.Part.TheVariants.{Stations, Units, Buses, Width}
+use Rattle.tomex_config.specs.Parts.{same_entry}
+use Rattle.tomex_config.specs.Parts.{latency_in}
 use Rattle.tomex_choices.specs.Ends.{AreReweighted, IsBeyondEnds, IsCoveredAtAnyPrice, IsUnneededAtEnd, price_in}
 use Rattle.tomex_choices.specs.Ends.{repriced}
 use Rattle.tomex_choices.specs.Laws.{HasMoreUnneeded, LongerListsAtOnce, LongerListsAtOnceAddNoPoints}

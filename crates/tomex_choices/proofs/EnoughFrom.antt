@@ -9,9 +9,9 @@ use Rattle.std.proofs.lemmas.Bool.Decides.{nat_tests}
 use Rattle.tomex_config.specs.Configuration.{Configuration}
 use Rattle.tomex_study.specs.Program.{Workload}
 use Rattle.tomex_study.specs.Study.{DesignSpace}
-use Rattle.tomex_timing.specs.declared.part.Part.{Part}
+use Rattle.tomex_config.specs.declared.part.Part.{Part}
 use Rattle.tomex_choices.specs.Asking.{changes_at, last_change}
-use Rattle.tomex_choices.specs.Choices.{most_of}
+use Rattle.tomex_config.specs.Parts.{most_of}
 use Rattle.tomex_choices.specs.Enough.{enough, is_enough_on, stays_from, total_with}
 use Rattle.tomex_choices.specs.Extremes.{greatest}
 use Rattle.tomex_choices.specs.Passing.{Has}

@@ -9,7 +9,7 @@ use Rattle.std.proofs.lemmas.List.Elements.{All-get_or}
 use Rattle.std.proofs.lemmas.Option.{get_or_from_slice_get, slice_get-get_or, slice_get_within}
 use Rattle.tomex_config.specs.Configuration.{Configuration, IsWithinLimits, plain}
 use Rattle.tomex_study.specs.Study.{DesignSpace, IsStudy, config_at}
-use Rattle.tomex_worth.specs.Changes.{part_at}
+use Rattle.tomex_config.specs.Parts.{part_at}
 use Rattle.tomex_choices.specs.Asking.{AreAsked, AreFound, AreJoined, HasEarlier, HasRow, IsAsked, IsFound, IsJoined}
 use Rattle.tomex_choices.specs.Asking.{last_change}
 use Rattle.tomex_choices.specs.NewMachines.{brought_by, new_machines}

@@ -8,7 +8,7 @@ use Rattle.tomex_pareto.specs.declared.front_row.FrontRow.{FrontRow}
 use Rattle.tomex_study.specs.Cycles.{cycles_on}
 use Rattle.tomex_study.specs.Study.{DesignSpace, IsStudy}
 use Rattle.tomex_study.specs.StudyFront.{all_rows}
-use Rattle.tomex_timing.specs.declared.part.Part.{Part}
+use Rattle.tomex_config.specs.declared.part.Part.{Part}
 use Rattle.tomex_choices.specs.Additions.{additions, has_entry}
 use Rattle.tomex_choices.specs.Laws.{AdditionsAreAllThatIsNeeded, CompleteFrontsStand, CompleteListsBuyTheFewest}
 use Rattle.tomex_choices.specs.Laws.{IsLonger, added_machines}

@@ -5,7 +5,6 @@ pub mod Leasts
 pub mod Greatest
 pub mod SameSavings
 pub mod SameFloors
-pub mod Configurations
 pub mod SameTotals
 pub mod EnoughFrom
 pub mod Alike
@@ -14,7 +13,6 @@ pub mod Asked
 pub mod Finding
 pub mod WeighedLists
 pub mod AllWeighed
-pub mod Firsts
 pub mod Options
 pub mod Ranges
 pub mod Reading

@@ -17,15 +17,15 @@ use Rattle.tomex_config.specs.declared.config.UnitOption.{UnitOption}
 use Rattle.tomex_study.specs.Cycles.{cycles_on}
 use Rattle.tomex_study.specs.Study.{DesignSpace}
 use Rattle.tomex_timing.specs.Run.{total}
-use Rattle.tomex_timing.specs.declared.part.Part.{Part}
-use Rattle.tomex_timing.specs.declared.part.Part.TheVariants.{Stations, Units, Buses, Width}
-use Rattle.tomex_choices.specs.Choices.{most_of}
+use Rattle.tomex_config.specs.declared.part.Part.{Part}
+use Rattle.tomex_config.specs.declared.part.Part.TheVariants.{Stations, Units, Buses, Width}
+use Rattle.tomex_config.specs.Parts.{most_of}
 use Rattle.tomex_choices.specs.Laws.{CompleteListsAreComplete, IsDearer, with_price}
 use Rattle.tomex_choices.specs.NewMachines.{brought_by, grown, machine_if, machine_of, new_machines}
 use Rattle.tomex_choices.specs.Passing.{Has}
 use Rattle.tomex_choices.specs.declared.new_machine.NewMachine.{NewMachine}
 use Rattle.tomex_choices.proofs.AboveFloors.{sums_rise}
-use Rattle.tomex_choices.proofs.Configurations.{option_within, own_option, place_low}
+use Rattle.tomex_config.proofs.Within.{option_within, own_option, place_low}
 use Rattle.tomex_choices.proofs.EnoughFrom.{in_range}
 use Rattle.tomex_choices.proofs.Finding.{has_flat_map}
 use Rattle.tomex_choices.proofs.Passes.{contains_from, has_from}

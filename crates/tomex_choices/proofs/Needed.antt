@@ -10,23 +10,24 @@ use Rattle.std.proofs.lemmas.List.Elements.{All-contains}
 use Rattle.tomex_rvdec.specs.Parts.{place_of_pool, place_of_unit}
 use Rattle.tomex_config.specs.Configuration.{Configuration, IsWithinLimits, plain_option, with_option}
 use Rattle.tomex_config.specs.declared.config.UnitOption.{UnitOption}
-use Rattle.tomex_floor.specs.Floor.{latency_of}
+use Rattle.tomex_config.specs.Configuration.{latency_of}
 use Rattle.tomex_pareto.specs.declared.front_row.FrontRow.{FrontRow}
 use Rattle.tomex_study.specs.Study.{DesignSpace, IsStudy}
 use Rattle.tomex_study.specs.StudyFront.{all_rows}
-use Rattle.tomex_timing.specs.Needs.{count_of}
-use Rattle.tomex_timing.specs.declared.part.Part.{Part}
-use Rattle.tomex_timing.specs.declared.part.Part.TheVariants.{Stations, Units, Buses, Width}
+use Rattle.tomex_config.specs.Parts.{count_of}
+use Rattle.tomex_config.specs.declared.part.Part.{Part}
+use Rattle.tomex_config.specs.declared.part.Part.TheVariants.{Stations, Units, Buses, Width}
 use Rattle.tomex_choices.specs.Additions.{additions, has_entry, useful}
-use Rattle.tomex_choices.specs.Choices.{firsts, latency_in, most_of, same_latency}
+use Rattle.tomex_config.specs.Parts.{firsts, latency_in, most_of, same_latency}
 use Rattle.tomex_choices.specs.Laws.{AdditionsSaveAsMuch, NothingToAddSavesNothing, added_machines}
 use Rattle.tomex_choices.specs.NewMachines.{brought_by, configurations_if, greatest_units, grown, lacking, machine_if}
-use Rattle.tomex_choices.specs.NewMachines.{machine_of, more_units, new_machines, with_count}
+use Rattle.tomex_choices.specs.NewMachines.{machine_of, more_units, new_machines}
+use Rattle.tomex_config.specs.Parts.{with_count}
 use Rattle.tomex_choices.specs.Passing.{Has, IsUnbeaten}
 use Rattle.tomex_choices.specs.Savings.{as_row, beats, complete, fewest, is_as_good, is_of_use}
 use Rattle.tomex_choices.specs.declared.new_machine.NewMachine.{NewMachine}
 use Rattle.tomex_choices.proofs.Alike.{pool_low}
-use Rattle.tomex_choices.proofs.Configurations.{place_low}
+use Rattle.tomex_config.proofs.Within.{place_low}
 use Rattle.tomex_choices.proofs.EnoughFrom.{any_at, any_from}
 use Rattle.tomex_choices.proofs.Finding.{from_flat_map, has_flat_map}
 use Rattle.tomex_choices.proofs.Members.{from_filter, from_map, has_either, has_filter, has_left, has_map, has_right}

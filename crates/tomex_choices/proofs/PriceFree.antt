@@ -11,11 +11,11 @@ use Rattle.tomex_study.specs.Cycles.{cycles_on}
 use Rattle.tomex_study.specs.Program.{Workload}
 use Rattle.tomex_study.specs.Study.{DesignSpace}
 use Rattle.tomex_timing.specs.Run.{total}
-use Rattle.tomex_timing.specs.declared.part.Part.{Part}
-use Rattle.tomex_choices.specs.Choices.{most_of}
+use Rattle.tomex_config.specs.declared.part.Part.{Part}
+use Rattle.tomex_config.specs.Parts.{most_of}
 use Rattle.tomex_choices.specs.Enough.{enough, is_enough_on, stays_from, total_with}
 use Rattle.tomex_choices.specs.Laws.{MoreThanEnoughChangesNothing}
-use Rattle.tomex_choices.specs.NewMachines.{with_count}
+use Rattle.tomex_config.specs.Parts.{with_count}
 use Rattle.tomex_choices.specs.Passing.{Has}
 use Rattle.tomex_choices.proofs.EnoughFrom.{all_at, in_range}
 use Rattle.tomex_choices.proofs.Passes.{has_from}

@@ -9,13 +9,14 @@ use Rattle.tomex_rvdec.specs.declared.pool.UnitId.{UnitId}
 use Rattle.tomex_rvdec.specs.declared.pool.UnitId.TheVariants as units
 use Rattle.tomex_config.specs.Configuration.{Configuration, is_between, with_option}
 use Rattle.tomex_config.specs.declared.config.UnitOption.{UnitOption}
-use Rattle.tomex_floor.specs.Floor.{latency_of}
-use Rattle.tomex_timing.specs.declared.part.Part.{Part}
-use Rattle.tomex_timing.specs.declared.part.Part.TheVariants.{Stations, Units, Buses, Width}
-use Rattle.tomex_worth.specs.Changes.{part_at}
+use Rattle.tomex_config.specs.Configuration.{latency_of}
+use Rattle.tomex_config.specs.declared.part.Part.{Part}
+use Rattle.tomex_config.specs.declared.part.Part.TheVariants.{Stations, Units, Buses, Width}
+use Rattle.tomex_config.specs.Parts.{part_at}
 use Rattle.tomex_choices.specs.Asking.{AreMostUnits, IsRead, ListOf, has_number, most_at}
-use Rattle.tomex_choices.specs.Choices.{most_of}
-use Rattle.tomex_choices.specs.NewMachines.{greatest_units, grown, more_units, with_count}
+use Rattle.tomex_config.specs.Parts.{most_of}
+use Rattle.tomex_choices.specs.NewMachines.{greatest_units, grown, more_units}
+use Rattle.tomex_config.specs.Parts.{with_count}
 use Rattle.tomex_choices.specs.declared.entries.MostUnits.{MostUnits}
 
 pub not_units : (rows : List Configuration) (part : Part) (options : List MostUnits)

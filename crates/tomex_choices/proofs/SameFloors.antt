@@ -13,13 +13,14 @@ use Rattle.tomex_rvexec.specs.Steps.{step_unit}
 use Rattle.tomex_rvexec.specs.declared.step.Step.{Step}
 use Rattle.tomex_config.specs.Configuration.{Configuration, IsWithinLimits, is_between, with_width}
 use Rattle.tomex_floor.specs.Floor.{floor_address, floor_from, floor_issue, floor_of, floor_times, floors_by_width}
-use Rattle.tomex_floor.specs.Floor.{floors_of, latency_of}
+use Rattle.tomex_floor.specs.Floor.{floors_of}
+use Rattle.tomex_config.specs.Configuration.{latency_of}
 use Rattle.tomex_floor.proofs.Above.{floor_is_bound}
 use Rattle.tomex_plateaus.proofs.Totals.{total_within}
 use Rattle.tomex_study.proofs.Bounds.{total_bound}
 use Rattle.tomex_study.specs.Program.{IsProgram, Workload}
 use Rattle.tomex_timing.specs.History.{greatest_end, is_of}
-use Rattle.tomex_timing.specs.Needs.{all_units}
+use Rattle.tomex_config.specs.Cost.{all_units}
 use Rattle.tomex_timing.specs.Run.{total}
 use Rattle.tomex_timing.specs.Search.{times_in, total_of}
 use Rattle.tomex_timing.specs.declared.times.Done.{Done}
@@ -27,7 +28,7 @@ use Rattle.tomex_timing.specs.declared.times.Times.{Times}
 use Rattle.tomex_choices.specs.Floors.{steps_of}
 use Rattle.tomex_choices.specs.Flooring.{AreFloorsOf, is_used_by, used_latencies, used_latency}
 use Rattle.tomex_choices.specs.declared.floors.KnownFloors.{KnownFloors}
-use Rattle.tomex_choices.proofs.Configurations.{width_within}
+use Rattle.tomex_config.proofs.Within.{width_within}
 
 -- the same latency of each kind that a step uses
 abbrev pub AreSameFor : List Step → (UnitId → ℕ) → (UnitId → ℕ) → Type 0

@@ -13,13 +13,14 @@ use Rattle.tomex_config.specs.Configuration.{Configuration, IsWithinLimits, plai
 use Rattle.tomex_config.specs.declared.config.UnitOption.{UnitOption}
 use Rattle.tomex_timing.proofs.SameTimes.{serves_history}
 use Rattle.tomex_timing.specs.History.{greatest_end}
-use Rattle.tomex_timing.specs.Needs.{Serves, count_of}
+use Rattle.tomex_timing.specs.Needs.{Serves}
+use Rattle.tomex_config.specs.Parts.{count_of}
 use Rattle.tomex_timing.specs.Run.{run_of, total}
 use Rattle.tomex_timing.specs.Search.{history}
 use Rattle.tomex_timing.specs.declared.times.Done.{Done}
-use Rattle.tomex_timing.specs.declared.part.Part.{Part}
-use Rattle.tomex_timing.specs.declared.part.Part.TheVariants.{Stations, Units, Buses, Width}
-use Rattle.tomex_choices.proofs.Configurations.{place_low}
+use Rattle.tomex_config.specs.declared.part.Part.{Part}
+use Rattle.tomex_config.specs.declared.part.Part.TheVariants.{Stations, Units, Buses, Width}
+use Rattle.tomex_config.proofs.Within.{place_low}
 
 -- what two options have in common stays in common
 common : {X Y : Type 0} (f : X → Y) (xs : List X) (k j : ℕ) (a b d : X) → k < length xs → f a ≡ f b

@@ -8,7 +8,8 @@ use Rattle.tomex_study.specs.Study.{DesignSpace, IsStudy}
 use Rattle.tomex_timing.proofs.Histories.{are_timed}
 use Rattle.tomex_timing.proofs.SameTimes.{serves_runs}
 use Rattle.tomex_timing.proofs.Taken.{peak_within}
-use Rattle.tomex_timing.specs.Needs.{Serves, count_of, peak}
+use Rattle.tomex_timing.specs.Needs.{Serves, peak}
+use Rattle.tomex_config.specs.Parts.{count_of}
 use Rattle.tomex_timing.specs.Run.{total}
 use Rattle.tomex_timing.specs.Search.{history}
 use Rattle.tomex_choices.specs.Floors.{steps_of}

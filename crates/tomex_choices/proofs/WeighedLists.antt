@@ -10,12 +10,12 @@ use Rattle.tomex_pareto.specs.declared.front_row.FrontRow.{FrontRow}
 use Rattle.tomex_rvdec.specs.declared.pool.UnitId.TheVariants as units
 use Rattle.tomex_study.specs.Study.{DesignSpace, IsStudy, config_at}
 use Rattle.tomex_study.specs.StudyFront.{all_rows}
-use Rattle.tomex_timing.specs.declared.part.Part.{Part}
-use Rattle.tomex_timing.specs.declared.part.Part.TheVariants.{Stations, Units, Buses, Width}
-use Rattle.tomex_worth.specs.Changes.{part_at}
+use Rattle.tomex_config.specs.declared.part.Part.{Part}
+use Rattle.tomex_config.specs.declared.part.Part.TheVariants.{Stations, Units, Buses, Width}
+use Rattle.tomex_config.specs.Parts.{part_at}
 use Rattle.tomex_choices.specs.Additions.{saving_of, useful}
 use Rattle.tomex_choices.specs.Asking.{IsFound, last_change}
-use Rattle.tomex_choices.specs.Choices.{most_of}
+use Rattle.tomex_config.specs.Parts.{most_of}
 use Rattle.tomex_choices.specs.Enough.{enough}
 use Rattle.tomex_choices.specs.NewMachines.{new_machines}
 use Rattle.tomex_choices.specs.Passing.{AreUnbeaten, Has, IsUnbeaten}

@@ -14,11 +14,11 @@ use Rattle.tomex_pareto.specs.Front.{front_of, rows_from}
 use Rattle.tomex_pareto.specs.declared.front_row.FrontRow.{FrontRow}
 use Rattle.tomex_study.specs.Cycles.{cycles_on}
 use Rattle.tomex_study.specs.Study.{DesignSpace, costs_of}
-use Rattle.tomex_timing.specs.Needs.{count_of}
-use Rattle.tomex_timing.specs.declared.part.Part.{Part}
-use Rattle.tomex_timing.specs.declared.part.Part.TheVariants.{Stations, Units, Buses, Width}
-use Rattle.tomex_worth.specs.Changes.{same_entry}
-use Rattle.tomex_worth.specs.Worth.{entry_text}
+use Rattle.tomex_config.specs.Parts.{count_of}
+use Rattle.tomex_config.specs.declared.part.Part.{Part}
+use Rattle.tomex_config.specs.declared.part.Part.TheVariants.{Stations, Units, Buses, Width}
+use Rattle.tomex_config.specs.Parts.{same_entry}
+use Rattle.tomex_layout.specs.Lists.{entry_text}
 use Rattle.tomex_choices.specs.Choices.{choices}
 use Rattle.tomex_choices.specs.Ends.{HasMoreAtEnd, IsAtEnd, IsBeyondEnds}
 use Rattle.tomex_choices.specs.Enough.{stays_from}

@@ -4,9 +4,9 @@ use Rattle.std.specs.List.{filter, list_any}
 use Rattle.tomex_config.specs.Configuration.{Configuration}
 use Rattle.tomex_study.specs.Study.{DesignSpace}
 use Rattle.tomex_study.specs.StudyFront.{all_rows}
-use Rattle.tomex_timing.specs.Needs.{count_of}
-use Rattle.tomex_timing.specs.declared.part.Part.{Part}
-use Rattle.tomex_choices.specs.Choices.{latency_in}
+use Rattle.tomex_config.specs.Parts.{count_of}
+use Rattle.tomex_config.specs.declared.part.Part.{Part}
+use Rattle.tomex_config.specs.Parts.{latency_in}
 use Rattle.tomex_choices.specs.NewMachines.{lacking, new_machines}
 use Rattle.tomex_choices.specs.Savings.{is_of_use, saving_among}
 use Rattle.tomex_choices.specs.declared.new_machine.NewMachine.{NewMachine}

@@ -9,27 +9,22 @@ use Rattle.tomex_study.specs.Program.{Workload}
 use Rattle.tomex_study.specs.Study.{DesignSpace, config_at}
 use Rattle.tomex_survey.specs.Stretches.{AreTotalsIn}
 use Rattle.tomex_survey.specs.declared.stretch.Stretch.{Stretch}
-use Rattle.tomex_timing.specs.Needs.{count_of}
-use Rattle.tomex_timing.specs.declared.part.Part.{Part}
-use Rattle.tomex_timing.specs.declared.part.Part.TheVariants.{Units}
-use Rattle.tomex_worth.specs.Changes.{part_at, same_entry}
-use Rattle.tomex_choices.specs.Choices.{most_of, same_latency}
+use Rattle.tomex_config.specs.Parts.{count_of}
+use Rattle.tomex_config.specs.declared.part.Part.{Part}
+use Rattle.tomex_config.specs.declared.part.Part.TheVariants.{Units}
+use Rattle.tomex_config.specs.Parts.{part_at, same_entry}
+use Rattle.tomex_config.specs.Parts.{most_of, same_latency}
 use Rattle.tomex_choices.specs.Enough.{total_with}
 use Rattle.tomex_choices.specs.Extremes.{greatest}
 use Rattle.tomex_choices.specs.NewMachines.{brought_by, greatest_units, grown, least_price, machine_if}
 use Rattle.tomex_choices.specs.NewMachines.{new_machines}
 use Rattle.tomex_choices.specs.Passing.{Has}
-use Rattle.tomex_choices.specs.declared.choices.Likeness.{Likeness}
-use Rattle.tomex_choices.specs.declared.choices.Likeness.TheVariants.{Entry, Latency}
+use Rattle.tomex_config.specs.declared.likeness.Likeness.{Likeness}
+use Rattle.tomex_config.specs.declared.likeness.Likeness.TheVariants.{Entry, Latency}
 use Rattle.tomex_choices.specs.declared.entries.MostUnits.{MostUnits}
 use Rattle.tomex_choices.specs.declared.found.Found.{Found}
 use Rattle.tomex_choices.specs.declared.found.ListFound.{ListFound}
 use Rattle.tomex_choices.specs.declared.new_machine.NewMachine.{NewMachine}
-
--- two configurations have the entry in a part's list in common, or its latency
-abbrev pub is_like : Likeness → Configuration → Configuration → Bool
-is_like (Entry part) a b = same_entry a b part
-is_like (Latency part) a b = same_latency part a b
 
 -- What is read of a list.
 

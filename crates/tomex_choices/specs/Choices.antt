@@ -3,32 +3,12 @@
 use Rattle.std.specs.Prelude.{◌==◌, ℕ, Bool, true, false, not, List, [], ◌∷◌}
 use Rattle.std.specs.List.{filter, list_any}
 use Rattle.tomex_config.specs.Configuration.{Configuration, most_units}
-use Rattle.tomex_floor.specs.Floor.{latency_of}
+use Rattle.tomex_config.specs.Configuration.{latency_of}
 use Rattle.tomex_study.specs.Study.{DesignSpace, config_at}
 use Rattle.tomex_study.specs.StudyFront.{front_of_study}
-use Rattle.tomex_timing.specs.declared.part.Part.{Part}
-use Rattle.tomex_timing.specs.declared.part.Part.TheVariants.{Stations, Units, Buses, Width}
-use Rattle.tomex_worth.specs.Changes.{same_entry}
-
--- the most of a part that a machine can have
-abbrev pub most_of : Part → ℕ
-most_of (Stations pool) = 16
-most_of (Units unit) = most_units unit
-most_of Buses = 8
-most_of Width = 4
-
--- the latency of a kind of unit; other parts have none
-abbrev pub latency_in : Part → Configuration → ℕ
-latency_in (Units unit) config = latency_of config unit
-latency_in part config = 0
-
-abbrev pub same_latency : Part → Configuration → Configuration → Bool
-same_latency part c d = latency_in part c == latency_in part d
-
--- the first of all configurations that are alike
-abbrev pub firsts : (Configuration → Configuration → Bool) → List Configuration → List Configuration
-firsts are_alike [] = []
-firsts are_alike (c ∷ rows) = c ∷ filter (λ d. not (are_alike c d)) (firsts are_alike rows)
+use Rattle.tomex_config.specs.declared.part.Part.{Part}
+use Rattle.tomex_config.specs.declared.part.Part.TheVariants.{Stations, Units, Buses, Width}
+use Rattle.tomex_config.specs.Parts.{same_entry}
 
 -- the choices of a list, in the order of the first rows that have them; for each of them its first configuration
 abbrev pub choices : DesignSpace → Part → List Configuration

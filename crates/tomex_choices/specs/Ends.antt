@@ -6,12 +6,13 @@ use Rattle.tomex_config.specs.Cost.{PriceList, cost_of}
 use Rattle.tomex_study.specs.Cycles.{cycles_on}
 use Rattle.tomex_study.specs.Program.{Workload}
 use Rattle.tomex_study.specs.Study.{DesignSpace, costs_of, design_space}
-use Rattle.tomex_timing.specs.Needs.{count_of, stalls}
+use Rattle.tomex_timing.specs.Needs.{stalls}
+use Rattle.tomex_config.specs.Parts.{count_of}
 use Rattle.tomex_timing.specs.Search.{history}
-use Rattle.tomex_timing.specs.declared.part.Part.{Part}
-use Rattle.tomex_timing.specs.declared.part.Part.TheVariants.{Units}
-use Rattle.tomex_worth.specs.Changes.{same_entry}
-use Rattle.tomex_choices.specs.Choices.{latency_in}
+use Rattle.tomex_config.specs.declared.part.Part.{Part}
+use Rattle.tomex_config.specs.declared.part.Part.TheVariants.{Units}
+use Rattle.tomex_config.specs.Parts.{same_entry}
+use Rattle.tomex_config.specs.Parts.{latency_in}
 use Rattle.tomex_choices.specs.Floors.{steps_of}
 
 -- no row has more of a part than this one; of units, no row with the same latency

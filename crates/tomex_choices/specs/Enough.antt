@@ -5,9 +5,9 @@ use Rattle.tomex_config.specs.Configuration.{Configuration}
 use Rattle.tomex_study.specs.Program.{Workload}
 use Rattle.tomex_study.specs.Study.{DesignSpace}
 use Rattle.tomex_timing.specs.Run.{total}
-use Rattle.tomex_timing.specs.declared.part.Part.{Part}
-use Rattle.tomex_choices.specs.Choices.{most_of}
-use Rattle.tomex_choices.specs.NewMachines.{with_count}
+use Rattle.tomex_config.specs.declared.part.Part.{Part}
+use Rattle.tomex_config.specs.Parts.{most_of}
+use Rattle.tomex_config.specs.Parts.{with_count}
 
 -- with each number from n on up to the most, the cycles are those with the most
 abbrev pub stays_from : (ℕ → ℕ) → ℕ → ℕ → Bool

@@ -6,10 +6,11 @@ use Rattle.tomex_rvdec.specs.declared.pool.UnitId.{UnitId}
 use Rattle.tomex_rvexec.specs.Steps.{step_unit}
 use Rattle.tomex_rvexec.specs.declared.step.Step.{Step}
 use Rattle.tomex_config.specs.Configuration.{Configuration}
-use Rattle.tomex_floor.specs.Floor.{floors_by_width, latency_of}
+use Rattle.tomex_floor.specs.Floor.{floors_by_width}
+use Rattle.tomex_config.specs.Configuration.{latency_of}
 use Rattle.tomex_study.specs.Program.{Workload}
 use Rattle.tomex_timing.specs.History.{is_of}
-use Rattle.tomex_timing.specs.Needs.{all_units}
+use Rattle.tomex_config.specs.Cost.{all_units}
 use Rattle.tomex_choices.specs.Floors.{steps_of}
 use Rattle.tomex_choices.specs.declared.floors.KnownFloors.{KnownFloors}
 

@@ -4,7 +4,8 @@ use Rattle.tomex_rvexec.specs.Run.{start_of}
 use Rattle.tomex_rvexec.specs.Trace.{steps_from}
 use Rattle.tomex_rvexec.specs.declared.step.Step.{Step}
 use Rattle.tomex_config.specs.Configuration.{Configuration}
-use Rattle.tomex_floor.specs.Floor.{floor_of, latency_of}
+use Rattle.tomex_floor.specs.Floor.{floor_of}
+use Rattle.tomex_config.specs.Configuration.{latency_of}
 use Rattle.tomex_study.specs.Program.{Workload}
 use Rattle.tomex_study.specs.Study.{DesignSpace}
 use Rattle.tomex_study.specs.StudyFront.{all_rows}

@@ -4,7 +4,7 @@ use Rattle.std.specs.List.{Contains, filter, list_all, list_any}
 use Rattle.tomex_rvdec.specs.declared.pool.UnitId.{UnitId}
 use Rattle.tomex_config.specs.Configuration.{Configuration, IsWithinLimits, option_of, with_option}
 use Rattle.tomex_config.specs.Cost.{PriceList, cost_of}
-use Rattle.tomex_floor.specs.Floor.{latency_of}
+use Rattle.tomex_config.specs.Configuration.{latency_of}
 use Rattle.tomex_pareto.specs.Front.{front_of}
 use Rattle.tomex_pareto.specs.Pareto.{Dominates}
 use Rattle.tomex_pareto.specs.declared.front_row.FrontRow.{FrontRow}
@@ -12,17 +12,20 @@ use Rattle.tomex_study.specs.Cycles.{cycles_on}
 use Rattle.tomex_study.specs.Program.{Workload}
 use Rattle.tomex_study.specs.Study.{DesignSpace, IsStudy, config_at, costs_of, design_space}
 use Rattle.tomex_study.specs.StudyFront.{all_rows, front_of_study}
-use Rattle.tomex_timing.specs.Needs.{all_parts, count_of, stalls}
+use Rattle.tomex_timing.specs.Needs.{stalls}
+use Rattle.tomex_config.specs.Parts.{all_parts, count_of}
 use Rattle.tomex_timing.specs.Search.{history}
-use Rattle.tomex_timing.specs.declared.part.Part.{Part}
-use Rattle.tomex_timing.specs.declared.part.Part.TheVariants.{Units}
-use Rattle.tomex_worth.specs.Changes.{same_entry}
+use Rattle.tomex_config.specs.declared.part.Part.{Part}
+use Rattle.tomex_config.specs.declared.part.Part.TheVariants.{Units}
+use Rattle.tomex_config.specs.Parts.{same_entry}
 use Rattle.tomex_choices.specs.Additions.{additions, has_entry}
-use Rattle.tomex_choices.specs.Choices.{most_of, unused}
+use Rattle.tomex_choices.specs.Choices.{unused}
+use Rattle.tomex_config.specs.Parts.{most_of}
 use Rattle.tomex_choices.specs.Ends.{AreReweighted, IsBeyondEnds, IsCoveredAtAnyPrice, IsUnneededAtEnd, repriced}
 use Rattle.tomex_choices.specs.Enough.{enough}
 use Rattle.tomex_choices.specs.Floors.{any_width, steps_of, study_floor}
-use Rattle.tomex_choices.specs.NewMachines.{grown, new_machines, with_count}
+use Rattle.tomex_choices.specs.NewMachines.{grown, new_machines}
+use Rattle.tomex_config.specs.Parts.{with_count}
 use Rattle.tomex_choices.specs.Points.{IsCovered, IsFrontKept, row_of}
 use Rattle.tomex_choices.specs.Savings.{complete, fewest}
 use Rattle.tomex_choices.specs.declared.new_machine.NewMachine.{NewMachine}

@@ -8,23 +8,15 @@ use Rattle.tomex_config.specs.Configuration.{Configuration, option_of, with_stat
 use Rattle.tomex_config.specs.Configuration.{with_width}
 use Rattle.tomex_config.specs.Cost.{cost_of}
 use Rattle.tomex_config.specs.declared.config.UnitOption.{UnitOption}
-use Rattle.tomex_floor.specs.Floor.{latency_of}
+use Rattle.tomex_config.specs.Configuration.{latency_of}
 use Rattle.tomex_study.specs.Cycles.{cycles_on}
 use Rattle.tomex_study.specs.Study.{DesignSpace}
-use Rattle.tomex_timing.specs.Needs.{count_of}
-use Rattle.tomex_timing.specs.declared.part.Part.{Part}
-use Rattle.tomex_timing.specs.declared.part.Part.TheVariants.{Stations, Units, Buses, Width}
-use Rattle.tomex_choices.specs.Choices.{firsts, latency_in, most_of, same_latency}
+use Rattle.tomex_config.specs.Parts.{count_of}
+use Rattle.tomex_config.specs.declared.part.Part.{Part}
+use Rattle.tomex_config.specs.declared.part.Part.TheVariants.{Stations, Units, Buses, Width}
+use Rattle.tomex_config.specs.Parts.{firsts, latency_in, most_of, same_latency}
 use Rattle.tomex_choices.specs.Extremes.{greatest, least}
 use Rattle.tomex_choices.specs.declared.new_machine.NewMachine.{NewMachine}
-
--- a configuration with another number of a part; the latency and the price of units stay
-abbrev pub with_count : Configuration → Part → ℕ → Configuration
-with_count c (Stations pool) n = with_stations pool c n
-with_count c (Units unit) n =
-    with_option unit c (record { units = n; latency = latency_of c unit; price = (option_of c unit).price })
-with_count c Buses n = with_buses c n
-with_count c Width n = with_width c n
 
 -- the options of a latency that rows have for a kind of unit
 abbrev pub options_at : List Configuration → UnitId → ℕ → List UnitOption

@@ -4,21 +4,20 @@ ghost use Rattle.std.specs.Prelude.{◌≡◌, ◌<◌, ◌≤◌, true, if◌th
 ghost use Rattle.tomex_config.specs.Configuration.{is_between};
 ghost use Rattle.tomex_study.specs.Cycles.{totals_on};
 ghost use Rattle.tomex_study.specs.Study.{config_at};
-ghost use Rattle.tomex_worth.specs.Changes.{part_at};
+ghost use Rattle.tomex_config.specs.Parts.{part_at};
 ghost use Rattle.tomex_choices.specs.Asking.{AreAsked, AreLists, IsAsked, IsAskedOnce, IsNumberAsked, differ};
-ghost use Rattle.tomex_choices.specs.Choices.{latency_in, most_of};
-ghost use Rattle.tomex_choices.specs.NewMachines.{grown, machine_of, with_count};
+ghost use Rattle.tomex_config.specs.Parts.{latency_in, most_of};
+ghost use Rattle.tomex_choices.specs.NewMachines.{grown, machine_of};
+ghost use Rattle.tomex_config.specs.Parts.{with_count};
 
-use crate::counts::{latency_in, most_of, with_count};
 use crate::entries::Entries;
 use crate::found::ListFound;
 use crate::new_machine::NewMachine;
 use std::alloc::{AllocError, Allocator};
-use tomex_config::{Config, cost};
+use tomex_config::{Config, Part, cost, with_count};
 use tomex_plateaus::Knowledge;
 use tomex_study::Study;
 use tomex_survey::cycles_by_weight;
-use tomex_timing::Part;
 
 /// The programs' totals on any configuration, which are looked up first, or learnt.
 fn totals_on<A: Allocator + Clone>(
@@ -48,7 +47,7 @@ fn new_machine<A: Allocator>(
     config.keeps_limits();
     NewMachine {
         number,
-        latency: latency_in(part, config),
+        latency: part.latency(config),
         cost: cost(config, &study.prices()),
         cycles: cycles_by_weight(study.programs(), totals),
     }
@@ -125,7 +124,7 @@ fn ask_list<A: Allocator + Clone>(
     ensures asked { OnOk result (IsAsked study.now (part_at entries.now.place) config.now found.old found.new) }
 {
     let part = entries.part();
-    let most = most_of(part);
+    let most = part.most();
     let totals = totals_on(knowledge, &with_count(config, part, most))?;
     let own = &totals[..study.programs().len()];
     for fewer in 0..most {

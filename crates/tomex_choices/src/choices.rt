@@ -2,61 +2,13 @@
 
 ghost use Rattle.std.specs.Prelude.{◌≡◌, IfOk};
 ghost use Rattle.std.specs.List.{filter, list_any};
-ghost use Rattle.tomex_choices.specs.Asking.{is_like};
-ghost use Rattle.tomex_choices.specs.Choices.{choices, firsts, front_choices, has_use, is_used, unused};
+ghost use Rattle.tomex_config.specs.Parts.{is_like};
+ghost use Rattle.tomex_choices.specs.Choices.{choices, front_choices, has_use, is_used, unused};
+ghost use Rattle.tomex_config.specs.Parts.{firsts};
 
-use crate::counts::latency_in;
 use std::alloc::{AllocError, Allocator, Global};
-use tomex_config::Config;
+use tomex_config::{Config, Likeness, Part, same_entry};
 use tomex_study::Surveyed;
-use tomex_timing::Part;
-use tomex_worth::same_entry;
-
-/// What two configurations have in common.
-#[derive(Clone, Copy)]
-pub(crate) enum Likeness {
-    /// The entry in a part's list.
-    Entry(Part),
-    /// Its latency.
-    Latency(Part),
-}
-
-impl Likeness {
-    /// True if two configurations have it in common.
-    fn holds(self, a: &Config, b: &Config) -> bool
-        ensures { result ≡ is_like self a.now b.now }
-    {
-        match self {
-            Likeness::Entry(part) => same_entry(a, b, part),
-            Likeness::Latency(part) => latency_in(part, a) == latency_in(part, b),
-        }
-    }
-
-    /// The first of all configurations that have it in common.
-    pub(crate) fn firsts(self, heap: Global, rows: &[Config]) -> Result<Vec<Config>, AllocError>
-        ensures { IfOk result (λ v. v.items ≡ firsts (is_like self) rows.now) }
-    {
-        let mut firsts = Vec::new(heap);
-        for config in rows {
-            if !self.is_in(firsts.as_slice(), config) {
-                firsts.push(*config)?;
-            }
-        }
-        Ok(firsts)
-    }
-
-    /// True if one of these configurations has it in common with another one.
-    fn is_in(self, configs: &[Config], other: &Config) -> bool
-        ensures { result ≡ list_any (λ c. is_like self c other.now) configs.now }
-    {
-        for config in configs {
-            if self.holds(config, other) {
-                return true;
-            }
-        }
-        false
-    }
-}
 
 /// True if a row of the front has a configuration's entry in a part's list.
 fn is_used<A: Allocator>(surveyed: &Surveyed<'_, A>, part: Part, config: &Config) -> bool

@@ -4,18 +4,15 @@ ghost use Rattle.std.specs.Prelude.{◌≡◌, ◌<◌, ◌≤◌, true, if◌th
 ghost use Rattle.std.specs.List.{range_with_len};
 ghost use Rattle.tomex_config.specs.Configuration.{is_between};
 ghost use Rattle.tomex_config.specs.Grid.{most_rows};
-ghost use Rattle.tomex_worth.specs.Changes.{part_at, same_entry};
+ghost use Rattle.tomex_config.specs.Parts.{part_at, same_entry};
 ghost use Rattle.tomex_choices.specs.Asking.{AreMostUnits, HasEarlier, are_alike, has_number, most_at};
-ghost use Rattle.tomex_choices.specs.Choices.{most_of, same_latency};
+ghost use Rattle.tomex_config.specs.Parts.{most_of, same_latency};
 ghost use Rattle.tomex_choices.specs.Extremes.{lesser};
 ghost use Rattle.tomex_choices.specs.NewMachines.{greatest_units, grown, least_price};
 
-use crate::counts::{latency_in, with_count, with_option};
 use std::marker::Model;
-use tomex_config::{Config, UnitOption};
+use tomex_config::{Config, Part, UnitOption, same_entry, with_count};
 use tomex_rvdec::UnitId;
-use tomex_timing::Part;
-use tomex_worth::same_entry;
 
 /// The most units that an option of a latency has, and the least price of such an option.
 #[derive(Clone, Copy, Debug, PartialEq, Eq)]
@@ -169,7 +166,7 @@ fn is_alike_in(by_latency: bool, part: Part, a: &Config, b: &Config) -> bool
     ensures { result ≡ (if by_latency then same_latency part a.now b.now else same_entry a.now b.now part) }
 {
     if by_latency {
-        latency_in(part, a) == latency_in(part, b)
+        part.latency(a) == part.latency(b)
     } else {
         same_entry(a, b, part)
     }
@@ -246,7 +243,7 @@ impl<'s> Entries<'s> {
             latency,
             price: most.price,
         };
-        Some(with_option(config, unit, option))
+        Some(config.with_option(unit, option))
     }
 
     /// True if an earlier row is found that is like this one in all other lists, and in this one in its latency. Such

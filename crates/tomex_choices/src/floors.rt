@@ -2,7 +2,8 @@
 
 ghost use Rattle.std.specs.Prelude.{◌≡◌, ◌≤◌, length, option_map, IfOk, IfSome};
 ghost use Rattle.std.specs.List.{Contains};
-ghost use Rattle.tomex_floor.specs.Floor.{floor_of, floors_by_width, latency_of};
+ghost use Rattle.tomex_floor.specs.Floor.{floor_of, floors_by_width};
+ghost use Rattle.tomex_config.specs.Configuration.{latency_of};
 ghost use Rattle.tomex_timing.specs.History.{is_of};
 ghost use Rattle.tomex_choices.specs.Floors.{any_width, fastest, floor_at, steps_of, study_floor, weighted_floor};
 ghost use Rattle.tomex_choices.specs.Extremes.{lesser};

@@ -6,6 +6,7 @@ ghost use Rattle.tomex_choices.specs.Asking.{AreFound, AreJoined, IsJoined};
 
 use crate::new_machine::NewMachine;
 use std::alloc::{AllocError, Allocator};
+use tomex_config::Part;
 
 /// What was found of a list on some rows.
 #[derive(Debug, Drop)]
@@ -55,7 +56,7 @@ impl<A: Allocator + Clone> Found<A> {
         ensures count { IfOk result (λ f. length f.lists.items ≡ 13) }
         ensures lists { (s : DesignSpace) (row : ℕ) → IfOk result (λ f. AreFound s row row f.lists.items) }
     {
-        let mut lists = Vec::with_capacity(alloc.clone()?, 13)?;
+        let mut lists = Vec::with_capacity(alloc.clone()?, Part::ALL.len())?;
         for _place in 0..13usize {
             lists.push(ListFound {
                 machines: Vec::new(alloc.clone()?),

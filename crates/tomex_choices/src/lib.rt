@@ -5,7 +5,6 @@
 
 mod asking;
 mod choices;
-mod counts;
 mod entries;
 mod floors;
 mod found;
@@ -17,7 +16,6 @@ mod useful;
 mod weighing;
 
 pub use choices::{front_choices, unused};
-pub use counts::{latency_in, most_of};
 pub use floors::{Floored, Floors, all_floored, fastest, floors_of};
 pub use laws::{
     additions_are_all_that_is_needed, complete_lists_are_complete, covered_machines_add_no_points,

@@ -14,7 +14,7 @@ use crate::found::Found;
 use rayon::prelude::*;
 use std::alloc::{AllocError, Allocator};
 use std::thread::Threads;
-use tomex_config::Config;
+use tomex_config::{Config, Part};
 use tomex_plateaus::Knowledge;
 use tomex_study::{Gate, Study};
 use tomex_survey::{Stretch, stretches, totals_on_row};
@@ -94,8 +94,8 @@ fn all_entries<'s, A: Allocator>(
 ) -> Result<Vec<Entries<'s>, A>, AllocError>
     ensures { IfOk result (λ v. AreLists rows.now v.items) }
 {
-    let mut lists = Vec::with_capacity(alloc, 13)?;
-    for place in 0..13 {
+    let mut lists = Vec::with_capacity(alloc, Part::ALL.len())?;
+    for place in 0..Part::ALL.len() {
         lists.push(Entries::new(rows, place))?;
     }
     Ok(lists)

@@ -4,17 +4,15 @@ ghost use Rattle.std.specs.Prelude.{◌≡◌, ◌<◌, ◌≤◌, ◌++◌, ℕ
 ghost use Rattle.std.specs.List.{filter, flat_map, list_any, range_with_len};
 ghost use Rattle.tomex_study.specs.Study.{DesignSpace, IsStudy};
 ghost use Rattle.tomex_study.specs.StudyFront.{all_rows};
-ghost use Rattle.tomex_worth.specs.Changes.{part_at};
+ghost use Rattle.tomex_config.specs.Parts.{part_at};
 ghost use Rattle.tomex_choices.specs.Additions.{additions, has_entry, saving_of, useful};
 ghost use Rattle.tomex_choices.specs.Asking.{AreFound, IsFound};
-ghost use Rattle.tomex_choices.specs.Choices.{most_of};
+ghost use Rattle.tomex_config.specs.Parts.{most_of};
 ghost use Rattle.tomex_choices.specs.Enough.{enough};
 ghost use Rattle.tomex_choices.specs.Floors.{any_width, study_floor};
 ghost use Rattle.tomex_choices.specs.NewMachines.{configurations_if, grown};
 ghost use Rattle.tomex_choices.specs.Weighed.{AreWeighed, IsWeighed, added_by, added_if};
 
-use crate::choices::Likeness;
-use crate::counts::{latency_in, most_of};
 use crate::entries::Entries;
 use crate::floors::{Floors, floors_of};
 use crate::found::ListFound;
@@ -25,11 +23,10 @@ use crate::useful::{unbeaten, useful};
 use std::alloc::{AllocError, Allocator, Global};
 use std::marker::Model;
 use std::thread::Threads;
-use tomex_config::Config;
+use tomex_config::{Config, Likeness, Part};
 use tomex_pareto::FrontRow;
 use tomex_study::{Gate, Study, Surveyed};
 use tomex_survey::surveyed;
-use tomex_timing::Part;
 
 /// What a list lacks.
 #[derive(Debug, Drop)]
@@ -132,7 +129,7 @@ pub fn weigh_choices<
 fn has_entry(machines: &[NewMachine], part: Part, config: &Config) -> bool
     ensures { result ≡ list_any (has_entry part config.now) machines.now }
 {
-    let (number, latency) = (part.count(config), latency_in(part, config));
+    let (number, latency) = (part.count(config), part.latency(config));
     for x in machines {
         if u64::from(x.number) == number && x.latency == latency {
             return true;
@@ -171,7 +168,7 @@ fn push_added(
         ++ added_by entries.now.rows (part_at entries.now.place) machines.now config.now) }
 {
     let part = entries.part();
-    for fewer in 0..most_of(part) {
+    for fewer in 0..part.most() {
         push_if(added, part, machines, entries.grown(config, fewer + 1))?;
     }
     Ok(())

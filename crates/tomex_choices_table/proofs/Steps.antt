@@ -2,10 +2,10 @@
 use Rattle.std.proofs.Common.{◌≡◌, ◌∙◌, ap, ap₂, sym, ℕ, ◌+◌, ◌<◌, List, [], ◌∷◌, ◌++◌, append_assoc, drop, get_or}
 use Rattle.std.proofs.Common.{length, map, take}
 use Rattle.std.proofs.lemmas.List.{at_drop_more, map-append, take_more}
-use Rattle.tomex_timing.specs.Needs.{all_parts}
-use Rattle.tomex_timing.specs.declared.part.Part.{Part}
-use Rattle.tomex_timing.specs.declared.part.Part.TheVariants.{Width}
-use Rattle.tomex_worth.specs.Changes.{part_at}
+use Rattle.tomex_config.specs.Parts.{all_parts}
+use Rattle.tomex_config.specs.declared.part.Part.{Part}
+use Rattle.tomex_config.specs.declared.part.Part.TheVariants.{Width}
+use Rattle.tomex_config.specs.Parts.{part_at}
 
 pub text_more : (f : Part → List ℕ) (k : ℕ) (before after whole : List (List ℕ)) (text : List ℕ) → k < 13
     → after ≡ before ++ text ∷ [] → text ≡ f (part_at k) → before ++ map f (drop k all_parts) ≡ whole

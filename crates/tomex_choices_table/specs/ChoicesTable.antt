@@ -6,12 +6,13 @@ use Rattle.std.specs.Fmt.{decimal}
 use Rattle.tomex_config.specs.Configuration.{Configuration}
 use Rattle.tomex_study.specs.Study.{DesignSpace}
 use Rattle.tomex_layout.specs.Table.{TableColumn, table_of}
-use Rattle.tomex_timing.specs.Needs.{all_parts}
-use Rattle.tomex_timing.specs.declared.part.Part.{Part}
-use Rattle.tomex_worth.specs.Differences.{percent}
-use Rattle.tomex_worth.specs.Worth.{entry_text, name_of_list}
+use Rattle.tomex_config.specs.Parts.{all_parts}
+use Rattle.tomex_config.specs.declared.part.Part.{Part}
+use Rattle.tomex_layout.specs.Differences.{percent}
+use Rattle.tomex_layout.specs.Lists.{entry_text, name_of_list}
 use Rattle.tomex_choices.specs.Additions.{additions, saving_of}
-use Rattle.tomex_choices.specs.Choices.{front_choices, most_of, unused}
+use Rattle.tomex_choices.specs.Choices.{front_choices, unused}
+use Rattle.tomex_config.specs.Parts.{most_of}
 use Rattle.tomex_choices.specs.Enough.{enough}
 use Rattle.tomex_choices.specs.Floors.{any_width, fastest, study_floor}
 use Rattle.tomex_choices.specs.declared.saving.Saving.{Saving}

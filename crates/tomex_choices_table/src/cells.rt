@@ -8,10 +8,9 @@ ghost use Rattle.tomex_choices_table.specs.ChoicesTable.{percent_cell};
 
 use std::alloc::{AllocError, Allocator, Global};
 use std::fmt::Write;
-use tomex_choices::{Saving, most_of};
-use tomex_config::Config;
-use tomex_timing::Part;
-use tomex_worth::{push_entry, push_percent};
+use tomex_choices::{Saving};
+use tomex_config::{Config, Part};
+use tomex_layout::{push_entry, push_percent};
 
 /// Adds configurations' entries in a part's list, each after a comma.
 #[tactic(auto, unfolding(crate::specs::ChoicesTable::after_comma))]
@@ -82,7 +81,7 @@ pub fn push_enough<A: Allocator>(
 ) -> Result<(), AllocError>
     ensures { OnOk result (Appends (enough_cell part enough) text.old text.new) }
 {
-    if enough == most_of(part) {
+    if enough == part.most() {
         text.push_str("-")
     } else {
         write!(text, "{enough}")

@@ -5,16 +5,15 @@ ghost use Rattle.tomex_layout.specs.Growth.{Appends};
 ghost use Rattle.tomex_choices.specs.Floors.{any_width, fastest, study_floor};
 ghost use Rattle.tomex_choices_table.specs.ChoicesTable.{all_headings, both_floors, choices_table_of, floor_text};
 ghost use Rattle.tomex_choices_table.specs.ChoicesTable.{floors_text, heading_column, text_under};
-ghost use Rattle.tomex_worth.specs.Changes.{part_at};
+ghost use Rattle.tomex_config.specs.Parts.{part_at};
 
 use crate::cells::{push_cost, push_enough, push_entries, push_saving};
 use crate::heading::Heading;
 use std::alloc::{AllocError, Allocator, Global};
 use std::fmt::Write;
 use tomex_choices::{WeighedChoices, fastest, front_choices, unused};
-use tomex_layout::{Column, table_of};
-use tomex_timing::Part;
-use tomex_worth::{push_name_of_list, push_percent};
+use tomex_layout::{Column, table_of, push_name_of_list, push_percent};
+use tomex_config::Part;
 
 /// Adds the text under a heading in the line of the list at a place.
 fn push_under<A: Allocator>(
@@ -73,7 +72,7 @@ fn heading_column<A: Allocator>(
 {
     let name = heading.name();
     let mut column = Column::new(heap, format!(in heap; "{name}")?);
-    for place in 0..13 {
+    for place in 0..Part::ALL.len() {
         column.push(text_under(heap, weighed, heading, place)?)?;
     }
     Ok(column)
@@ -155,7 +154,7 @@ pub fn choices_table<A: Allocator>(
         weighed.floor(),
         weighed.any_width(),
     )?;
-    let mut text = table_of(alloc, 13, columns.as_slice())?;
+    let mut text = table_of(alloc, Part::ALL.len(), columns.as_slice())?;
     text.extend_from_slice(line.as_bytes())?;
     Ok(text)
 }

@@ -7,7 +7,7 @@ use Rattle.tomex_pareto.specs.declared.front_row.FrontRow.{FrontRow}
 use Rattle.tomex_study.specs.Cycles.{cycles_of, total_at}
 use Rattle.tomex_study.specs.Program.{Workload}
 use Rattle.tomex_study.specs.Study.{DesignSpace}
-use Rattle.tomex_timing.specs.Needs.{all_parts}
+use Rattle.tomex_config.specs.Parts.{all_parts}
 use Rattle.tomex_compare.specs.Compare.{tables_of}
 use Rattle.tomex_compare.specs.GroupTable.{group_table_of}
 use Rattle.tomex_compare.specs.Groups.{RowGroup, entry_group, front_group, group, groups_from, list_groups, on_front}

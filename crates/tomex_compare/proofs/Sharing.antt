@@ -11,7 +11,7 @@ use Rattle.std.proofs.lemmas.Option.{get_or_from_slice_get, slice_get_within}
 use Rattle.tomex_config.specs.Configuration.{Configuration, plain}
 use Rattle.tomex_study.specs.Program.{Workload}
 use Rattle.tomex_study.specs.Study.{DesignSpace, config_at}
-use Rattle.tomex_timing.specs.declared.part.Part.{Part}
+use Rattle.tomex_config.specs.declared.part.Part.{Part}
 use Rattle.tomex_compare.specs.GroupTable.{best, worst}
 use Rattle.tomex_compare.specs.Groups.{entries_of, shows_same, with_entry}
 use Rattle.tomex_compare.specs.Laws.{BestIsMet, CountsAddUp, SomeGroup, WorstIsMet}

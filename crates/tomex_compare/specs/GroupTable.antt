@@ -4,7 +4,7 @@ use Rattle.std.specs.Prelude.{ℕ, ◌-◌, ◌/◌, ◌==◌, nat_lt, Bool, Lis
 use Rattle.std.specs.Prelude.{Option, Some, None, slice_get}
 use Rattle.std.specs.Fmt.{decimal}
 use Rattle.tomex_layout.specs.Table.{TableColumn, table_of}
-use Rattle.tomex_worth.specs.Differences.{percent}
+use Rattle.tomex_layout.specs.Differences.{percent}
 use Rattle.tomex_compare.specs.Groups.{RowGroup}
 use Rattle.tomex_compare.specs.declared.group_table.Heading.{Heading}
 use Rattle.tomex_compare.specs.declared.group_table.Heading.TheVariants as headings

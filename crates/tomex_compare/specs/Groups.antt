@@ -9,10 +9,10 @@ use Rattle.tomex_study.specs.Cycles.{total_at}
 use Rattle.tomex_study.specs.Program.{Workload}
 use Rattle.tomex_study.specs.Study.{DesignSpace, config_at}
 use Rattle.tomex_study.specs.StudyFront.{all_rows}
-use Rattle.tomex_timing.specs.Needs.{all_parts, count_of}
-use Rattle.tomex_timing.specs.declared.part.Part.{Part}
-use Rattle.tomex_timing.specs.declared.part.Part.TheVariants.{Units}
-use Rattle.tomex_worth.specs.Worth.{entry_text, name_of_list}
+use Rattle.tomex_config.specs.Parts.{all_parts, count_of}
+use Rattle.tomex_config.specs.declared.part.Part.{Part}
+use Rattle.tomex_config.specs.declared.part.Part.TheVariants.{Units}
+use Rattle.tomex_layout.specs.Lists.{entry_text, name_of_list}
 use Rattle.tomex_compare.specs.Pairs.{pairs_of}
 use Rattle.tomex_compare.specs.declared.pairs.Pair.{Pair}
 

@@ -4,8 +4,8 @@ use Rattle.std.specs.List.{Contains, filter, flat_map}
 use Rattle.tomex_config.specs.Configuration.{Configuration}
 use Rattle.tomex_study.specs.Program.{Workload}
 use Rattle.tomex_study.specs.Study.{DesignSpace, IsStudy}
-use Rattle.tomex_timing.specs.Needs.{all_parts}
-use Rattle.tomex_timing.specs.declared.part.Part.{Part}
+use Rattle.tomex_config.specs.Parts.{all_parts}
+use Rattle.tomex_config.specs.declared.part.Part.{Part}
 use Rattle.tomex_compare.specs.Compare.{tables_of}
 use Rattle.tomex_compare.specs.GroupTable.{best, median, takes_as_many, takes_fewer, takes_more, worst}
 use Rattle.tomex_compare.specs.Groups.{entries_of, list_groups, with_entry}

@@ -8,7 +8,7 @@ use Rattle.tomex_study.specs.Cycles.{total_at}
 use Rattle.tomex_study.specs.Program.{Workload}
 use Rattle.tomex_study.specs.Study.{DesignSpace}
 use Rattle.tomex_layout.specs.Table.{TableColumn, table_of}
-use Rattle.tomex_worth.specs.Differences.{percent}
+use Rattle.tomex_layout.specs.Differences.{percent}
 use Rattle.tomex_compare.specs.Pairs.{row_numbers}
 use Rattle.tomex_compare.specs.declared.extremes.RowCycles.{RowCycles}
 use Rattle.tomex_compare.specs.declared.program_table.Heading.{Heading}

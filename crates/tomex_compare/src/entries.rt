@@ -6,8 +6,7 @@ ghost use Rattle.std.specs.List.{list_any};
 ghost use Rattle.tomex_compare.specs.Groups.{entries_of, shows_same};
 
 use std::alloc::{AllocError, Global};
-use tomex_config::Config;
-use tomex_timing::Part;
+use tomex_config::{Config, Part};
 
 /// True if two configurations show the same entry in a part's list: a unit option's price isn't shown.
 pub fn shows_same(a: &Config, b: &Config, part: Part) -> bool

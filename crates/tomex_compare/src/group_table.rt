@@ -9,8 +9,7 @@ ghost use Rattle.tomex_compare.specs.GroupTable.{name_under, text_under, worst};
 use crate::groups::Group;
 use crate::pairs::Pair;
 use std::alloc::{AllocError, Allocator, Global};
-use tomex_layout::{Column, table_of};
-use tomex_worth::push_percent;
+use tomex_layout::{Column, table_of, push_percent};
 
 /// A column's heading: which property of a group it shows.
 #[derive(Clone, Copy)]

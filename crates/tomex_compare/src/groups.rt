@@ -3,7 +3,7 @@
 ghost use Rattle.std.specs.Prelude.{◌≡◌, ◌<◌, ◌++◌, List, codes, length, map, All, IfOk, OnOk};
 ghost use Rattle.std.specs.List.{flat_map};
 ghost use Rattle.tomex_pareto.specs.declared.front_row.FrontRow.{FrontRow};
-ghost use Rattle.tomex_timing.specs.Needs.{all_parts};
+ghost use Rattle.tomex_config.specs.Parts.{all_parts};
 ghost use Rattle.tomex_compare.specs.Builds.{IsBuild};
 ghost use Rattle.tomex_compare.specs.Groups.{AreMarks, entry_group, front_group, front_groups, group, groups_from};
 ghost use Rattle.tomex_compare.specs.Groups.{list_groups, on_front, with_entry};
@@ -14,10 +14,9 @@ use crate::fronts::on_own_front;
 use crate::pairs::Pair;
 use std::alloc::{AllocError, Allocator, Global};
 use std::marker::Model;
-use tomex_config::Config;
+use tomex_config::{Config, Part};
 use tomex_study::Surveyed;
-use tomex_timing::Part;
-use tomex_worth::{push_entry, push_name_of_list};
+use tomex_layout::{push_entry, push_name_of_list};
 
 /// Some rows, by ratio, then number, and what they have in common.
 #[derive(Drop)]

@@ -2,7 +2,7 @@
 
 ghost use Rattle.std.specs.Prelude.{◌≡◌, length, IfOk, map, string_bytes};
 ghost use Rattle.std.specs.Fmt.{decimal};
-ghost use Rattle.tomex_worth.specs.Differences.{percent};
+ghost use Rattle.tomex_layout.specs.Differences.{percent};
 ghost use Rattle.tomex_compare.specs.Builds.{IsBuild};
 ghost use Rattle.tomex_compare.specs.ProgramTable.{all_headings, change_under, heading_column, name_under, profile_of};
 ghost use Rattle.tomex_compare.specs.ProgramTable.{program_table_of, text_under};
@@ -11,9 +11,8 @@ use crate::build::Build;
 use crate::extremes::{RowCycles, best_row, worst_row};
 use std::alloc::{AllocError, Allocator, Global};
 use std::marker::Model;
-use tomex_layout::{Column, table_of};
+use tomex_layout::{Column, table_of, push_percent};
 use tomex_study::Surveyed;
-use tomex_worth::push_percent;
 
 /// A column's heading: which property of a build it shows.
 #[derive(Clone, Copy)]

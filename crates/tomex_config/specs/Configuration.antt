@@ -45,6 +45,9 @@ stations_of config pool = slice_index config.stations (place_of_pool pool)
 abbrev pub option_of : Configuration → UnitId → UnitOption
 option_of config unit = slice_index_or config.units (place_of_unit unit) plain_option
 
+abbrev pub latency_of : Configuration → UnitId → ℕ
+latency_of config unit = (option_of config unit).latency
+
 -- within the limits
 pub record IsWithinLimits (config : Configuration) : Type 0 where
   pub pools : length config.stations ≡ 6

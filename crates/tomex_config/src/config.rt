@@ -100,7 +100,7 @@ impl Config {
     }
 
     /// The configuration with `count` stations in a pool.
-    pub(crate) fn with_stations(&self, pool: PoolId, count: u8) -> Config
+    pub fn with_stations(&self, pool: PoolId, count: u8) -> Config
         requires { is_between 1 16 count ≡ true }
         ensures { result ≡ with_stations pool self.now count }
     {
@@ -110,7 +110,7 @@ impl Config {
     }
 
     /// The configuration with this option for a kind of unit.
-    pub(crate) fn with_option(&self, unit: UnitId, option: UnitOption) -> Config
+    pub fn with_option(&self, unit: UnitId, option: UnitOption) -> Config
         requires { is_option (most_units unit) option ≡ true }
         ensures { result ≡ with_option unit self.now option }
     {
@@ -120,7 +120,7 @@ impl Config {
     }
 
     /// The configuration with `count` buses.
-    pub(crate) fn with_buses(&self, count: u8) -> Config
+    pub fn with_buses(&self, count: u8) -> Config
         requires { is_between 1 8 count ≡ true }
         ensures { result ≡ with_buses self.now count }
     {
@@ -131,7 +131,7 @@ impl Config {
     }
 
     /// The configuration with this width.
-    pub(crate) fn with_width(&self, width: u8) -> Config
+    pub fn with_width(&self, width: u8) -> Config
         requires { is_between 1 4 width ≡ true }
         ensures { result ≡ with_width self.now width }
     {

@@ -9,10 +9,18 @@
 
 mod axis;
 mod config;
+mod likeness;
+mod part;
+mod part_prices;
 mod price;
 mod product;
+mod setting;
 
 pub use axis::Axes;
 pub use config::{Config, UnitOption, same_option};
+pub use likeness::Likeness;
+pub use part::{Part, same_entry, with_count};
+pub use part_prices::{cost_of_part, price_of_part};
 pub use price::{Prices, cost};
 pub use product::{GridError, grid};
+pub use setting::Setting;

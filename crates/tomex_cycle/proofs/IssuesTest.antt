@@ -2,7 +2,7 @@
 use Rattle.tomex_cycle.proofs.Places.{holds_is, AreLow}
 use Rattle.tomex_timing.proofs.Holders.{stations_fit}
 use Rattle.tomex_timing.proofs.Taken.{peak_within}
-use Rattle.tomex_timing.specs.declared.part.Part.TheVariants.{Stations}
+use Rattle.tomex_config.specs.declared.part.Part.TheVariants.{Stations}
 use Rattle.tomex_cycle.proofs.Words.{nat_lt, ◌&&◌, not, Ok, cases_order, lt-ltb, nat_tests, and_parts, Loaded}
 use Rattle.tomex_cycle.proofs.Words.{Configuration, IsWithinLimits, EndKind, Step, instruction_at, end_of, next_pc_of}
 use Rattle.tomex_cycle.proofs.Words.{step_after, is_branch, step_pool, step_follows, Done, AreTimed}

@@ -6,7 +6,7 @@ ghost use Rattle.tomex_document.specs.Refusals.{IsDocumentRefusal};
 
 use crate::error::StudyError;
 use std::alloc::{AllocError, Allocator, Global};
-use tomex_document::{Entry, document_of};
+use crate::document::{Entry, document_of};
 
 /// The names of these programs' files, in order.
 fn files_of<A: Allocator>(

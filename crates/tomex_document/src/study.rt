@@ -11,7 +11,7 @@ ghost use Rattle.tomex_document.specs.Study.{IsProgramOf, IsRefusalOfFiles, IsSt
 use crate::error::StudyError;
 use std::alloc::{AllocError, Allocator, Global};
 use tomex_config::grid;
-use tomex_document::{Entry, Outline, document_of};
+use crate::document::{Entry, Outline, document_of};
 use tomex_image::{Image, ImageError, load};
 use tomex_study::{Program, ProgramError, Study};
 

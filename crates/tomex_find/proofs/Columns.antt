@@ -5,8 +5,8 @@ use Rattle.std.specs.List.{flat_map}
 use Rattle.std.proofs.lemmas.List.{length-map}
 use Rattle.std.proofs.lemmas.List.Elements.{All-cons, All-nil}
 use Rattle.tomex_study.specs.Study.{DesignSpace}
-use Rattle.tomex_front_views.specs.FrontTable.{all_settings, differs}
-use Rattle.tomex_front_views.specs.declared.table.heading.Setting.{Setting}
+use Rattle.tomex_config.specs.Settings.{all_settings, differs}
+use Rattle.tomex_config.specs.declared.setting.Setting.{Setting}
 use Rattle.tomex_layout.specs.Table.{TableColumn}
 use Rattle.tomex_layout.proofs.Each.{all_flat_map, all_if}
 use Rattle.tomex_find.specs.Find.{column_of, columns_of, setting_columns}

@@ -6,8 +6,9 @@ use Rattle.std.specs.Fmt.{decimal}
 use Rattle.std.specs.List.{filter, find, flat_map, list_all, list_any, range_with_len}
 use Rattle.std.specs.Str.{bytes_eq}
 use Rattle.tomex_study.specs.Study.{DesignSpace, config_at}
-use Rattle.tomex_front_views.specs.FrontTable.{all_settings, differs, name_of_setting, setting_of}
-use Rattle.tomex_front_views.specs.declared.table.heading.Setting.{Setting}
+use Rattle.tomex_config.specs.Settings.{all_settings, differs, setting_of}
+use Rattle.tomex_layout.specs.Lists.{name_of_setting}
+use Rattle.tomex_config.specs.declared.setting.Setting.{Setting}
 use Rattle.tomex_layout.specs.Table.{TableColumn, table_of}
 use Rattle.tomex_find.specs.declared.finding.FindError.{FindError}
 use Rattle.tomex_find.specs.declared.finding.FindError.TheVariants.{NoSuchChoice, NoSuchRow, Memory}

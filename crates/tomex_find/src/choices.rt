@@ -8,7 +8,7 @@ ghost use Rattle.tomex_find.specs.Find.{choice_text, has_all, has_choice, is_cho
 use crate::property::Property;
 use std::alloc::{AllocError, Allocator};
 use std::fmt::Write;
-use tomex_front_views::Setting;
+use tomex_config::Setting;
 use tomex_study::Study;
 
 /// Adds a row's choice of a property: `NAME=NUMBER`.

@@ -5,7 +5,8 @@ ghost use Rattle.tomex_layout.specs.Growth.{Appends};
 ghost use Rattle.tomex_find.specs.Find.{name_of, value_of};
 
 use std::alloc::{AllocError, Allocator};
-use tomex_front_views::Setting;
+use tomex_config::Setting;
+use tomex_layout::push_name_of_setting;
 use tomex_study::Study;
 
 /// What a configuration may be chosen by.
@@ -25,7 +26,7 @@ impl Property {
         match self {
             Property::Row => text.push_str("row"),
             Property::Cost => text.push_str("cost"),
-            Property::Setting(setting) => setting.push_name(text),
+            Property::Setting(setting) => push_name_of_setting(text, setting),
         }
     }
 

@@ -2,12 +2,12 @@
 
 ghost use Rattle.std.specs.Prelude.{◌≡◌, ◌<◌, ◌++◌, length, All, IfOk, OnOk};
 ghost use Rattle.std.specs.List.{flat_map};
-ghost use Rattle.tomex_front_views.specs.FrontTable.{all_settings};
+ghost use Rattle.tomex_config.specs.Settings.{all_settings};
 ghost use Rattle.tomex_find.specs.Find.{column_of, columns_of, rows_table_of, setting_columns};
 
 use crate::property::Property;
 use std::alloc::{AllocError, Allocator, Global};
-use tomex_front_views::Setting;
+use tomex_config::Setting;
 use tomex_layout::{Column, table_of};
 use tomex_study::Study;
 

@@ -3,7 +3,8 @@ use Rattle.std.proofs.Common.{◌≡◌, refl, [], ◌∷◌}
 use Rattle.tomex_rvdec.specs.declared.pool.UnitId.TheVariants as units
 use Rattle.tomex_config.specs.Configuration.{plain}
 use Rattle.tomex_timing.proofs.Programs.{jump_past, jump_to_product, product, stored_and_loaded, with_latency}
-use Rattle.tomex_floor.specs.Floor.{floors_by_width, latency_of}
+use Rattle.tomex_floor.specs.Floor.{floors_by_width}
+use Rattle.tomex_config.specs.Configuration.{latency_of}
 
 -- the factors end in cycles 3 and 4, or both in 3
 product_floors : floors_by_width (latency_of (with_latency units.Mul plain 3)) product ≡ 8 ∷ 7 ∷ 7 ∷ 7 ∷ []

@@ -21,7 +21,8 @@ use Rattle.tomex_timing.proofs.AfterEnd.{AllBy, IsDoneBy, last_address_by, sourc
 use Rattle.tomex_floor.specs.declared.latest.Latest.{Latest}
 use Rattle.tomex_floor.specs.Floor.{floor_address, floor_end, floor_from, floor_issue, floor_start, floor_times}
 use Rattle.tomex_floor.specs.Floor.{floors_of}
-use Rattle.tomex_floor.specs.Floor.{issue_back, last_finish, latency_of}
+use Rattle.tomex_floor.specs.Floor.{issue_back, last_finish}
+use Rattle.tomex_config.specs.Configuration.{latency_of}
 use Rattle.tomex_floor.specs.Kept.{IsLatest, IsLatestBy, latest_after}
 
 pub floors_more : (latency : UnitId → ℕ) (w : ℕ) (xs : List Step) (x : Step)

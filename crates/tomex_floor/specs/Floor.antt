@@ -88,8 +88,7 @@ floors_by_width latency steps = floor_of latency 1 steps ∷ floor_of latency 2 
     ∷ floor_of latency 4 steps ∷ []
 
 -- a configuration's latencies
-abbrev pub latency_of : Configuration → UnitId → ℕ
-latency_of config unit = (option_of config unit).latency
+
 
 -- each time of the first is no later than the second's
 pub record IsNoLater (a b : Times) : Type 0 where

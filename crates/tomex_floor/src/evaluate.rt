@@ -5,7 +5,8 @@ ghost use Rattle.tomex_rvexec.specs.declared.step.Step.{Step};
 ghost use Rattle.tomex_timing.specs.declared.times.Done.{Done};
 ghost use Rattle.tomex_timing.specs.Recurrence.{conflicts};
 ghost use Rattle.tomex_timing.specs.Search.{times_in, total_of};
-ghost use Rattle.tomex_floor.specs.Floor.{floor_times, floors_by_width, last_finish, latency_of};
+ghost use Rattle.tomex_floor.specs.Floor.{floor_times, floors_by_width, last_finish};
+ghost use Rattle.tomex_config.specs.Configuration.{latency_of};
 ghost use Rattle.tomex_timing.specs.Recent.{AreInRange, facts_of};
 ghost use Rattle.tomex_floor.specs.Kept.{AreConflicts, AreLatest, IsLatest, IsLatestBy, finish_of, history_after};
 

@@ -6,7 +6,8 @@ ghost use Rattle.tomex_timing.specs.declared.times.Done.{Done};
 ghost use Rattle.tomex_timing.specs.History.{cycle_of};
 ghost use Rattle.tomex_timing.specs.Recurrence.{conflicts};
 ghost use Rattle.tomex_floor.specs.Floor.{floor_address, floor_end, floor_issue, floor_start, floor_times};
-ghost use Rattle.tomex_floor.specs.Floor.{last_finish, latency_of};
+ghost use Rattle.tomex_floor.specs.Floor.{last_finish};
+ghost use Rattle.tomex_config.specs.Configuration.{latency_of};
 ghost use Rattle.tomex_timing.specs.Recent.{AreInRange, facts_of};
 ghost use Rattle.tomex_floor.specs.Kept.{IsLatest, IsLatestBy};
 

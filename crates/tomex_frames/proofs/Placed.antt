@@ -14,7 +14,7 @@ use Rattle.tomex_timing.specs.History.{cycle_of, greatest_end, is_memory, last_i
 use Rattle.tomex_timing.specs.Needs.{cycles_that, lacks_address, lacks_operand, waits_in, waits_of}
 use Rattle.tomex_timing.specs.Recurrence.{AreTimed, IsLeast, IsTimed, can_address, has_operands}
 use Rattle.tomex_timing.specs.Search.{history, times_in, times_of, total_of}
-use Rattle.tomex_timing.specs.declared.part.Waits.{Waits}
+use Rattle.tomex_timing.specs.declared.need.Waits.{Waits}
 use Rattle.tomex_timing.specs.declared.times.Done.{Done}
 use Rattle.tomex_timing.specs.declared.times.Times.{Times}
 use Rattle.tomex_timing.proofs.Accounts.{issue_account, start_account}

@@ -3,7 +3,7 @@ use Rattle.std.specs.Prelude.{ℕ, ◌+◌, ◌-◌, ◌==◌, nat_le, nat_lt, f
 use Rattle.std.specs.Prelude.{codes, is_some, Option, Some, None}
 use Rattle.std.specs.Fmt.{decimal}
 use Rattle.tomex_rvexec.specs.Steps.{step_dest}
-use Rattle.tomex_timing.specs.declared.part.Waits.{Waits}
+use Rattle.tomex_timing.specs.declared.need.Waits.{Waits}
 use Rattle.tomex_timing.specs.declared.tables.Tag.{Tag}
 use Rattle.tomex_run_views.specs.Chart.{stage_in}
 use Rattle.tomex_run_views.specs.declared.stage.Stage.{Stage}

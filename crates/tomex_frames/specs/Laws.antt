@@ -7,7 +7,7 @@ use Rattle.tomex_config.specs.Configuration.{Configuration, IsWithinLimits}
 use Rattle.tomex_timing.specs.History.{last_issue}
 use Rattle.tomex_timing.specs.Needs.{pool_stalls, stalls, stalls_by, unit_stalls}
 use Rattle.tomex_timing.specs.Search.{history, times_in, total_of}
-use Rattle.tomex_timing.specs.declared.part.Part.TheVariants.{Buses, Width}
+use Rattle.tomex_config.specs.declared.part.Part.TheVariants.{Buses, Width}
 use Rattle.tomex_timing.specs.declared.times.Done.{Done}
 use Rattle.tomex_html.specs.Html.{table_end}
 use Rattle.tomex_snapshots.specs.Entries.{entries_of, is_listed_in}

@@ -9,13 +9,14 @@ use Rattle.std.proofs.lemmas.List.Elements.{All-append, All-cons, All-nil}
 use Rattle.tomex_study.specs.Program.{Workload}
 use Rattle.tomex_study.specs.Study.{DesignSpace}
 use Rattle.tomex_pareto.specs.declared.front_row.FrontRow.{FrontRow}
-use Rattle.tomex_front_views.specs.FrontTable.{all_settings, cycles_on, differs, heading_column, own_columns}
+use Rattle.tomex_front_views.specs.FrontTable.{cycles_on, heading_column, own_columns}
+use Rattle.tomex_config.specs.Settings.{all_settings, differs}
 use Rattle.tomex_front_views.specs.FrontTable.{program_column}
 use Rattle.tomex_front_views.specs.FrontTable.{program_columns, rate_column, rates_after, setting_columns}
 use Rattle.tomex_front_views.specs.declared.table.heading.Heading.{Heading}
 use Rattle.tomex_front_views.specs.declared.table.heading.Heading.TheVariants.{Setting as OfSetting, Row, Cost}
 use Rattle.tomex_front_views.specs.declared.table.heading.Heading.TheVariants.{Cycles}
-use Rattle.tomex_front_views.specs.declared.table.heading.Setting.{Setting}
+use Rattle.tomex_config.specs.declared.setting.Setting.{Setting}
 use Rattle.tomex_layout.specs.Table.{TableColumn}
 use Rattle.tomex_layout.proofs.Each.{all_flat_map, all_if, all_map}
 

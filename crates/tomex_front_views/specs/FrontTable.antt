@@ -13,40 +13,15 @@ use Rattle.tomex_study.specs.Program.{Workload}
 use Rattle.tomex_study.specs.Study.{DesignSpace}
 use Rattle.tomex_pareto.specs.Hull.{hull_of}
 use Rattle.tomex_pareto.specs.declared.front_row.FrontRow.{FrontRow}
-use Rattle.tomex_timing.specs.Needs.{count_of}
-use Rattle.tomex_timing.specs.declared.part.Part.TheVariants.{Stations, Units, Buses, Width}
+use Rattle.tomex_config.specs.Parts.{count_of}
+use Rattle.tomex_config.specs.declared.part.Part.TheVariants.{Stations, Units, Buses, Width}
 use Rattle.tomex_layout.specs.Hundredths.{hundredths}
 use Rattle.tomex_layout.specs.Table.{TableColumn, table_of}
 use Rattle.tomex_front_views.specs.declared.table.heading.Heading.{Heading}
 use Rattle.tomex_front_views.specs.declared.table.heading.Heading.TheVariants.{Row as OfRow, Cost, Cycles}
 use Rattle.tomex_front_views.specs.declared.table.heading.Heading.TheVariants.{Setting as OfSetting}
-use Rattle.tomex_front_views.specs.declared.table.heading.Setting.{Setting}
-use Rattle.tomex_front_views.specs.declared.table.heading.Setting.TheVariants.{Count, Latency}
-
--- the settings of a row, in the order of the front report's columns
-abbrev pub all_settings : List Setting
-all_settings =
-    Count (Stations pools.Alu) ∷ Count (Stations pools.Mul) ∷ Count (Stations pools.Div)
-    ∷ Count (Stations pools.Load) ∷ Count (Stations pools.Store) ∷ Count (Stations pools.Bru)
-    ∷ Count (Units units.Alu) ∷ Latency units.Alu ∷ Count (Units units.Mul) ∷ Latency units.Mul
-    ∷ Count (Units units.Div) ∷ Latency units.Div ∷ Count (Units units.Mem) ∷ Latency units.Mem
-    ∷ Count (Units units.Bru) ∷ Latency units.Bru ∷ Count Buses ∷ Count Width ∷ []
-
-abbrev pub name_of_setting : Setting → List ℕ
-name_of_setting (Count (Stations pool)) = name_of_pool pool
-name_of_setting (Count (Units unit)) = name_of_unit unit ++ codes "_units"
-name_of_setting (Count Buses) = codes "buses"
-name_of_setting (Count Width) = codes "width"
-name_of_setting (Latency unit) = name_of_unit unit ++ codes "_latency"
-
-abbrev pub setting_of : Configuration → Setting → ℕ
-setting_of config (Count part) = count_of config part
-setting_of config (Latency unit) = (option_of config unit).latency
-
--- two of the rows differ in it: some row and the first one
-unfoldable pub differs : List Configuration → Setting → Bool
-differs [] setting = false
-differs (first ∷ rows) setting = list_any (λ config. not (setting_of config setting == setting_of first setting)) rows
+use Rattle.tomex_config.specs.declared.setting.Setting.{Setting}
+use Rattle.tomex_config.specs.declared.setting.Setting.TheVariants.{Count, Latency}
 
 abbrev pub name_of_heading : Heading → List ℕ
 name_of_heading OfRow = codes "row"

@@ -14,7 +14,7 @@ use Rattle.tomex_timing.proofs.Histories.{length-times_in}
 use Rattle.tomex_timing.proofs.WaitLists.{length-waits_in}
 use Rattle.tomex_timing.specs.Needs.{waits_in}
 use Rattle.tomex_timing.specs.Search.{times_in}
-use Rattle.tomex_timing.specs.declared.part.Waits.{Waits}
+use Rattle.tomex_timing.specs.declared.need.Waits.{Waits}
 use Rattle.tomex_timing.specs.declared.times.Times.{Times}
 use Rattle.tomex_symbols.specs.declared.symbol.Symbol.{Symbol}
 use Rattle.tomex_symbols.specs.Functions.{AreNumbered}

@@ -1,7 +1,7 @@
 -- Names, their sums, their order and their fields, of some functions, computed by the definitions themselves.
 use Rattle.std.proofs.Common.{◌≡◌, refl, ℕ, true, false, List, [], ◌∷◌, Option, Some, None, codes, map}
 use Rattle.std.specs.Fmt.{digits}
-use Rattle.tomex_worth.specs.Differences.{signed_difference}
+use Rattle.tomex_layout.specs.Differences.{signed_difference}
 use Rattle.tomex_function_changes.specs.Changes.{change_fields, nameless}
 use Rattle.tomex_function_changes.specs.Laws.{records_of, sum_of_changes}
 use Rattle.tomex_function_changes.specs.Shares.{Both, Entry, change_named, goes_before, has_name, no_entries, no_share}

@@ -17,7 +17,7 @@ use Rattle.tomex_functions.specs.ByFunction.{AreRows}
 use Rattle.tomex_functions.specs.Calls.{calls_in}
 use Rattle.tomex_functions.specs.ShownNames.{shown_function}
 use Rattle.tomex_functions.specs.declared.rows.Row.{Row}
-use Rattle.tomex_worth.specs.Differences.{signed_difference}
+use Rattle.tomex_layout.specs.Differences.{signed_difference}
 use Rattle.tomex_function_changes.specs.Shares.{AreNames, Both, Entry, change_named, has_name}
 use Rattle.tomex_function_changes.specs.declared.shares.Share.{Share}
 use Rattle.tomex_function_changes.specs.declared.shares.Change.{Change}

@@ -18,10 +18,9 @@ use csv::{ByteRecord, Writer};
 use std::alloc::{AllocError, Allocator, Global};
 use tomex_config::Config;
 use tomex_functions::FunctionsError;
-use tomex_layout::{into_text, push_names, put_record};
+use tomex_layout::{into_text, push_names, put_record, push_signed};
 use tomex_run_views::push_decimals;
 use tomex_symbols::has_symbols;
-use tomex_worth::push_signed;
 
 /// Adds what a name's functions take of both runs, and by how many cycles the new one takes more or fewer.
 fn push_change(

@@ -1,6 +1,5 @@
 pub mod Pieces
 mod Rows
-pub mod Firsts
 mod Widths
 pub mod Loops
 pub mod Each

@@ -1,6 +1,9 @@
 pub mod Csv
 pub mod Aligned
 pub mod Hundredths
+pub mod Differences
+pub mod Rates
+pub mod Lists
 pub mod Names
 pub mod Growth
 pub mod Table

@@ -6,7 +6,7 @@ ghost use Rattle.tomex_layout.specs.Table.{aligned_in, has_line, with_entry};
 
 use std::alloc::{AllocError, Allocator, Global};
 use std::marker::Model;
-use tomex_layout::push_aligned;
+use crate::aligned::push_aligned;
 
 /// A column: a name, and an entry for each line.
 #[derive(Drop)]

@@ -5,7 +5,7 @@ ghost use Rattle.tomex_layout.specs.RowColumns.{heading_column, name_of_heading,
 ghost use Rattle.tomex_layout.specs.RowColumns.{row_columns};
 
 use std::alloc::{AllocError, Global};
-use tomex_layout::Column;
+use crate::column::Column;
 use tomex_pareto::FrontRow;
 
 /// A property of a row.

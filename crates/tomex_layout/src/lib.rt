@@ -5,20 +5,28 @@
 
 mod aligned;
 mod column;
+mod differences;
 mod fields;
 mod headings;
 mod hundredths;
+mod lists;
 mod names;
 mod percents;
+mod rates;
 mod table;
 mod writing;
 
 pub use aligned::{push_aligned, push_aligned_number, push_left_aligned};
 pub use column::Column;
+pub use differences::{percent, push_percent, push_signed, signed_difference};
 pub use fields::{push_decimal, push_instruction, push_names};
 pub use headings::push_row_columns;
 pub use hundredths::push_hundredths;
+pub use lists::{
+    entry_text, name_of_list, name_of_setting, push_entry, push_name_of_list, push_name_of_setting,
+};
 pub use names::{push_shown, shown_name};
 pub use percents::percent_text;
+pub use rates::{push_rate, rate_text};
 pub use table::table_of;
 pub use writing::{into_text, put_record};

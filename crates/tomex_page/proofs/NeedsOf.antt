@@ -7,8 +7,8 @@ use Rattle.tomex_study.specs.Program.{Workload}
 use Rattle.tomex_timing.specs.Needs.{AreNeeds, no_need}
 use Rattle.tomex_timing.specs.Search.{history}
 use Rattle.tomex_timing.specs.declared.needs.Needs.{Needs}
-use Rattle.tomex_timing.specs.declared.part.Need.{Need}
-use Rattle.tomex_timing.specs.declared.part.Part.TheVariants.{Stations, Units, Buses, Width}
+use Rattle.tomex_timing.specs.declared.need.Need.{Need}
+use Rattle.tomex_config.specs.declared.part.Part.TheVariants.{Stations, Units, Buses, Width}
 use Rattle.tomex_timing.specs.declared.times.Done.{Done}
 use Rattle.tomex_page_tables.specs.Asked.{steps_of}
 use Rattle.tomex_page.specs.Runs.{needs_in, needs_on}

@@ -2,17 +2,19 @@
 use Rattle.std.specs.Prelude.{ℕ, List, map}
 use Rattle.tomex_config.specs.Configuration.{Configuration}
 use Rattle.tomex_config.specs.Cost.{all_pools}
-use Rattle.tomex_floor.specs.Floor.{floor_of, latency_of}
+use Rattle.tomex_floor.specs.Floor.{floor_of}
+use Rattle.tomex_config.specs.Configuration.{latency_of}
 use Rattle.tomex_path.specs.Path.{path_of}
 use Rattle.tomex_path.specs.declared.link.Link.{Link}
 use Rattle.tomex_study.specs.Program.{Workload}
 use Rattle.tomex_timing.specs.History.{greatest_end, last_issue}
-use Rattle.tomex_timing.specs.Needs.{all_units, peak, stalls, stalls_by}
+use Rattle.tomex_timing.specs.Needs.{peak, stalls, stalls_by}
+use Rattle.tomex_config.specs.Cost.{all_units}
 use Rattle.tomex_timing.specs.Search.{history}
 use Rattle.tomex_timing.specs.declared.needs.Needs.{Needs}
-use Rattle.tomex_timing.specs.declared.part.Need.{Need}
-use Rattle.tomex_timing.specs.declared.part.Part.{Part}
-use Rattle.tomex_timing.specs.declared.part.Part.TheVariants.{Stations, Units, Buses, Width}
+use Rattle.tomex_timing.specs.declared.need.Need.{Need}
+use Rattle.tomex_config.specs.declared.part.Part.{Part}
+use Rattle.tomex_config.specs.declared.part.Part.TheVariants.{Stations, Units, Buses, Width}
 use Rattle.tomex_timing.specs.declared.times.Done.{Done}
 use Rattle.tomex_page_tables.specs.Asked.{steps_of}
 

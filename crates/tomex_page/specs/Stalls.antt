@@ -6,10 +6,12 @@ use Rattle.std.specs.List.{flat_map}
 use Rattle.tomex_config.specs.Configuration.{Configuration}
 use Rattle.tomex_config.specs.Cost.{all_pools}
 use Rattle.tomex_html.specs.Html.{table_end, td}
-use Rattle.tomex_timing.specs.Needs.{all_units, count_of, need_of}
+use Rattle.tomex_timing.specs.Needs.{need_of}
+use Rattle.tomex_config.specs.Cost.{all_units}
+use Rattle.tomex_config.specs.Parts.{count_of}
 use Rattle.tomex_timing.specs.declared.needs.Needs.{Needs}
-use Rattle.tomex_timing.specs.declared.part.Part.{Part}
-use Rattle.tomex_timing.specs.declared.part.Part.TheVariants.{Stations, Units, Buses, Width}
+use Rattle.tomex_config.specs.declared.part.Part.{Part}
+use Rattle.tomex_config.specs.declared.part.Part.TheVariants.{Stations, Units, Buses, Width}
 use Rattle.tomex_path.specs.declared.link.Link.{Link}
 use Rattle.tomex_path.specs.declared.reason.Reason.{Reason}
 use Rattle.tomex_path.specs.declared.reason.Reason.TheVariants.{For, Branch, Operand, Address, Memory}

@@ -13,13 +13,13 @@ ghost use Rattle.tomex_run_views.specs.StallsReport.{name_of_part};
 use crate::bars::{push_cycles, push_drained};
 use std::alloc::{AllocError, Allocator, Global};
 use std::fmt::Write;
-use tomex_config::Config;
+use tomex_config::{Config, Part};
 use tomex_html::{push_empty, push_number, push_row_start, push_table_end, push_table_head};
 use tomex_path::{Link, Reason};
 use tomex_path_views::share_of;
 use tomex_run_views::push_name_of_part;
 use tomex_rvdec::{PoolId, UnitId};
-use tomex_timing::{Needs, Part};
+use tomex_timing::Needs;
 
 const POOL_PARTS: [Part; 6] = [
     Part::Stations(PoolId::Alu),

@@ -2,7 +2,7 @@
 use Rattle.std.specs.Prelude.{ℕ, ◌==◌, if◌then◌else◌, List, [], ◌∷◌, ◌++◌, codes, Option, Some, None}
 use Rattle.std.specs.List.{flat_map}
 use Rattle.tomex_choices.specs.Additions.{additions, saving_of}
-use Rattle.tomex_choices.specs.Choices.{most_of}
+use Rattle.tomex_config.specs.Parts.{most_of}
 use Rattle.tomex_choices.specs.Enough.{enough}
 use Rattle.tomex_choices.specs.declared.saving.Saving.{Saving}
 use Rattle.tomex_choices_table.specs.ChoicesTable.{percent_cell}
@@ -10,9 +10,9 @@ use Rattle.tomex_html.specs.Html.{table_end, td}
 use Rattle.tomex_html.specs.Tables.{number_cell, table_head, table_row}
 use Rattle.tomex_page_rows.specs.Lists.{choices_text}
 use Rattle.tomex_study.specs.Study.{DesignSpace}
-use Rattle.tomex_timing.specs.Needs.{all_parts}
-use Rattle.tomex_timing.specs.declared.part.Part.{Part}
-use Rattle.tomex_worth.specs.Worth.{name_of_list}
+use Rattle.tomex_config.specs.Parts.{all_parts}
+use Rattle.tomex_config.specs.declared.part.Part.{Part}
+use Rattle.tomex_layout.specs.Lists.{name_of_list}
 
 -- the choices that are worth adding to a list
 abbrev pub additions_cell : DesignSpace → Part → List ℕ

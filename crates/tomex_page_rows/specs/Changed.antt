@@ -8,8 +8,9 @@ use Rattle.tomex_study.specs.Study.{DesignSpace}
 use Rattle.tomex_front_views.specs.LinkedPlot.{is_shown, link_to}
 use Rattle.tomex_worth.specs.Changes.{changes_of}
 use Rattle.tomex_study.specs.Study.{config_at}
-use Rattle.tomex_worth.specs.Differences.{percent, signed_difference}
-use Rattle.tomex_worth.specs.Worth.{entry_text, name_of_list, rate_text}
+use Rattle.tomex_layout.specs.Differences.{percent, signed_difference}
+use Rattle.tomex_layout.specs.Lists.{entry_text, name_of_list}
+use Rattle.tomex_layout.specs.Rates.{rate_text}
 use Rattle.tomex_worth.specs.declared.changes.Change.{Change}
 use Rattle.tomex_html.specs.Tables.{table_head, table_row}
 use Rattle.tomex_page_tables.specs.Pieces.{more, most_lines}

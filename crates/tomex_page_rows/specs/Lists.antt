@@ -10,9 +10,9 @@ use Rattle.tomex_page_tables.specs.Asked.{entries_text, facet_text, prices_text}
 use Rattle.tomex_page_tables.specs.Pieces.{some}
 use Rattle.tomex_page_tables.specs.declared.choices.Facet.TheVariants.{Choice}
 use Rattle.tomex_study.specs.Study.{DesignSpace}
-use Rattle.tomex_timing.specs.Needs.{all_parts}
-use Rattle.tomex_timing.specs.declared.part.Part.{Part}
-use Rattle.tomex_worth.specs.Worth.{name_of_list}
+use Rattle.tomex_config.specs.Parts.{all_parts}
+use Rattle.tomex_config.specs.declared.part.Part.{Part}
+use Rattle.tomex_layout.specs.Lists.{name_of_list}
 
 -- the texts of some configurations' entries in a part's list, with a sign if there are more than are shown
 abbrev pub choices_text : PriceList → Part → List Configuration → List ℕ

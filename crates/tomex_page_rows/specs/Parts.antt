@@ -4,11 +4,11 @@ use Rattle.std.specs.Fmt.{decimal}
 use Rattle.std.specs.List.{flat_map}
 use Rattle.tomex_html.specs.Html.{cell, table_end, td}
 use Rattle.tomex_config.specs.Cost.{PriceList}
-use Rattle.tomex_timing.specs.Needs.{all_parts}
-use Rattle.tomex_timing.specs.declared.part.Part.{Part}
-use Rattle.tomex_worth.specs.Changes.{same_entry}
-use Rattle.tomex_worth.specs.Worth.{entry_text, name_of_list}
-use Rattle.tomex_page_tables.specs.Asked.{cost_of_part}
+use Rattle.tomex_config.specs.Parts.{all_parts}
+use Rattle.tomex_config.specs.declared.part.Part.{Part}
+use Rattle.tomex_config.specs.Parts.{same_entry}
+use Rattle.tomex_layout.specs.Lists.{entry_text, name_of_list}
+use Rattle.tomex_config.specs.PartPrices.{cost_of_part}
 use Rattle.tomex_page_tables.specs.Front.{more_cost, more_cycles, more_percent}
 use Rattle.tomex_html.specs.Tables.{number_cell, table_head, table_row}
 use Rattle.tomex_page_tables.specs.declared.shown.ShownRow.{ShownRow}

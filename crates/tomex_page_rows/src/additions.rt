@@ -4,19 +4,19 @@ ghost use Rattle.std.specs.Prelude.{◌≡◌, ◌<◌, OnOk};
 ghost use Rattle.std.specs.List.{flat_map};
 ghost use Rattle.tomex_layout.specs.Growth.{Appends};
 ghost use Rattle.tomex_html.specs.Html.{td};
-ghost use Rattle.tomex_timing.specs.Needs.{all_parts};
-ghost use Rattle.tomex_worth.specs.Changes.{part_at};
+ghost use Rattle.tomex_config.specs.Parts.{all_parts};
+ghost use Rattle.tomex_config.specs.Parts.{part_at};
 ghost use Rattle.tomex_choices_table.specs.ChoicesTable.{percent_cell};
 ghost use Rattle.tomex_page_rows.specs.Additions.{addition_cells, addition_row, additions_cell, choices_table};
 ghost use Rattle.tomex_page_rows.specs.Additions.{cost_cell, enough_cell, saving_cells};
 
 use crate::lists::push_choices_cell;
 use std::alloc::{AllocError, Allocator, Global};
-use tomex_choices::{Saving, WeighedChoices, most_of};
+use tomex_choices::{Saving, WeighedChoices};
 use tomex_choices_table::push_saving;
+use tomex_config::Part;
 use tomex_html::{push_empty, push_number, push_table_end, push_table_head};
 use tomex_page_tables::push_list_start;
-use tomex_timing::Part;
 
 /// Adds a cell with a saving's percentage.
 fn push_percent_cell<A: Allocator>(
@@ -62,7 +62,7 @@ fn push_enough_cell<A: Allocator>(
 ) -> Result<(), AllocError>
     ensures { OnOk result (Appends (enough_cell part enough) text.old text.new) }
 {
-    if enough == most_of(part) {
+    if enough == part.most() {
         push_empty(text)
     } else {
         push_number(text, u64::from(enough))
@@ -120,7 +120,7 @@ fn push_addition_rows<A: Allocator, B: Allocator>(
 ) -> Result<(), AllocError>
     ensures { OnOk result (Appends (flat_map (addition_row weighed.now) all_parts) text.old text.new) }
 {
-    for place in 0..13 {
+    for place in 0..Part::ALL.len() {
         push_addition_row(text, heap, weighed, place)?;
     }
     Ok(())

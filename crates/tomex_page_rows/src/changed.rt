@@ -5,19 +5,20 @@ ghost use Rattle.std.specs.List.{flat_map};
 ghost use Rattle.tomex_layout.specs.Growth.{Appends};
 ghost use Rattle.tomex_html.specs.Html.{td};
 ghost use Rattle.tomex_page_rows.specs.Changed.{change_row, changes_table, gain_cells, row_text, to_cells};
-ghost use Rattle.tomex_worth.specs.Worth.{rate_text};
+ghost use Rattle.tomex_layout.specs.Rates.{rate_text};
 
 use crate::parts::push_entry_cell;
 use std::alloc::{AllocError, Allocator, Global};
 use std::fmt::Write;
 use tomex_front_views::is_shown;
 use tomex_html::{push_table_end, push_table_head};
+use tomex_layout::push_rate;
 use tomex_page_tables::{
     first_lines, push_list_start, push_more, push_percent_cell, push_row_link, push_signed_cell,
 };
 use tomex_pareto::FrontRow;
 use tomex_study::Surveyed;
-use tomex_worth::{Change, changes_of, push_rate};
+use tomex_worth::{Change, changes_of};
 
 /// Adds a row's number, which is a link if the row is shown.
 #[tactic(auto, unfolding(crate::specs::Changed::row_text))]

@@ -6,15 +6,14 @@ ghost use Rattle.tomex_layout.specs.Growth.{Appends};
 ghost use Rattle.tomex_html.specs.Html.{cell, td};
 ghost use Rattle.tomex_page_rows.specs.Parts.{against, against_start, against_text, cheapest, cost_row, has_other};
 ghost use Rattle.tomex_page_rows.specs.Parts.{part_cells, part_row, parts_table, was_text};
-ghost use Rattle.tomex_worth.specs.Worth.{entry_text};
+ghost use Rattle.tomex_layout.specs.Lists.{entry_text};
 
 use std::alloc::{AllocError, Allocator};
 use std::fmt::Write;
-use tomex_config::{Config, Prices};
+use tomex_config::{Config, Part, Prices, cost_of_part, same_entry};
 use tomex_html::{cell_start, push_empty, push_number, push_table_end, push_table_head};
-use tomex_page_tables::{ShownRow, all_parts, cost_of_part, push_list_start};
-use tomex_timing::Part;
-use tomex_worth::{push_entry, push_percent, push_signed, same_entry};
+use tomex_layout::{push_entry, push_percent, push_signed};
+use tomex_page_tables::{ShownRow, all_parts, push_list_start};
 
 /// Adds the start of the differences, up to that of cost.
 #[tactic(auto, unfolding(crate::specs::Parts::against_start))]

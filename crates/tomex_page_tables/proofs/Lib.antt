@@ -1,5 +1,4 @@
 -- Lemmas of this crate.
 mod Chosen
-mod Firsts
 mod Programs
 mod Signed

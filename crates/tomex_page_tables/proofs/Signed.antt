@@ -4,7 +4,7 @@ use Rattle.std.specs.Fmt.{decimal}
 use Rattle.std.proofs.lemmas.Bool.{cases_order, eq-eqb, le-ltb, lt-ltb, ne_eqb}
 use Rattle.std.proofs.lemmas.Fmt.{decimal_injective}
 use Rattle.tomex_page_tables.specs.Laws.{Adds, DifferencesAddUp, DifferencesSayOneThing}
-use Rattle.tomex_worth.specs.Differences.{distance, signed_difference}
+use Rattle.tomex_layout.specs.Differences.{distance, signed_difference}
 
 signed_adds : (a b : ℕ) → Adds a (signed_difference a b) b
 unfolding signed_difference

@@ -6,17 +6,19 @@ use Rattle.std.specs.List.{filter, flat_map}
 use Rattle.tomex_rvdec.specs.Text.{instr_text}
 use Rattle.tomex_config.specs.Configuration.{Configuration, option_of}
 use Rattle.tomex_config.specs.Cost.{PriceList, price_of}
+use Rattle.tomex_config.specs.PartPrices.{cost_of_part, price_of_part}
+use Rattle.tomex_config.specs.Parts.{entries_in}
 use Rattle.tomex_html.specs.Html.{table_end, td}
 use Rattle.tomex_rvexec.specs.Run.{start_of}
 use Rattle.tomex_rvexec.specs.Trace.{steps_from}
 use Rattle.tomex_rvexec.specs.declared.step.Step.{Step}
 use Rattle.tomex_study.specs.Program.{Workload}
 use Rattle.tomex_study.specs.Study.{DesignSpace}
-use Rattle.tomex_timing.specs.Needs.{count_of}
-use Rattle.tomex_timing.specs.declared.part.Part.{Part}
-use Rattle.tomex_timing.specs.declared.part.Part.TheVariants.{Stations, Units, Buses, Width}
-use Rattle.tomex_worth.specs.Changes.{same_entry}
-use Rattle.tomex_worth.specs.Worth.{entry_text}
+use Rattle.tomex_config.specs.Parts.{count_of}
+use Rattle.tomex_config.specs.declared.part.Part.{Part}
+use Rattle.tomex_config.specs.declared.part.Part.TheVariants.{Stations, Units, Buses, Width}
+use Rattle.tomex_config.specs.Parts.{same_entry}
+use Rattle.tomex_layout.specs.Lists.{entry_text}
 use Rattle.tomex_html.specs.Tables.{number_cell, table_head, table_row}
 use Rattle.tomex_page_tables.specs.Pieces.{some}
 use Rattle.tomex_page_tables.specs.declared.choices.Facet.{Facet}
@@ -48,23 +50,6 @@ unfoldable pub programs_table : DesignSpace → List ℕ
 programs_table s =
     table_head (codes " class=\"a\"") (codes "Programs") program_names ++ (flat_map program_row s.programs ++ table_end)
 
--- the first rows with each entry of a part's list: they have all entries, each once
-abbrev pub firsts : Part → List Configuration → List Configuration
-firsts part [] = []
-firsts part (config ∷ rows) = config ∷ filter (λ c. not (same_entry config c part)) (firsts part rows)
-
--- the price of one more of a part; a unit option has none
-abbrev pub price_of_part : PriceList → Part → ℕ
-price_of_part prices (Stations pool) = price_of prices pool
-price_of_part prices (Units unit) = 0
-price_of_part prices Buses = prices.bus
-price_of_part prices Width = prices.width
-
--- the cost of a configuration's entry in a part's list: a unit option as a whole, otherwise the count times the price
-abbrev pub cost_of_part : PriceList → Configuration → Part → ℕ
-cost_of_part prices config (Units unit) = (option_of config unit).price
-cost_of_part prices config part = count_of config part * price_of_part prices part
-
 -- the text of a configuration's entry in a part's list
 abbrev pub facet_text : PriceList → Facet → Part → Configuration → List ℕ
 facet_text prices Choice part config = entry_text config part
@@ -72,7 +57,7 @@ facet_text prices Cost part config = decimal (cost_of_part prices config part)
 
 -- the texts of the entries of a list that some row has
 unfoldable pub entries_text : DesignSpace → Facet → Part → List ℕ
-entries_text s facet part = some (facet_text s.prices facet part) (firsts part s.rows)
+entries_text s facet part = some (facet_text s.prices facet part) (entries_in part s.rows)
 
 -- the prices of a list's entries: each option has its price, any other list one for all
 abbrev pub prices_text : DesignSpace → Part → List ℕ

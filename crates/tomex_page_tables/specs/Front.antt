@@ -8,10 +8,11 @@ use Rattle.tomex_timing.specs.Run.{total}
 use Rattle.tomex_pareto.specs.declared.front_row.FrontRow.{FrontRow}
 use Rattle.tomex_study.specs.Program.{Workload}
 use Rattle.tomex_study.specs.Study.{DesignSpace}
-use Rattle.tomex_front_views.specs.FrontTable.{all_settings, differs, name_of_setting, setting_of}
+use Rattle.tomex_config.specs.Settings.{all_settings, differs, setting_of}
+use Rattle.tomex_layout.specs.Lists.{name_of_setting}
 use Rattle.tomex_front_views.specs.LinkedPlot.{link_to}
-use Rattle.tomex_front_views.specs.declared.table.heading.Setting.{Setting}
-use Rattle.tomex_worth.specs.Differences.{percent, signed_difference}
+use Rattle.tomex_config.specs.declared.setting.Setting.{Setting}
+use Rattle.tomex_layout.specs.Differences.{percent, signed_difference}
 use Rattle.tomex_html.specs.Tables.{column_head, head_end, number_cell, table_row, table_start}
 use Rattle.tomex_page_tables.specs.Shown.{row_of}
 use Rattle.tomex_page_tables.specs.declared.shown.ShownRow.{ShownRow}

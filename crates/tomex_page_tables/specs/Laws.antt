@@ -3,8 +3,8 @@ use Rattle.std.specs.Prelude.{◌≡◌, ◌<◌, ◌⊎◌, ◌^◌, ◌+◌, �
 use Rattle.std.specs.Fmt.{decimal}
 use Rattle.tomex_config.specs.Configuration.{Configuration}
 use Rattle.tomex_config.specs.Cost.{PriceList, cost_of}
-use Rattle.tomex_timing.specs.Needs.{all_parts}
-use Rattle.tomex_page_tables.specs.Asked.{cost_of_part}
+use Rattle.tomex_config.specs.Parts.{all_parts}
+use Rattle.tomex_config.specs.PartPrices.{cost_of_part}
 use Rattle.tomex_page_tables.specs.Front.{more_cost, more_cycles}
 use Rattle.tomex_page_tables.specs.declared.shown.ShownRow.{ShownRow}
 

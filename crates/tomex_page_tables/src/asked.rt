@@ -6,16 +6,16 @@ ghost use Rattle.tomex_layout.specs.Growth.{Appends};
 ghost use Rattle.tomex_html.specs.Html.{td};
 ghost use Rattle.tomex_page_tables.specs.Asked.{end_text, program_row, programs_table};
 ghost use Rattle.tomex_html.specs.Tables.{number_cell, row_start};
-ghost use Rattle.tomex_timing.specs.Needs.{all_parts};
-ghost use Rattle.tomex_worth.specs.Worth.{name_of_list};
+ghost use Rattle.tomex_config.specs.Parts.{all_parts};
+ghost use Rattle.tomex_layout.specs.Lists.{name_of_list};
 
 use std::alloc::{AllocError, Allocator};
 use std::fmt::Write;
+use tomex_config::Part;
 use tomex_html::{push_number, push_row_start, push_table_end, push_table_head};
+use tomex_layout::push_name_of_list;
 use tomex_rvexec::Step;
 use tomex_study::{Program, Study};
-use tomex_timing::Part;
-use tomex_worth::push_name_of_list;
 
 /// Adds a cell with the last step's instruction, which ends the run.
 fn push_end<A: Allocator>(text: &mut String<A>, steps: &[Step]) -> Result<(), AllocError>

@@ -10,19 +10,20 @@ ghost use Rattle.tomex_page_tables.specs.Front.{more_cycles};
 ghost use Rattle.tomex_page_tables.specs.Front.{more_percent, own_cells, settings_of};
 ghost use Rattle.tomex_html.specs.Tables.{row_start};
 ghost use Rattle.tomex_page_tables.specs.Shown.{row_of};
-ghost use Rattle.tomex_worth.specs.Differences.{percent, signed_difference};
+ghost use Rattle.tomex_layout.specs.Differences.{percent, signed_difference};
 
 use crate::settings::{own_totals, push_front_heads, push_setting_cells, settings_of};
 use crate::shown::{ShownRow, row_of};
 use std::alloc::{AllocError, Allocator, Global};
 use std::fmt::Write;
-use tomex_front_views::{Setting, push_link_start};
+use tomex_config::Setting;
+use tomex_front_views::push_link_start;
 use tomex_html::{
     push_empty, push_head_end, push_number, push_numbers, push_table_end, push_table_start,
 };
+use tomex_layout::{push_percent, push_signed};
 use tomex_pareto::FrontRow;
 use tomex_study::Surveyed;
-use tomex_worth::{push_percent, push_signed};
 
 /// Adds a cell with the difference from `a` to `b`.
 pub fn push_signed_cell<A: Allocator>(

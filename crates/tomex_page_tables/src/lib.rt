@@ -13,7 +13,7 @@ mod shown;
 mod tables;
 
 pub use asked::{all_parts, push_list_start, push_programs_table};
-pub use choices::{Facet, cost_of_part, push_entries, push_prices, push_some};
+pub use choices::{Facet, push_entries, push_prices, push_some};
 pub use front::{push_front_table, push_percent_cell, push_row_link, push_signed_cell};
 pub use laws::{costs_of_parts_add_up, differences_add_up};
 pub use shown::{MOST_ROWS, ShownRow, row_of, shown_rows};

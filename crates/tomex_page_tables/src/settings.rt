@@ -4,7 +4,9 @@
 ghost use Rattle.std.specs.Prelude.{◌≡◌, ◌<◌, length, map, IfOk, OnOk};
 ghost use Rattle.std.specs.List.{flat_map};
 ghost use Rattle.tomex_layout.specs.Growth.{Appends};
-ghost use Rattle.tomex_front_views.specs.FrontTable.{all_settings, config_of, name_of_setting};
+ghost use Rattle.tomex_front_views.specs.FrontTable.{config_of};
+ghost use Rattle.tomex_config.specs.Settings.{all_settings};
+ghost use Rattle.tomex_layout.specs.Lists.{name_of_setting};
 ghost use Rattle.tomex_page_tables.specs.Front.{column_heads, own_programs, setting_cell, settings_of, sets_anew};
 ghost use Rattle.tomex_html.specs.Tables.{column_head};
 ghost use Rattle.tomex_study.specs.Cycles.{total_at};
@@ -12,8 +14,9 @@ ghost use Rattle.tomex_study.specs.Cycles.{total_at};
 use crate::shown::ShownRow;
 use std::alloc::{AllocError, Allocator, Global};
 use std::fmt::Write;
-use tomex_front_views::Setting;
+use tomex_config::Setting;
 use tomex_html::{cell_start, push_column_head, push_column_heads};
+use tomex_layout::push_name_of_setting;
 use tomex_study::{Program, Study, Surveyed};
 
 fn all_settings() -> &'static [Setting]
@@ -106,7 +109,7 @@ fn push_setting_head<A: Allocator>(text: &mut String<A>, setting: Setting) -> Re
     ensures { OnOk result (Appends (column_head (name_of_setting setting)) text.old text.new) }
 {
     text.push_str("<th scope=\"col\">")?;
-    setting.push_name(text)?;
+    push_name_of_setting(text, setting)?;
     write!(text, "</th>")
 }
 

@@ -3,7 +3,7 @@
 ghost use Rattle.std.specs.Prelude.{◌≡◌};
 ghost use Rattle.tomex_pareto.specs.Percent.{percent_by};
 
-use tomex_pareto::FrontRow;
+use crate::front_row::FrontRow;
 
 /// The percentage by which the amounts may be wrong if there is only one rival: how much more it costs, in percent
 /// of `apart`, what the parts that the two don't have in common cost. 100 if it sets no bound.

@@ -12,11 +12,11 @@ use Rattle.tomex_rvexec.specs.declared.step.Step.{Step}
 use Rattle.tomex_config.specs.Configuration.{Configuration, option_of, plain_option, with_option}
 use Rattle.tomex_config.specs.declared.config.UnitOption.{UnitOption}
 use Rattle.tomex_timing.specs.Ahead.{one}
-use Rattle.tomex_timing.specs.declared.part.Part.TheVariants as parts
+use Rattle.tomex_config.specs.declared.part.Part.TheVariants as parts
 use Rattle.tomex_timing.specs.declared.times.Done.{Done}
 use Rattle.tomex_timing.specs.History.{greatest_end}
 use Rattle.tomex_timing.proofs.Limits.{same_unit}
-use Rattle.tomex_floor.specs.Floor.{latency_of}
+use Rattle.tomex_config.specs.Configuration.{latency_of}
 use Rattle.tomex_floor.proofs.Above.{steps_of}
 use Rattle.tomex_path.specs.declared.event.Holder.TheVariants.{Last}
 use Rattle.tomex_path.specs.declared.link.Link.{Link}

@@ -8,12 +8,13 @@ use Rattle.tomex_rvdec.specs.declared.pool.UnitId.{UnitId}
 use Rattle.tomex_rvdec.specs.declared.pool.UnitId.TheVariants as units
 use Rattle.tomex_rvexec.specs.declared.step.Step.{Step}
 use Rattle.tomex_config.specs.Configuration.{Configuration, IsWithinLimits, option_of}
-use Rattle.tomex_timing.specs.declared.part.Part.TheVariants as parts
+use Rattle.tomex_config.specs.declared.part.Part.TheVariants as parts
 use Rattle.tomex_timing.specs.declared.times.Done.{Done}
 use Rattle.tomex_timing.specs.Search.{history, timed_of, times_in, total_of}
 use Rattle.tomex_timing.proofs.Histories.{are_timed, total_is}
 use Rattle.tomex_timing.proofs.Limits.{width_low}
-use Rattle.tomex_floor.specs.Floor.{all_without_station, floor_of, floors_of, latency_of, unlimited}
+use Rattle.tomex_floor.specs.Floor.{all_without_station, floor_of, floors_of, unlimited}
+use Rattle.tomex_config.specs.Configuration.{latency_of}
 use Rattle.tomex_floor.proofs.Above.{floor_is_bound, steps_of}
 use Rattle.tomex_floor.proofs.Reached.{floors_reached}
 use Rattle.tomex_path.specs.declared.link.Link.{Link}

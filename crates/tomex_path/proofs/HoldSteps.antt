@@ -3,8 +3,8 @@ use Rattle.std.proofs.Common.{ℕ, ◌+◌, ◌-◌, ◌≤◌, ◌≡◌, ◌�
 use Rattle.std.specs.Prelude.{nat_lt}
 use Rattle.std.proofs.lemmas.Bool.{cases_Bool, eq-eqb, le-ltb}
 use Rattle.tomex_rvexec.specs.Steps.{j_of, k_of, step_unit}
-use Rattle.tomex_timing.specs.declared.part.Part.TheVariants.{Width}
-use Rattle.tomex_timing.specs.declared.part.Waits.{Waits}
+use Rattle.tomex_config.specs.declared.part.Part.TheVariants.{Width}
+use Rattle.tomex_timing.specs.declared.need.Waits.{Waits}
 use Rattle.tomex_timing.specs.declared.times.Done.{Done}
 use Rattle.tomex_timing.specs.History.{cycle_of}
 use Rattle.tomex_timing.specs.Tables.{tag_of}

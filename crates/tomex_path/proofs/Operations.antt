@@ -12,9 +12,9 @@ use Rattle.tomex_config.specs.Configuration.{Configuration}
 use Rattle.tomex_config.specs.Cost.{all_units}
 use Rattle.tomex_timing.specs.Ahead.{one}
 use Rattle.tomex_timing.specs.History.{is_of}
-use Rattle.tomex_timing.specs.declared.part.Part.TheVariants.{Width}
+use Rattle.tomex_config.specs.declared.part.Part.TheVariants.{Width}
 use Rattle.tomex_timing.specs.declared.times.Done.{Done}
-use Rattle.tomex_floor.specs.Floor.{latency_of}
+use Rattle.tomex_config.specs.Configuration.{latency_of}
 use Rattle.tomex_path.specs.declared.link.Link.{Link}
 use Rattle.tomex_path.specs.declared.reason.Reason.{Reason}
 use Rattle.tomex_path.specs.Bound.{latency_on, operating, operations, saved_by_width}

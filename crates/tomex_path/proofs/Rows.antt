@@ -6,7 +6,7 @@ use Rattle.tomex_rvdec.specs.declared.pool.UnitId.{UnitId}
 use Rattle.tomex_rvdec.specs.declared.pool.UnitId.TheVariants as units
 use Rattle.tomex_rvexec.specs.declared.step.Step.{Step}
 use Rattle.tomex_config.specs.Configuration.{Configuration, config_of, with_option}
-use Rattle.tomex_timing.specs.declared.part.Part.TheVariants.{Buses, Stations, Units, Width}
+use Rattle.tomex_config.specs.declared.part.Part.TheVariants.{Buses, Stations, Units, Width}
 use Rattle.tomex_timing.specs.History.{greatest_end}
 use Rattle.tomex_timing.specs.Search.{history, times_of}
 use Rattle.tomex_timing.proofs.Programs.{addi, mul, ebreak, step, instr, two_alu_stations, with_latency}

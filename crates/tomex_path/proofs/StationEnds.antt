@@ -6,7 +6,7 @@ use Rattle.std.proofs.lemmas.Bool.Decides.{nat_tests}
 use Rattle.tomex_rvdec.specs.declared.pool.PoolId.{PoolId}
 use Rattle.tomex_rvexec.specs.Steps.{is_in, is_number, step_pool}
 use Rattle.tomex_config.specs.Configuration.{Configuration, IsWithinLimits, stations_of}
-use Rattle.tomex_timing.specs.declared.part.Part.TheVariants.{Stations}
+use Rattle.tomex_config.specs.declared.part.Part.TheVariants.{Stations}
 use Rattle.tomex_timing.specs.declared.times.Done.{Done}
 use Rattle.tomex_timing.specs.History.{last_issue}
 use Rattle.tomex_timing.specs.Needs.{waits_of}

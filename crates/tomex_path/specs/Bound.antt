@@ -8,12 +8,13 @@ use Rattle.tomex_rvexec.specs.declared.step.Step.{Step}
 use Rattle.tomex_config.specs.Configuration.{Configuration, IsWithinLimits, stations_of, with_option}
 use Rattle.tomex_config.specs.Cost.{all_units}
 use Rattle.tomex_config.specs.declared.config.UnitOption.{UnitOption}
-use Rattle.tomex_timing.specs.declared.part.Part.TheVariants.{Stations, Units, Buses, Width}
+use Rattle.tomex_config.specs.declared.part.Part.TheVariants.{Stations, Units, Buses, Width}
 use Rattle.tomex_timing.specs.declared.times.Done.{Done}
 use Rattle.tomex_timing.specs.History.{greatest_end, is_of}
 use Rattle.tomex_timing.specs.Recurrence.{AreTimed}
 use Rattle.tomex_timing.specs.Search.{history, times_in, total_of}
-use Rattle.tomex_floor.specs.Floor.{floor_of, latency_of}
+use Rattle.tomex_floor.specs.Floor.{floor_of}
+use Rattle.tomex_config.specs.Configuration.{latency_of}
 use Rattle.tomex_path.specs.declared.link.Link.{Link}
 use Rattle.tomex_path.specs.declared.reason.Reason.{Reason}
 use Rattle.tomex_path.specs.declared.reason.Reason.TheVariants.{For}

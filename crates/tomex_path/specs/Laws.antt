@@ -8,14 +8,16 @@ use Rattle.tomex_rvdec.specs.declared.pool.UnitId.{UnitId}
 use Rattle.tomex_rvexec.specs.Steps.{step_dest, step_unit}
 use Rattle.tomex_rvexec.specs.declared.step.Step.{Step}
 use Rattle.tomex_config.specs.Configuration.{Configuration, IsWithinLimits, option_of}
-use Rattle.tomex_timing.specs.declared.part.Part.{Part}
-use Rattle.tomex_timing.specs.declared.part.Part.TheVariants.{Stations, Units, Buses, Width}
+use Rattle.tomex_config.specs.declared.part.Part.{Part}
+use Rattle.tomex_config.specs.declared.part.Part.TheVariants.{Stations, Units, Buses, Width}
 use Rattle.tomex_timing.specs.declared.times.Done.{Done}
 use Rattle.tomex_timing.specs.History.{cycle_of, greatest_end, is_memory, last_issue}
-use Rattle.tomex_timing.specs.Needs.{all_parts, stalls, waits_of}
+use Rattle.tomex_timing.specs.Needs.{stalls, waits_of}
+use Rattle.tomex_config.specs.Parts.{all_parts}
 use Rattle.tomex_timing.specs.Recurrence.{AreTimed}
 use Rattle.tomex_timing.specs.Search.{history, times_in, total_of}
-use Rattle.tomex_floor.specs.Floor.{floor_of, latency_of}
+use Rattle.tomex_floor.specs.Floor.{floor_of}
+use Rattle.tomex_config.specs.Configuration.{latency_of}
 use Rattle.tomex_path.specs.declared.event.Event.{Event}
 use Rattle.tomex_path.specs.declared.event.Holder.{Holder}
 use Rattle.tomex_path.specs.declared.hold.Hold.{Hold}

@@ -4,8 +4,8 @@ use Rattle.std.specs.Prelude.{reverse, take}
 use Rattle.tomex_rvexec.specs.Steps.{j_of, k_of}
 use Rattle.tomex_rvexec.specs.declared.step.Step.{Step}
 use Rattle.tomex_config.specs.Configuration.{Configuration, IsWithinLimits}
-use Rattle.tomex_timing.specs.declared.part.Part.TheVariants.{Stations, Units, Buses, Width}
-use Rattle.tomex_timing.specs.declared.part.Waits.{Waits}
+use Rattle.tomex_config.specs.declared.part.Part.TheVariants.{Stations, Units, Buses, Width}
+use Rattle.tomex_timing.specs.declared.need.Waits.{Waits}
 use Rattle.tomex_timing.specs.declared.recent.Facts.{Facts}
 use Rattle.tomex_timing.specs.declared.times.Done.{Done}
 use Rattle.tomex_timing.specs.declared.times.Times.{Times}

@@ -4,7 +4,7 @@ ghost use Rattle.std.specs.Prelude.{◌≡◌};
 ghost use Rattle.tomex_path.specs.Seen.{noted_wait};
 
 use crate::note::Seen;
-use tomex_timing::Part;
+use tomex_config::Part;
 
 /// What a step waited for last, before the first cycle of its link; `Order` if for nothing, except its turn.
 #[derive(Clone, Copy, Debug, PartialEq, Eq)]

@@ -6,7 +6,7 @@ ghost use Rattle.csv.specs.Records.{fields_of, partial_of};
 ghost use Rattle.tomex_rvexec.specs.Run.{start_of};
 ghost use Rattle.tomex_rvexec.specs.Trace.{steps_from};
 ghost use Rattle.tomex_rvdec.specs.Parts.{name_of_unit};
-ghost use Rattle.tomex_timing.specs.Needs.{all_units};
+ghost use Rattle.tomex_config.specs.Cost.{all_units};
 ghost use Rattle.tomex_layout.specs.Csv.{IsReady, record_text};
 ghost use Rattle.tomex_layout.specs.Growth.{Appends, Writes};
 ghost use Rattle.tomex_path.specs.Laws.{all_reasons};
@@ -19,13 +19,12 @@ use crate::shares::{Share, operations, share_of, whole_share};
 use csv::{ByteRecord, Writer};
 use std::alloc::{AllocError, Allocator, Global};
 use std::fmt::Write;
-use tomex_config::Config;
+use tomex_config::{Config, Part};
 use tomex_layout::{into_text, push_decimal, push_names, put_record};
 use tomex_path::{Link, Reason, path};
 use tomex_run_views::push_name_of_part;
 use tomex_rvdec::{PoolId, UnitId};
 use tomex_study::Program;
-use tomex_timing::Part;
 
 /// The reasons, in the order of the report.
 const REASONS: [Reason; 18] = [

@@ -14,7 +14,8 @@ use std::alloc::{AllocError, Allocator};
 use tomex_path::{Link, Reason};
 use tomex_run_views::{Sum, Tally, push_decimals};
 use tomex_rvexec::Step;
-use tomex_timing::{Part, Waits};
+use tomex_timing::Waits;
+use tomex_config::Part;
 
 /// The names of the columns of sums.
 pub const CHARGE_COLUMNS: [&str; 11] = [

@@ -9,7 +9,7 @@ ghost use Rattle.tomex_path_views.specs.Shares.{AreShort, IsShort, share_after, 
 
 use tomex_path::{Link, Reason};
 use tomex_rvdec::UnitId;
-use tomex_timing::Part;
+use tomex_config::Part;
 
 /// How many links there are, how long their steps had waited, and how many cycles are theirs.
 #[derive(Clone, Copy)]

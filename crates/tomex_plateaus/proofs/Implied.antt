@@ -10,11 +10,13 @@ use Rattle.tomex_rvdec.specs.declared.pool.UnitId.TheVariants as units
 use Rattle.tomex_config.specs.Configuration.{Configuration, IsWithinLimits, option_of}
 use Rattle.tomex_timing.specs.declared.demands.Demand.{Demand}
 use Rattle.tomex_timing.specs.declared.demands.Demands.{Demands}
-use Rattle.tomex_timing.specs.declared.part.Part.{Part}
-use Rattle.tomex_timing.specs.declared.part.Part.TheVariants.{Stations, Units, Buses, Width}
+use Rattle.tomex_config.specs.declared.part.Part.{Part}
+use Rattle.tomex_config.specs.declared.part.Part.TheVariants.{Stations, Units, Buses, Width}
 use Rattle.tomex_timing.specs.declared.times.Done.{Done}
 use Rattle.tomex_timing.specs.Demands.{AreDemands, demand_of}
-use Rattle.tomex_timing.specs.Needs.{Serves, all_parts, all_units, count_of, peak, stalls}
+use Rattle.tomex_timing.specs.Needs.{Serves, peak, stalls}
+use Rattle.tomex_config.specs.Parts.{all_parts, count_of}
+use Rattle.tomex_config.specs.Cost.{all_units}
 use Rattle.tomex_timing.specs.Search.{history, times_in, total_of}
 use Rattle.tomex_rvexec.specs.declared.step.Step.{Step}
 use Rattle.tomex_timing.proofs.Demanded.{demand_is, demands_total}

@@ -10,7 +10,7 @@ ghost use Rattle.tomex_study.specs.Program.{IsProgram, Workload};
 use std::alloc::{AllocError, Allocator};
 use std::marker::Model;
 use tomex_config::Config;
-use tomex_plateaus::Plateaus;
+use crate::plateaus::Plateaus;
 use tomex_study::Program;
 
 /// For each of a study's programs, plateaus on which its total is known, each learnt from an

@@ -5,9 +5,9 @@ ghost use Rattle.tomex_plateaus.specs.Plateaus.{counts_of, latencies_of, lies_on
 ghost use Rattle.tomex_plateaus.specs.Plateaus.{stations_for, units_for, latency_for};
 
 use crate::interval::Interval;
-use tomex_config::Config;
+use tomex_config::{Config, Part};
 use tomex_rvdec::{PoolId, UnitId};
-use tomex_timing::{Demands, Part};
+use tomex_timing::Demands;
 
 /// A region of the design space, given by the counts of each part and the latencies of each kind of
 /// unit, and the cycles that a program takes on every configuration of it.

@@ -6,7 +6,7 @@ use Rattle.std.proofs.lemmas.List.{append-nil, drop_all}
 use Rattle.tomex_rvdec.specs.declared.pool.UnitId.{UnitId}
 use Rattle.tomex_config.specs.Configuration.{Configuration, option_of}
 use Rattle.tomex_config.specs.declared.config.UnitOption.{UnitOption}
-use Rattle.tomex_layout.proofs.Firsts.{filter_every, next_first}
+use Rattle.tomex_prices.proofs.Firsts.{filter_every, next_first}
 use Rattle.tomex_prices.specs.declared.price.Price.{Price}
 use Rattle.tomex_prices.specs.declared.price.Price.TheVariants.{Choice}
 use Rattle.tomex_config.specs.Configuration.{same_option}

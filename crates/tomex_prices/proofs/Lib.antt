@@ -14,3 +14,4 @@ pub mod NewCosts
 pub mod Factors
 pub mod Together
 mod Worked
+pub mod Firsts

@@ -18,11 +18,12 @@ use Rattle.tomex_rvexec.specs.Trace.{steps_from}
 use Rattle.tomex_config.specs.declared.config.UnitOption.{UnitOption}
 use Rattle.tomex_config.specs.Configuration.{Configuration, IsWithinLimits, is_between, is_option, option_of}
 use Rattle.tomex_config.specs.Configuration.{plain_option, with_option}
-use Rattle.tomex_timing.specs.declared.part.Part.{Part}
-use Rattle.tomex_timing.specs.declared.part.Part.TheVariants.{Stations, Units, Buses, Width}
+use Rattle.tomex_config.specs.declared.part.Part.{Part}
+use Rattle.tomex_config.specs.declared.part.Part.TheVariants.{Stations, Units, Buses, Width}
 use Rattle.tomex_timing.specs.declared.times.Done.{Done}
 use Rattle.tomex_timing.specs.History.{greatest_end}
-use Rattle.tomex_timing.specs.Needs.{Serves, count_of}
+use Rattle.tomex_timing.specs.Needs.{Serves}
+use Rattle.tomex_config.specs.Parts.{count_of}
 use Rattle.tomex_timing.specs.Search.{history}
 use Rattle.tomex_timing.proofs.Limits.{unit_in}
 use Rattle.tomex_timing.proofs.SameTimes.{serves_history}

@@ -12,8 +12,8 @@ use Rattle.tomex_timing.specs.Laws.{work_by}
 use Rattle.tomex_timing.specs.Needs.{stalls, stalls_by, waits_in, waits_of}
 use Rattle.tomex_timing.specs.Recurrence.{AreTimed}
 use Rattle.tomex_timing.specs.Search.{history, times_in, times_of}
-use Rattle.tomex_timing.specs.declared.part.Part.TheVariants.{Width}
-use Rattle.tomex_timing.specs.declared.part.Waits.{Waits}
+use Rattle.tomex_config.specs.declared.part.Part.TheVariants.{Width}
+use Rattle.tomex_timing.specs.declared.need.Waits.{Waits}
 use Rattle.tomex_timing.specs.declared.times.Done.{Done}
 use Rattle.tomex_timing.specs.declared.times.Times.{Times}
 use Rattle.tomex_timing.proofs.Accounts.{issue_cycles, kind_stalls, station_cycles, station_stalls}

@@ -20,7 +20,7 @@ use Rattle.tomex_config.specs.Configuration.{Configuration, IsWithinLimits}
 use Rattle.tomex_timing.specs.Needs.{drain, waits_in}
 use Rattle.tomex_timing.specs.Search.{history}
 use Rattle.tomex_timing.specs.Waiting.{AreWithin}
-use Rattle.tomex_timing.specs.declared.part.Waits.{Waits}
+use Rattle.tomex_timing.specs.declared.need.Waits.{Waits}
 use Rattle.tomex_layout.specs.Csv.{record_text}
 use Rattle.tomex_run_views.specs.ByPlace.{AreKeys, IsReportWith, Visit, dashes, pc_of, place_record, report_at}
 use Rattle.tomex_run_views.specs.ByPlace.{sum_columns, visits_in, visits_of}

@@ -12,7 +12,7 @@ use Rattle.tomex_rvexec.specs.declared.step.Step.{Step}
 use Rattle.tomex_config.specs.Configuration.{Configuration}
 use Rattle.tomex_timing.specs.Needs.{drain, waits_in}
 use Rattle.tomex_timing.specs.Search.{history, times_in}
-use Rattle.tomex_timing.specs.declared.part.Waits.{Waits}
+use Rattle.tomex_timing.specs.declared.need.Waits.{Waits}
 use Rattle.tomex_timing.specs.declared.times.Times.{Times}
 use Rattle.tomex_layout.specs.Csv.{record_text}
 

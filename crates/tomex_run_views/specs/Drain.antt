@@ -5,7 +5,7 @@ use Rattle.tomex_rvexec.specs.Steps.{step_dest, step_unit}
 use Rattle.tomex_rvexec.specs.declared.step.Step.{Step}
 use Rattle.tomex_config.specs.Configuration.{Configuration}
 use Rattle.tomex_timing.specs.Laws.{work_by}
-use Rattle.tomex_timing.specs.declared.part.Waits.{Waits}
+use Rattle.tomex_timing.specs.declared.need.Waits.{Waits}
 
 -- the cycles from a step's issue to its end: its waits, its latency, and a cycle on a bus for its result
 abbrev pub cycles_in_unit : Configuration → Option UnitId → Step → Waits → ℕ

@@ -7,12 +7,14 @@ use Rattle.tomex_rvdec.specs.Parts.{name_of_pool, name_of_unit}
 use Rattle.tomex_rvdec.specs.declared.pool.UnitId.{UnitId}
 use Rattle.tomex_rvexec.specs.declared.step.Step.{Step}
 use Rattle.tomex_config.specs.Configuration.{Configuration}
-use Rattle.tomex_timing.specs.Needs.{AreNeeds, all_parts, count_of, need_of}
+use Rattle.tomex_timing.specs.Needs.{AreNeeds, need_of}
+use Rattle.tomex_config.specs.Parts.{all_parts, count_of}
 use Rattle.tomex_timing.specs.Search.{history}
 use Rattle.tomex_timing.specs.declared.needs.Needs.{Needs}
-use Rattle.tomex_timing.specs.declared.part.Part.{Part}
-use Rattle.tomex_timing.specs.declared.part.Part.TheVariants.{Stations, Units, Buses, Width}
-use Rattle.tomex_floor.specs.Floor.{floor_of, latency_of}
+use Rattle.tomex_config.specs.declared.part.Part.{Part}
+use Rattle.tomex_config.specs.declared.part.Part.TheVariants.{Stations, Units, Buses, Width}
+use Rattle.tomex_floor.specs.Floor.{floor_of}
+use Rattle.tomex_config.specs.Configuration.{latency_of}
 use Rattle.tomex_layout.specs.Csv.{record_text}
 
 abbrev pub header : List (List ℕ)

@@ -7,8 +7,9 @@ ghost use Rattle.tomex_rvdec.specs.declared.pool.UnitId.{UnitId};
 ghost use Rattle.tomex_rvexec.specs.declared.step.Step.{Step};
 ghost use Rattle.tomex_rvexec.specs.Run.{start_of};
 ghost use Rattle.tomex_rvexec.specs.Trace.{steps_from};
-ghost use Rattle.tomex_timing.specs.Needs.{all_parts};
-ghost use Rattle.tomex_floor.specs.Floor.{floors_by_width, latency_of};
+ghost use Rattle.tomex_config.specs.Parts.{all_parts};
+ghost use Rattle.tomex_floor.specs.Floor.{floors_by_width};
+ghost use Rattle.tomex_config.specs.Configuration.{latency_of};
 ghost use Rattle.tomex_layout.specs.Csv.{IsReady, record_text};
 ghost use Rattle.tomex_layout.specs.Growth.{Appends, Writes};
 ghost use Rattle.tomex_run_views.specs.StallsReport.{IsStallsReport, floor_record, floor_records, header};
@@ -18,11 +19,11 @@ ghost use Rattle.tomex_run_views.specs.StallsReport.{part_fields, part_record, r
 use csv::{ByteRecord, Writer};
 use std::alloc::{AllocError, Allocator, Global};
 use std::fmt::Write;
-use tomex_config::Config;
+use tomex_config::{Config, Part};
 use tomex_floor::floors;
 use tomex_layout::{into_text, push_decimal, push_names, put_record};
 use tomex_study::Program;
-use tomex_timing::{Needs, Part};
+use tomex_timing::Needs;
 
 /// Writes the names of the columns.
 fn put_header<A: Allocator>(writer: &mut Writer<Vec<u8, A>>, heap: Global) -> Result<(), AllocError>

@@ -2,13 +2,13 @@
 
 use std::alloc::{AllocError, Global};
 use std::test::Fail;
-use tomex_config::Config;
+use tomex_config::{Config, Part};
 use tomex_rvexec::{Step, trace};
 use tomex_tests_fixtures::machines::one_unit_each;
 use tomex_tests_fixtures::programs::PRODUCT_WORDS;
 use tomex_tests_fixtures::{Attempt, Heap, Try, image_of, refusals};
 use tomex_timing::evaluate::{needs, waits};
-use tomex_timing::{Need, Needs, Part, Waits};
+use tomex_timing::{Need, Needs, Waits};
 
 /// The trace of a program at address 0.
 fn trace_of(alloc: Global, words: &[u32]) -> Result<Vec<Step>, Fail> {

@@ -6,11 +6,11 @@ ghost use Rattle.std.specs.Prelude.{◌<◌};
 use crate::runs::{random_config, random_run};
 use std::alloc::Global;
 use std::test::Fail;
-use tomex_config::Config;
+use tomex_config::{Config, Part};
 use tomex_path::{Link, Reason, path};
 use tomex_rvdec::{PoolId, UnitId};
 use tomex_tests_fixtures::Random;
-use tomex_timing::{Needs, Part};
+use tomex_timing::Needs;
 
 /// True if a machine can't shorten this wait by its parts.
 fn keeps(machine: &Config, reason: Reason) -> bool {

@@ -6,13 +6,13 @@ ghost use Rattle.std.specs.Prelude.{◌<◌, ◌≤◌};
 use crate::runs::{Program, random_config, random_run, run_of};
 use std::alloc::{AllocError, Global};
 use std::test::Fail;
-use tomex_config::Config;
+use tomex_config::{Config, Part};
 use tomex_floor::floors;
 use tomex_path::{Link, Reason, path};
 use tomex_rvdec::{PoolId, UnitId};
 use tomex_tests_fixtures::machines::{config_of, one_unit_each, unit};
 use tomex_tests_fixtures::{Attempt, Heap, Random, Try, refusals};
-use tomex_timing::{Part, Run};
+use tomex_timing::Run;
 
 /// A machine: stations, units and latencies of each kind, buses, and the issue width.
 struct Machine {

@@ -10,7 +10,7 @@ use Rattle.tomex_rvdec.specs.declared.pool.UnitId.{UnitId}
 use Rattle.tomex_rvdec.specs.declared.pool.UnitId.TheVariants as units
 use Rattle.tomex_rvexec.specs.Steps.{step_pool, step_unit, step_dest, is_in}
 use Rattle.tomex_config.specs.Configuration.{Configuration, IsWithinLimits, option_of}
-use Rattle.tomex_timing.specs.declared.part.Part.TheVariants.{Width}
+use Rattle.tomex_config.specs.declared.part.Part.TheVariants.{Width}
 use Rattle.tomex_timing.specs.declared.times.Done.{Done}
 use Rattle.tomex_timing.specs.Ahead.{one}
 use Rattle.tomex_timing.specs.History.{is_of, cycle_of, last_issue, greatest_end}

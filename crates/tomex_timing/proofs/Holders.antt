@@ -21,7 +21,7 @@ use Rattle.tomex_timing.proofs.Stations.{number_is, lower, split_count}
 use Rattle.std.specs.List.{list_all}
 use Rattle.std.proofs.lemmas.Bool.Decides.{nat_tests}
 use Rattle.std.proofs.lemmas.List.Sums.{sum_by-cons}
-use Rattle.tomex_timing.specs.declared.part.Part.TheVariants.{Stations}
+use Rattle.tomex_config.specs.declared.part.Part.TheVariants.{Stations}
 use Rattle.tomex_timing.specs.History.{last_issue}
 use Rattle.tomex_timing.specs.Needs.{peak, stations_up_to}
 use Rattle.tomex_timing.proofs.Limits.{pool_is}

@@ -8,11 +8,13 @@ use Rattle.tomex_rvdec.specs.declared.pool.UnitId.{UnitId}
 use Rattle.tomex_rvdec.specs.declared.pool.UnitId.TheVariants as units
 use Rattle.tomex_config.specs.Configuration.{Configuration, option_of}
 use Rattle.tomex_timing.specs.declared.needs.Needs.{Needs}
-use Rattle.tomex_timing.specs.declared.part.Part.{Part}
-use Rattle.tomex_timing.specs.declared.part.Part.TheVariants.{Stations, Units, Buses, Width}
+use Rattle.tomex_config.specs.declared.part.Part.{Part}
+use Rattle.tomex_config.specs.declared.part.Part.TheVariants.{Stations, Units, Buses, Width}
 use Rattle.tomex_timing.specs.declared.times.Done.{Done}
 use Rattle.tomex_timing.specs.Laws.{NeedsTell}
-use Rattle.tomex_timing.specs.Needs.{AreNeeds, all_parts, all_units, allows, allows_latency, count_of, peak, need_of}
+use Rattle.tomex_timing.specs.Needs.{AreNeeds, allows, allows_latency, peak, need_of}
+use Rattle.tomex_config.specs.Parts.{all_parts, count_of}
+use Rattle.tomex_config.specs.Cost.{all_units}
 use Rattle.tomex_timing.specs.Needs.{stalls}
 
 part_allowed : (config other : Configuration) (h : List Done) (needs : Needs) (part : Part) → AreNeeds config h needs

@@ -11,7 +11,7 @@ use Rattle.tomex_rvexec.specs.Steps.{step_pool, step_unit, step_dest, j_of, k_of
 use Rattle.tomex_rvexec.specs.declared.step.Step.{Step}
 use Rattle.tomex_config.specs.Configuration.{Configuration, IsWithinLimits, stations_of, option_of}
 use Rattle.tomex_timing.specs.declared.next.Next.{Next}
-use Rattle.tomex_timing.specs.declared.part.Part.TheVariants.{Stations}
+use Rattle.tomex_config.specs.declared.part.Part.TheVariants.{Stations}
 use Rattle.tomex_timing.specs.declared.times.Done.{Done}
 use Rattle.tomex_timing.specs.Ahead.{Held, IsIdle, IsNextBy, RunsOn, TakesBus, TakesStation, end_in}
 use Rattle.tomex_reservations.specs.Reservations.{IsFreeFirst, bus_line, end_at, is_left}

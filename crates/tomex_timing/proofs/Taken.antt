@@ -8,12 +8,13 @@ use Rattle.tomex_rvdec.specs.declared.pool.PoolId.{PoolId}
 use Rattle.tomex_rvdec.specs.declared.pool.UnitId.{UnitId}
 use Rattle.tomex_rvexec.specs.Steps.{step_pool, step_unit, step_dest, is_in}
 use Rattle.tomex_config.specs.Configuration.{Configuration, stations_of, option_of}
-use Rattle.tomex_timing.specs.declared.part.Part.{Part}
-use Rattle.tomex_timing.specs.declared.part.Part.TheVariants.{Stations, Units, Buses, Width}
+use Rattle.tomex_config.specs.declared.part.Part.{Part}
+use Rattle.tomex_config.specs.declared.part.Part.TheVariants.{Stations, Units, Buses, Width}
 use Rattle.tomex_timing.specs.declared.times.Done.{Done}
 use Rattle.tomex_timing.specs.History.{is_of, cycle_of, last_issue}
 use Rattle.tomex_timing.specs.Laws.{PeakIsWithin, StalledPartsAreFull}
-use Rattle.tomex_timing.specs.Needs.{count_of, peak, taken_by, cycles_that, lacks_width, lacks_station, lacks_unit}
+use Rattle.tomex_timing.specs.Needs.{peak, taken_by, cycles_that, lacks_width, lacks_station, lacks_unit}
+use Rattle.tomex_config.specs.Parts.{count_of}
 use Rattle.tomex_timing.specs.Needs.{stalls, waits_for, waits_of}
 use Rattle.tomex_timing.specs.Recurrence.{IsLeast, IsTimed, can_end, AreTimed, can_issue_another, are_branches_finished}
 use Rattle.tomex_timing.specs.Recurrence.{has_operands, are_conflicts_finished, has_unit, has_bus}

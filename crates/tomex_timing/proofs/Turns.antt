@@ -15,7 +15,7 @@ use Rattle.tomex_config.specs.Configuration.{Configuration, IsWithinLimits, opti
 use Rattle.tomex_reservations.specs.Reservations.{IsFirst, Reserved, bus_line, is_left, taken_at}
 use Rattle.tomex_timing.specs.declared.needs.Needs.{Needs}
 use Rattle.tomex_timing.specs.declared.next.Next.{Next}
-use Rattle.tomex_timing.specs.declared.part.Waits.{Waits}
+use Rattle.tomex_timing.specs.declared.need.Waits.{Waits}
 use Rattle.tomex_timing.specs.declared.waiting.Taken.{Taken}
 use Rattle.tomex_timing.specs.declared.recent.Facts.{Facts}
 use Rattle.tomex_timing.specs.Ahead.{CanKeep, Held, IsHeldAfter, IsIdle, IsNextBy, IsReady, RunsOn, TakesBus}

@@ -9,10 +9,10 @@ use Rattle.tomex_config.specs.Configuration.{Configuration}
 use Rattle.tomex_timing.specs.declared.demands.Demand.{Demand}
 use Rattle.tomex_timing.specs.declared.demands.Demands.{Demands}
 use Rattle.tomex_timing.specs.declared.needs.Needs.{Needs}
-use Rattle.tomex_timing.specs.declared.part.Need.{Need}
-use Rattle.tomex_timing.specs.declared.part.Part.{Part}
-use Rattle.tomex_timing.specs.declared.part.Part.TheVariants.{Stations, Units, Buses, Width}
-use Rattle.tomex_timing.specs.declared.part.Waits.{Waits}
+use Rattle.tomex_timing.specs.declared.need.Need.{Need}
+use Rattle.tomex_config.specs.declared.part.Part.{Part}
+use Rattle.tomex_config.specs.declared.part.Part.TheVariants.{Stations, Units, Buses, Width}
+use Rattle.tomex_timing.specs.declared.need.Waits.{Waits}
 use Rattle.tomex_timing.specs.declared.times.Done.{Done}
 use Rattle.tomex_timing.specs.declared.waiting.Taken.{Taken}
 use Rattle.tomex_timing.specs.declared.recent.Facts.{Facts}

@@ -14,22 +14,15 @@ use Rattle.tomex_rvexec.specs.Steps.{step_pool, step_unit, step_dest, is_in}
 use Rattle.tomex_rvexec.specs.declared.step.Step.{Step}
 use Rattle.tomex_config.specs.Configuration.{Configuration, stations_of, option_of}
 use Rattle.tomex_timing.specs.declared.needs.Needs.{Needs}
-use Rattle.tomex_timing.specs.declared.part.Need.{Need}
-use Rattle.tomex_timing.specs.declared.part.Part.{Part}
-use Rattle.tomex_timing.specs.declared.part.Part.TheVariants.{Stations, Units, Buses, Width}
-use Rattle.tomex_timing.specs.declared.part.Waits.{Waits}
+use Rattle.tomex_timing.specs.declared.need.Need.{Need}
+use Rattle.tomex_config.specs.declared.part.Part.{Part}
+use Rattle.tomex_config.specs.declared.part.Part.TheVariants.{Stations, Units, Buses, Width}
+use Rattle.tomex_timing.specs.declared.need.Waits.{Waits}
 use Rattle.tomex_timing.specs.declared.times.Done.{Done}
 use Rattle.tomex_timing.specs.History.{is_of, cycle_of, greatest_end, last_issue}
 use Rattle.tomex_timing.specs.Recurrence.{can_issue_another, are_branches_finished}
 use Rattle.tomex_timing.specs.Recurrence.{has_operands, are_conflicts_finished}
 use Rattle.tomex_timing.specs.Search.{history}
-
--- the number of a part that a configuration has
-abbrev pub count_of : Configuration → Part → ℕ
-count_of config (Stations pool) = stations_of config pool
-count_of config (Units unit) = (option_of config unit).units
-count_of config Buses = config.buses
-count_of config Width = config.width
 
 -- the number of cycles from one on and before another that pass a test
 abbrev pub cycles_that : (ℕ → Bool) → ℕ → ℕ → ℕ
@@ -193,16 +186,6 @@ allows needs own other part =
 abbrev pub allows_latency : Needs → Configuration → Configuration → UnitId → Bool
 allows_latency needs own other unit =
     (option_of own unit).latency == (option_of other unit).latency || (need_of needs (Units unit)).peak == 0
-
--- all parts, in the order in which reports list them
-abbrev pub all_parts : List Part
-all_parts =
-    Stations pools.Alu ∷ Stations pools.Mul ∷ Stations pools.Div ∷ Stations pools.Load ∷ Stations pools.Store
-    ∷ Stations pools.Bru ∷ Units units.Alu ∷ Units units.Mul ∷ Units units.Div ∷ Units units.Mem ∷ Units units.Bru
-    ∷ Buses ∷ Width ∷ []
-
-abbrev pub all_units : List UnitId
-all_units = units.Alu ∷ units.Mul ∷ units.Div ∷ units.Mem ∷ units.Bru ∷ []
 
 -- true if they show both for all parts and kinds
 abbrev pub suffice : Needs → Configuration → Configuration → Bool

@@ -4,9 +4,10 @@ ghost use Rattle.std.specs.Prelude.{◌≡◌};
 ghost use Rattle.tomex_timing.specs.Demands.{demand_after, demand_of, demands_after, nothing_asked};
 ghost use Rattle.tomex_timing.specs.Demands.{stations_asked, units_asked};
 
-use crate::part::{Part, Waits};
+use crate::need::Waits;
 use crate::recent::Facts;
 use crate::waiting::Taken;
+use tomex_config::Part;
 use tomex_rvdec::{PoolId, UnitId};
 
 /// The most that a run takes of a part at once, and whether any step waits for it. `Need` has the number of cycles.

@@ -11,9 +11,9 @@ ghost use Rattle.tomex_timing.specs.Recent.{AreFacts};
 
 use crate::asking::{ask_operation, ask_rest};
 use crate::demands::Demands;
+use crate::need::Waits;
 use crate::needs::Needs;
 use crate::next::next_step;
-use crate::part::Waits;
 use crate::recent::{Facts, Recent, facts_of};
 use crate::times::Times;
 use crate::turn::next_turn;

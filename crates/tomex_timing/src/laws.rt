@@ -1,7 +1,7 @@
 //! Laws of the recurrence. These functions do nothing: their contracts are the laws.
 
 ghost use Rattle.std.specs.Prelude.{◌≡◌};
-ghost use Rattle.tomex_timing.specs.Needs.{all_parts};
+ghost use Rattle.tomex_config.specs.Parts.{all_parts};
 ghost use Rattle.tomex_timing.specs.Laws.{TimesExist, TimesAreUnique, SearchIsTimed, TimedIsSearch, TotalIsBounded};
 ghost use Rattle.tomex_timing.specs.Laws.{TotalIsGreatestEnd, YoungerChangeNothing, IssuesAlone, IssuesRise};
 ghost use Rattle.tomex_timing.specs.Laws.{IssuesStandInOrder, IssuesFitTheWidth, TimesAreInReach, StartsComeLater};
@@ -11,7 +11,7 @@ ghost use Rattle.tomex_timing.specs.Laws.{StalledPartsAreFull, NeedsTell, Served
 ghost use Rattle.tomex_timing.specs.Laws.{IssueCyclesAddUp, StationCyclesAddUp, WaitsAddUp, StationWaitsAreStalls};
 ghost use Rattle.tomex_timing.specs.Laws.{UnitWaitsAreStalls, BusWaitsAreStalls, WidthWaitsAreStalls};
 
-use crate::part::Part;
+use tomex_config::Part;
 
 /// Each step of a run has times, and only one set of them.
 pub fn each_step_has_one_set_of_times()

@@ -12,9 +12,9 @@ mod asking;
 mod demands;
 pub mod evaluate;
 mod laws;
+mod need;
 mod needs;
 mod next;
-mod part;
 mod recent;
 mod run;
 mod tables;
@@ -30,9 +30,9 @@ pub use laws::{
     times_stand_in_order, total_is_bounded, total_is_the_greatest_end, waits_add_up_to_stalls,
     younger_steps_change_nothing,
 };
+pub use need::{Need, Waits};
 pub use needs::Needs;
 pub use next::end_of;
-pub use part::{Need, Part, Waits};
 pub use recent::{Facts, Latest, Recent};
 pub use run::Run;
 pub use tables::{Busy, Field, Tables, Tag};

@@ -9,11 +9,11 @@ ghost use Rattle.tomex_timing.specs.Needs.{no_need, need_of, allows, suffice};
 ghost use Rattle.tomex_timing.specs.Waiting.{AreWithin, IsWithin, nothing_needed, need_after};
 ghost use Rattle.tomex_timing.specs.Waiting.{needs_after, stations_after, units_after};
 
-use crate::part::{Need, Part, Waits};
+use crate::need::{Need, Waits};
 use crate::recent::Facts;
 use crate::times::Times;
 use crate::waiting::Taken;
-use tomex_config::Config;
+use tomex_config::{Config, Part};
 use tomex_rvdec::{PoolId, UnitId};
 
 /// The needs of a run on a configuration: what it takes of the parts, and how long its steps wait for them, in cycles.

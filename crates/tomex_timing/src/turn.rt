@@ -4,8 +4,8 @@ ghost use Rattle.std.specs.Prelude.{◌≡◌};
 ghost use Rattle.tomex_timing.specs.Ahead.{CanKeep, IsNextBy, IsReady, held_by};
 ghost use Rattle.tomex_timing.specs.Waiting.{taken_from, waits_by};
 
+use crate::need::Waits;
 use crate::next::{Next, next_step};
-use crate::part::Waits;
 use crate::recent::{Facts, Recent};
 use crate::waiting::{Taken, parts_taken_by, waits_of};
 use std::alloc::Allocator;

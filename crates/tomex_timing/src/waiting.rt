@@ -3,8 +3,8 @@
 ghost use Rattle.std.specs.Prelude.{◌≡◌, ◌^◌, ◌<◌};
 ghost use Rattle.tomex_timing.specs.Waiting.{waits_by, taken_from};
 
+use crate::need::Waits;
 use crate::next::Next;
-use crate::part::Waits;
 use crate::recent::Latest;
 
 /// The amount of each part that one step takes, including what others take of it at the same time: the stations up to

@@ -6,7 +6,8 @@ use Rattle.tomex_pareto.specs.declared.front_row.FrontRow.{FrontRow}
 use Rattle.tomex_study.proofs.Rows.{rows_within}
 use Rattle.tomex_study.specs.Study.{DesignSpace, IsStudy, config_at}
 use Rattle.tomex_study.specs.StudyFront.{all_rows}
-use Rattle.tomex_worth.specs.Changes.{change, changes_at, changes_of, differ_at, part_at}
+use Rattle.tomex_worth.specs.Changes.{change, changes_at, changes_of, differ_at}
+use Rattle.tomex_config.specs.Parts.{part_at}
 use Rattle.tomex_worth.specs.declared.changes.Change.{Change}
 use Rattle.tomex_layout.proofs.Each.{all_flat_map}
 

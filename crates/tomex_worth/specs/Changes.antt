@@ -8,19 +8,10 @@ use Rattle.tomex_config.specs.Configuration.{Configuration, option_of, same_opti
 use Rattle.tomex_pareto.specs.declared.front_row.FrontRow.{FrontRow}
 use Rattle.tomex_study.specs.Study.{DesignSpace, config_at}
 use Rattle.tomex_study.specs.StudyFront.{all_rows}
-use Rattle.tomex_timing.specs.Needs.{all_parts, count_of}
-use Rattle.tomex_timing.specs.declared.part.Part.{Part}
-use Rattle.tomex_timing.specs.declared.part.Part.TheVariants.{Units, Width}
+use Rattle.tomex_config.specs.Parts.{all_parts, count_of}
+use Rattle.tomex_config.specs.declared.part.Part.{Part}
+use Rattle.tomex_config.specs.declared.part.Part.TheVariants.{Units, Width}
 use Rattle.tomex_worth.specs.declared.changes.Change.{Change}
-
--- two configurations have the same entry in a part's list
-abbrev pub same_entry : Configuration → Configuration → Part → Bool
-same_entry a b (Units unit) = same_option (option_of a unit) (option_of b unit)
-same_entry a b part = count_of a part == count_of b part
-
--- the part of the list at a place, from 0 to 12
-abbrev pub part_at : ℕ → Part
-part_at place = slice_index_or all_parts place Width
 
 -- they differ in the list at this place, and in no other
 unfoldable pub differ_at : ℕ → Configuration → Configuration → Bool

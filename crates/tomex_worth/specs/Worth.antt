@@ -13,35 +13,14 @@ use Rattle.tomex_study.specs.StudyFront.{front_of_study, row_at}
 use Rattle.tomex_study.specs.Program.{Workload}
 use Rattle.tomex_study.specs.Study.{DesignSpace, config_at}
 use Rattle.tomex_layout.specs.Table.{TableColumn, table_of}
-use Rattle.tomex_timing.specs.Needs.{count_of}
-use Rattle.tomex_timing.specs.declared.part.Part.{Part}
-use Rattle.tomex_timing.specs.declared.part.Part.TheVariants.{Stations, Units, Buses, Width}
+use Rattle.tomex_config.specs.Parts.{count_of}
+use Rattle.tomex_config.specs.declared.part.Part.{Part}
+use Rattle.tomex_config.specs.declared.part.Part.TheVariants.{Stations, Units, Buses, Width}
 use Rattle.tomex_worth.specs.Changes.{changes_of}
-use Rattle.tomex_worth.specs.Differences.{distance, percent, signed_difference}
+use Rattle.tomex_layout.specs.Differences.{distance, percent, signed_difference}
 use Rattle.tomex_worth.specs.declared.changes.Change.{Change}
 use Rattle.tomex_worth.specs.declared.heading.Heading.{Heading}
 use Rattle.tomex_worth.specs.declared.heading.Heading.TheVariants as headings
-
--- a list's name, as studies write it
-abbrev pub name_of_list : Part → List ℕ
-name_of_list (Stations pool) = name_of_pool pool
-name_of_list (Units unit) = codes "unit." ++ name_of_unit unit
-name_of_list Buses = codes "buses"
-name_of_list Width = codes "width"
-
--- a configuration's entry in a part's list: a number, or units and latency, as in `1@8`
-abbrev pub entry_text : Configuration → Part → List ℕ
-entry_text config (Units unit) =
-    decimal (option_of config unit).units ++ (codes "@" ++ decimal (option_of config unit).latency)
-entry_text config part = decimal (count_of config part)
-
--- cycles for 1 of cost between two rows, if one of them is dearer and takes fewer cycles; else why there is none
-unfoldable pub rate_text : FrontRow → FrontRow → List ℕ
-rate_text own other =
-    if dominates other own then codes "better"
-    else if dominates own other then codes "worse"
-    else if other.cost == own.cost then codes "same"
-    else hundredths (distance own.cycles other.cycles * 100 / distance own.cost other.cost)
 
 -- `yes` if a row is on the front
 abbrev pub front_text : DesignSpace → FrontRow → List ℕ

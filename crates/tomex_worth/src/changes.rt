@@ -1,13 +1,13 @@
 //! The rows of a study that differ from a machine in only one list.
 
 ghost use Rattle.std.specs.Prelude.{◌≡◌, ◌<◌, ◌++◌, if◌then◌else◌, not, length, All, IfOk, OnOk};
-ghost use Rattle.tomex_worth.specs.Changes.{changes_at, changes_of, differ_at, part_at, same_entry};
+ghost use Rattle.tomex_worth.specs.Changes.{changes_at, changes_of, differ_at};
+ghost use Rattle.tomex_config.specs.Parts.{part_at, same_entry};
 
 use std::alloc::{AllocError, Allocator, Global};
-use tomex_config::{Config, same_option};
+use tomex_config::{Config, Part, same_entry};
 use tomex_pareto::FrontRow;
 use tomex_study::Surveyed;
-use tomex_timing::Part;
 
 /// A row that differs from a machine in only one list.
 #[derive(Clone, Copy, Debug, PartialEq, Eq)]
@@ -15,16 +15,6 @@ pub struct Change {
     /// The part of the list.
     pub part: Part,
     pub row: FrontRow,
-}
-
-/// True if two configurations have the same entry in a part's list.
-pub fn same_entry(a: &Config, b: &Config, part: Part) -> bool
-    ensures { result ≡ same_entry a.now b.now part }
-{
-    match part {
-        Part::Units(unit) => same_option(a.option(unit), b.option(unit)),
-        part => part.count(a) == part.count(b),
-    }
 }
 
 /// True if two entries are as required: different at the place in question, the same elsewhere.

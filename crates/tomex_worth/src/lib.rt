@@ -4,11 +4,8 @@
 #![tactic(auto)]
 
 mod changes;
-mod differences;
 mod heading;
 mod table;
 
-pub use changes::{Change, changes_of, same_entry};
-pub use differences::{push_percent, push_rate, push_signed};
-pub use heading::{push_entry, push_name_of_list};
+pub use changes::{Change, changes_of};
 pub use table::worth_table;

@@ -8,10 +8,11 @@ ghost use Rattle.tomex_worth.specs.Worth.{all_headings, heading_column, own_unde
 ghost use Rattle.tomex_worth.specs.Worth.{text_under, worth_table_of};
 
 use crate::changes::{Change, changes_of};
-use crate::differences::{percent, rate_text, signed_difference};
-use crate::heading::{Heading, entry_text, name_of_list};
+use crate::heading::Heading;
 use std::alloc::{AllocError, Allocator, Global};
-use tomex_layout::{Column, table_of};
+use tomex_layout::{
+    Column, entry_text, name_of_list, percent, rate_text, signed_difference, table_of,
+};
 use tomex_pareto::FrontRow;
 use tomex_study::{Program, Surveyed};
 

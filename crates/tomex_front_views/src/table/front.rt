@@ -3,13 +3,15 @@
 ghost use Rattle.std.specs.Prelude.{◌≡◌, ◌<◌, ◌++◌, length, map, All, IfOk, OnOk};
 ghost use Rattle.std.specs.Fmt.{decimal};
 ghost use Rattle.std.specs.List.{AllZip, flat_map};
-ghost use Rattle.tomex_front_views.specs.FrontTable.{all_settings, cycles_on, heading_column, rows_table_of};
+ghost use Rattle.tomex_front_views.specs.FrontTable.{cycles_on, heading_column, rows_table_of};
+ghost use Rattle.tomex_config.specs.Settings.{all_settings};
 ghost use Rattle.tomex_front_views.specs.FrontTable.{number_under, own_columns, program_column, program_columns};
 ghost use Rattle.tomex_front_views.specs.FrontTable.{setting_columns};
 
-use super::heading::{Heading, Setting};
+use super::heading::Heading;
 use super::rate::rate_column;
 use std::alloc::{AllocError, Allocator, Global};
+use tomex_config::Setting;
 use tomex_layout::{Column, table_of};
 use tomex_pareto::FrontRow;
 use tomex_study::Study;

@@ -6,12 +6,10 @@ use super::{program_of, study_on, weighed};
 use std::alloc::Global;
 use std::test::Fail;
 use tomex_choices::{Saving, WeighedChoices, front_choices, unused};
-use tomex_config::{Config, Prices};
+use tomex_config::{Config, Prices, Part, same_entry};
 use tomex_study::Study;
 use tomex_tests_fixtures::Random;
 use tomex_tests_fixtures::machines::{PLAIN, config_of, unit};
-use tomex_timing::Part;
-use tomex_worth::same_entry;
 
 /// The fewest cycles that a cost buys.
 fn fewest(machines: &[Made], cost: u64) -> Option<u64> {

@@ -2,9 +2,9 @@
 use Rattle.std.proofs.Common.{◌≡◌, ◌≤◌, ◌<◌, ◌∙◌, ◌+◌, ◌-◌, ap, arith, length, subst, suc, sym, ℕ}
 use Rattle.std.proofs.lemmas.Bool.Decides.{nat_tests}
 use Rattle.std.proofs.lemmas.List.{length-take-le}
-use Rattle.tomex_worth.specs.Changes.{part_at}
+use Rattle.tomex_config.specs.Parts.{part_at}
 use Rattle.tomex_choices.specs.Asking.{IsNumberAsked}
-use Rattle.tomex_choices.specs.Choices.{most_of}
+use Rattle.tomex_config.specs.Parts.{most_of}
 use Rattle.tomex_choices.proofs.Asked.{AreNumbersAsked, all_asked, enough_kept, none_asked, number_asked}
 use Rattle.tomex_choices.proofs.asking.ask_list.Goals as goal
 
@@ -31,10 +31,10 @@ loop-fewer-init g c = record {
 
 pub ask_number-requires-clause-number : goal.ask_number-requires-clause-number
 ask_number-requires-clause-number g c =
-    let same = c.most_of-most.ensures.value ∙ ap most_of c.part-part.ensures in
-    let low : c.loop-fewer.fewer < c.most_of-most.result = c.loop-fewer-test.true in
-    let some : 1 ≤ c.most_of-most.result - c.loop-fewer.fewer = omega (arith, low) in
-    let few : c.most_of-most.result - c.loop-fewer.fewer ≤ most_of (part_at c.args.entries.now.place) =
+    let same = c.most-most.ensures.value ∙ ap most_of c.part-part.ensures in
+    let low : c.loop-fewer.fewer < c.most-most.result = c.loop-fewer-test.true in
+    let some : 1 ≤ c.most-most.result - c.loop-fewer.fewer = omega (arith, low) in
+    let few : c.most-most.result - c.loop-fewer.fewer ≤ most_of (part_at c.args.entries.now.place) =
     omega (arith, same) in
     grind (arith, nat_tests)
 
@@ -46,7 +46,7 @@ loop-fewer-preserved g c =
     let fewer = c.loop-fewer.fewer in
     let old = c.args.found.now in
     let new = c.ask_number.new.found in
-    let same : c.most_of-most.result ≡ most_of part = c.most_of-most.ensures.value ∙ ap most_of c.part-part.ensures in
+    let same : c.most-most.result ≡ most_of part = c.most-most.ensures.value ∙ ap most_of c.part-part.ensures in
     let low : fewer < most_of part = omega (arith, same, c.loop-fewer-test.true) in
     let asked : IsNumberAsked s part config (most_of part - fewer) c.loop-fewer.found new =
     subst (λ (k : ℕ). IsNumberAsked s part config (k - fewer) c.loop-fewer.found new) same
@@ -70,7 +70,7 @@ returns-clause-asked g c =
     let fewer = c.loop-fewer.fewer in
     let old = c.args.found.now in
     let new = c.loop-fewer.found in
-    let same : c.most_of-most.result ≡ most_of part = c.most_of-most.ensures.value ∙ ap most_of c.part-part.ensures in
+    let same : c.most-most.result ≡ most_of part = c.most-most.ensures.value ∙ ap most_of c.part-part.ensures in
     let last : fewer ≡ most_of part = omega (arith, same, c.loop-fewer-test.false, c.loop-fewer.auto.fewer-end) in
     let from : most_of part - fewer + 1 ≡ 1 = omega (arith, last) in
     all_asked s part config old new

@@ -1,7 +1,7 @@
 -- The numbers so far, from the most down.
 use Rattle.std.proofs.Common.{◌≡◌, ◌+◌, ◌-◌}
-use Rattle.tomex_worth.specs.Changes.{part_at}
-use Rattle.tomex_choices.specs.Choices.{most_of}
+use Rattle.tomex_config.specs.Parts.{part_at}
+use Rattle.tomex_config.specs.Parts.{most_of}
 use Rattle.tomex_choices.proofs.Asked.{AreNumbersAsked}
 use Rattle.tomex_choices.proofs.asking.ask_list.Given as goal
 

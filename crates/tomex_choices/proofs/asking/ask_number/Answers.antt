@@ -5,9 +5,10 @@ use Rattle.std.specs.Prelude.{max}
 use Rattle.std.proofs.lemmas.List.{append-nil, length-take-le}
 use Rattle.tomex_config.specs.Configuration.{Configuration, IsWithinLimits}
 use Rattle.tomex_study.specs.Cycles.{totals_on}
-use Rattle.tomex_timing.specs.declared.part.Part.{Part}
-use Rattle.tomex_worth.specs.Changes.{part_at}
-use Rattle.tomex_choices.specs.NewMachines.{grown, machine_if, machine_of, with_count}
+use Rattle.tomex_config.specs.declared.part.Part.{Part}
+use Rattle.tomex_config.specs.Parts.{part_at}
+use Rattle.tomex_choices.specs.NewMachines.{grown, machine_if, machine_of}
+use Rattle.tomex_config.specs.Parts.{with_count}
 use Rattle.tomex_choices.specs.declared.new_machine.NewMachine.{NewMachine}
 use Rattle.tomex_choices.proofs.Asked.{change_asked, enough_kept, grown_totals, many_totals, none_of, own_totals}
 use Rattle.tomex_choices.proofs.asking.ask_number.Goals as goal

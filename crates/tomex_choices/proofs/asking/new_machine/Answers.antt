@@ -12,4 +12,4 @@ returns g c =
     let cycles : c.cycles_by_weight.result ≡ cycles_on c.args.study.now.programs config =
     c.cycles_by_weight.ensures config totals
     ∙ ap (λ (ps : List Workload). cycles_on ps config) c.programs.ensures.value in
-    rw (c.latency_in.ensures, c.cost.ensures.cost, c.prices.ensures.value, cycles) refl
+    rw (c.latency.ensures, c.cost.ensures.cost, c.prices.ensures.value, cycles) refl

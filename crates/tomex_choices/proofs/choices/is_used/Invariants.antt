@@ -2,7 +2,7 @@
 use Rattle.std.proofs.Common.{◌≡◌, drop}
 use Rattle.std.specs.List.{list_any}
 use Rattle.tomex_study.specs.Study.{config_at}
-use Rattle.tomex_worth.specs.Changes.{same_entry}
+use Rattle.tomex_config.specs.Parts.{same_entry}
 use Rattle.tomex_choices.proofs.choices.is_used.Given as goal
 
 abbrev pub invariant-loop-row : goal.invariant-loop-row

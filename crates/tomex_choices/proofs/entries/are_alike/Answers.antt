@@ -2,11 +2,11 @@
 use Rattle.std.proofs.Common.{◌≡◌, ◌∙◌, ap, arith, ◌==◌}
 use Rattle.std.specs.Prelude.{if◌then◌else◌}
 use Rattle.std.proofs.lemmas.List.{get_or_default}
-use Rattle.tomex_timing.specs.Needs.{all_parts}
-use Rattle.tomex_timing.specs.declared.part.Part.{Part}
-use Rattle.tomex_worth.specs.Changes.{same_entry}
+use Rattle.tomex_config.specs.Parts.{all_parts}
+use Rattle.tomex_config.specs.declared.part.Part.{Part}
+use Rattle.tomex_config.specs.Parts.{same_entry}
 use Rattle.tomex_choices.specs.Asking.{are_alike, are_alike_in}
-use Rattle.tomex_choices.specs.Choices.{same_latency}
+use Rattle.tomex_config.specs.Parts.{same_latency}
 use Rattle.tomex_choices.proofs.Ranges.{all_fails, all_hold, all_holds}
 use Rattle.tomex_choices.proofs.entries.are_alike.Goals as goal
 

@@ -1,7 +1,7 @@
 -- The choices so far, and those of the remaining configurations.
 use Rattle.std.proofs.Common.{◌≡◌, ◌++◌, drop}
 use Rattle.std.specs.List.{flat_map}
-use Rattle.tomex_worth.specs.Changes.{part_at}
+use Rattle.tomex_config.specs.Parts.{part_at}
 use Rattle.tomex_choices.specs.Weighed.{added_by}
 use Rattle.tomex_choices.proofs.weighing.all_added.Given as goal
 

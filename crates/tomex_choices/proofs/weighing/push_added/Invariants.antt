@@ -1,8 +1,8 @@
 -- The choices so far, and those of the remaining numbers.
 use Rattle.std.proofs.Common.{◌≡◌, ◌+◌, ◌-◌, ◌++◌}
 use Rattle.std.specs.List.{flat_map, range_with_len}
-use Rattle.tomex_worth.specs.Changes.{part_at}
-use Rattle.tomex_choices.specs.Choices.{most_of}
+use Rattle.tomex_config.specs.Parts.{part_at}
+use Rattle.tomex_config.specs.Parts.{most_of}
 use Rattle.tomex_choices.specs.NewMachines.{grown}
 use Rattle.tomex_choices.specs.Weighed.{added_by, added_if}
 use Rattle.tomex_choices.proofs.weighing.push_added.Given as goal

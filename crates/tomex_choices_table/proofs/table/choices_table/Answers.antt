@@ -4,7 +4,7 @@ use Rattle.std.proofs.lemmas.List.{length-map}
 use Rattle.std.proofs.lemmas.List.Elements.{All-get_or}
 use Rattle.tomex_layout.proofs.Each.{all_map}
 use Rattle.tomex_layout.specs.Table.{TableColumn}
-use Rattle.tomex_timing.specs.Needs.{all_parts}
+use Rattle.tomex_config.specs.Parts.{all_parts}
 use Rattle.tomex_choices_table.specs.ChoicesTable.{all_headings, heading_column, text_under}
 use Rattle.tomex_choices_table.proofs.table.choices_table.Goals as goal
 

@@ -1,6 +1,6 @@
 -- The texts of the lists so far, and of the remaining ones.
 use Rattle.std.proofs.Common.{◌≡◌, ◌++◌, drop, map}
-use Rattle.tomex_timing.specs.Needs.{all_parts}
+use Rattle.tomex_config.specs.Parts.{all_parts}
 use Rattle.tomex_choices_table.specs.ChoicesTable.{name_under, text_under}
 use Rattle.tomex_choices_table.proofs.table.heading_column.Given as goal
 

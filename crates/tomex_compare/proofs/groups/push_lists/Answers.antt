@@ -1,5 +1,5 @@
 -- The groups of one list more.
-use Rattle.tomex_timing.specs.Needs.{all_parts}
+use Rattle.tomex_config.specs.Parts.{all_parts}
 use Rattle.tomex_compare.specs.Groups.{list_groups}
 use Rattle.tomex_compare.proofs.Steps.{items_pushed}
 use Rattle.tomex_compare.proofs.groups.push_lists.Goals as goal

@@ -1,7 +1,7 @@
 -- The groups of the lists so far.
 use Rattle.std.proofs.Common.{◌≡◌, ◌++◌, take}
 use Rattle.std.specs.List.{flat_map}
-use Rattle.tomex_timing.specs.Needs.{all_parts}
+use Rattle.tomex_config.specs.Parts.{all_parts}
 use Rattle.tomex_compare.specs.Groups.{list_groups}
 use Rattle.tomex_compare.proofs.groups.push_lists.Given as goal
 

@@ -1,6 +1,6 @@
 -- A setting whose choice it isn't.
 use Rattle.std.proofs.Common.{◌∙◌, add-one, refl, sym}
-use Rattle.tomex_front_views.specs.FrontTable.{all_settings}
+use Rattle.tomex_config.specs.Settings.{all_settings}
 use Rattle.tomex_find.proofs.Loops.{any_later}
 use Rattle.tomex_find.proofs.choices.is_of_setting.Goals as goal
 

@@ -1,7 +1,7 @@
 -- The remaining settings.
 use Rattle.std.proofs.Common.{◌≡◌, drop}
 use Rattle.std.specs.List.{list_any}
-use Rattle.tomex_front_views.specs.FrontTable.{all_settings}
+use Rattle.tomex_config.specs.Settings.{all_settings}
 use Rattle.tomex_find.specs.Find.{is_choice, is_of_setting}
 use Rattle.tomex_find.specs.declared.property.Property.TheVariants.{Setting}
 use Rattle.tomex_find.proofs.choices.is_of_setting.Given as goal

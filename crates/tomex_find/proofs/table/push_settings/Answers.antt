@@ -1,7 +1,7 @@
 -- The column of one more setting.
 use Rattle.std.proofs.Common.{refl}
 use Rattle.tomex_layout.proofs.Pieces.{next_piece}
-use Rattle.tomex_front_views.specs.FrontTable.{all_settings}
+use Rattle.tomex_config.specs.Settings.{all_settings}
 use Rattle.tomex_find.specs.Find.{setting_columns}
 use Rattle.tomex_find.proofs.table.push_settings.Goals as goal
 

@@ -1,7 +1,7 @@
 -- The columns so far.
 use Rattle.std.proofs.Common.{◌≡◌, ◌++◌, take}
 use Rattle.std.specs.List.{flat_map}
-use Rattle.tomex_front_views.specs.FrontTable.{all_settings}
+use Rattle.tomex_config.specs.Settings.{all_settings}
 use Rattle.tomex_find.specs.Find.{setting_columns}
 use Rattle.tomex_find.proofs.table.push_settings.Given as goal
 

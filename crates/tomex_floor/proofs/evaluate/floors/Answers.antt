@@ -15,7 +15,8 @@ use Rattle.tomex_timing.proofs.AfterEnd.{AllBy}
 use Rattle.tomex_timing.proofs.Limits.{width_low}
 use Rattle.tomex_timing.proofs.Turns.{IsStep, length_facts, step_of}
 use Rattle.tomex_floor.specs.declared.latest.Latest.{Latest}
-use Rattle.tomex_floor.specs.Floor.{floor_of, floors_by_width, floors_of, latency_of}
+use Rattle.tomex_floor.specs.Floor.{floor_of, floors_by_width, floors_of}
+use Rattle.tomex_config.specs.Configuration.{latency_of}
 use Rattle.tomex_floor.specs.Kept.{AreConflicts, AreLatest, histories, history_after}
 use Rattle.tomex_floor.proofs.Above.{floor_is_bound}
 use Rattle.tomex_floor.proofs.Turns.{finish_by, floors_more, latest_by, run_by}

@@ -1,6 +1,6 @@
 -- The state kept is that of the floors of the steps so far.
 use Rattle.std.proofs.Common.{◌≡◌, length, reverse, take}
-use Rattle.tomex_floor.specs.Floor.{latency_of}
+use Rattle.tomex_config.specs.Configuration.{latency_of}
 use Rattle.tomex_floor.specs.Kept.{AreLatest, AreTouched, histories}
 use Rattle.tomex_floor.proofs.evaluate.floors.Given as goal
 

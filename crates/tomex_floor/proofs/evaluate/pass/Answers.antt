@@ -2,7 +2,8 @@
 use Rattle.std.proofs.Common.{◌<◌, subst}
 use Rattle.std.specs.Prelude.{IfSome}
 use Rattle.tomex_timing.specs.declared.recent.Facts.{Facts}
-use Rattle.tomex_floor.specs.Floor.{floor_times, latency_of}
+use Rattle.tomex_floor.specs.Floor.{floor_times}
+use Rattle.tomex_config.specs.Configuration.{latency_of}
 use Rattle.tomex_floor.proofs.Turns.{latest_more}
 use Rattle.tomex_floor.proofs.evaluate.pass.Goals as goal
 

@@ -4,7 +4,7 @@ use Rattle.std.specs.Prelude.{slice_index_or}
 use Rattle.std.proofs.lemmas.Grind.{get_or_default_zero}
 use Rattle.std.proofs.lemmas.List.{get_or-set_other, length-set}
 use Rattle.tomex_floor.specs.declared.latest.Latest.{Latest}
-use Rattle.tomex_floor.specs.Floor.{latency_of}
+use Rattle.tomex_config.specs.Configuration.{latency_of}
 use Rattle.tomex_floor.specs.Kept.{IsLatest, finish_of, history_after}
 use Rattle.tomex_floor.proofs.Turns.{set_up_to}
 use Rattle.tomex_floor.proofs.evaluate.pass_all.Goals as goal

@@ -4,7 +4,7 @@ use Rattle.std.specs.Prelude.{slice_index, slice_index_or}
 use Rattle.tomex_rvexec.specs.declared.step.Step.{Step}
 use Rattle.tomex_timing.specs.declared.times.Done.{Done}
 use Rattle.tomex_floor.specs.declared.latest.Latest.{Latest}
-use Rattle.tomex_floor.specs.Floor.{latency_of}
+use Rattle.tomex_config.specs.Configuration.{latency_of}
 use Rattle.tomex_timing.specs.Recent.{facts_of}
 use Rattle.tomex_floor.specs.Kept.{AreConflicts, AreLatest, IsLatest, finish_of, history_after}
 use Rattle.tomex_floor.proofs.evaluate.pass_all.Given as goal

@@ -2,7 +2,7 @@
 use Rattle.std.proofs.Common.{◌≡◌, ◌++◌, drop}
 use Rattle.std.specs.Prelude.{string_bytes}
 use Rattle.std.specs.List.{flat_map}
-use Rattle.tomex_timing.specs.Needs.{all_parts}
+use Rattle.tomex_config.specs.Parts.{all_parts}
 use Rattle.tomex_page_rows.specs.Additions.{addition_row}
 use Rattle.tomex_page_rows.proofs.additions.push_addition_rows.Given as goal
 

@@ -3,7 +3,7 @@ use Rattle.std.proofs.Common.{◌≡◌, ◌++◌, drop}
 use Rattle.std.specs.Prelude.{string_bytes}
 use Rattle.std.specs.List.{flat_map}
 use Rattle.tomex_html.specs.Tables.{column_head}
-use Rattle.tomex_front_views.specs.FrontTable.{name_of_setting}
+use Rattle.tomex_layout.specs.Lists.{name_of_setting}
 use Rattle.tomex_page_tables.proofs.settings.push_setting_heads.Given as goal
 
 abbrev pub invariant-loop-setting : goal.invariant-loop-setting

@@ -1,7 +1,7 @@
 -- The settings so far, and those to come.
 use Rattle.std.proofs.Common.{◌≡◌, ◌++◌, drop}
 use Rattle.std.specs.List.{filter}
-use Rattle.tomex_front_views.specs.FrontTable.{all_settings, differs}
+use Rattle.tomex_config.specs.Settings.{all_settings, differs}
 use Rattle.tomex_page_tables.proofs.settings.settings_of.Given as goal
 
 abbrev pub invariant-loop-setting : goal.invariant-loop-setting

@@ -1,6 +1,6 @@
 -- The record of one more latency.
 use Rattle.std.proofs.Common.{refl}
-use Rattle.tomex_timing.specs.Needs.{all_units}
+use Rattle.tomex_config.specs.Cost.{all_units}
 use Rattle.tomex_layout.specs.Csv.{text_written}
 use Rattle.tomex_layout.proofs.Pieces.{next_piece}
 use Rattle.tomex_run_views.proofs.Written.{all_put}

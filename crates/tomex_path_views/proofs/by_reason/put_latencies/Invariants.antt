@@ -1,7 +1,7 @@
 -- The records of the latencies so far are written.
 use Rattle.std.proofs.Common.{◌≡◌, ◌++◌, take}
 use Rattle.std.specs.List.{flat_map}
-use Rattle.tomex_timing.specs.Needs.{all_units}
+use Rattle.tomex_config.specs.Cost.{all_units}
 use Rattle.tomex_layout.specs.Csv.{IsReady, text_written}
 use Rattle.tomex_path_views.specs.ByReason.{latency_record}
 use Rattle.tomex_path_views.proofs.by_reason.put_latencies.Given as goal

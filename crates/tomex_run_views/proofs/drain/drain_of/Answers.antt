@@ -1,7 +1,7 @@
 -- One step more, and the cycles after the last issue.
 use Rattle.std.proofs.Common.{◌<◌, ◌≡◌, ◌∙◌, ap, arith, rules, get_or, length, take, List}
 use Rattle.std.proofs.lemmas.List.{length-take}
-use Rattle.tomex_timing.specs.declared.part.Waits.{Waits}
+use Rattle.tomex_timing.specs.declared.need.Waits.{Waits}
 use Rattle.tomex_timing.proofs.WaitLists.{length-waits_in}
 use Rattle.tomex_run_views.proofs.Gaps.{drain_turn, issue_below}
 use Rattle.tomex_run_views.proofs.drain.drain_of.Goals as goal

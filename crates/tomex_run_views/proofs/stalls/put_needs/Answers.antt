@@ -1,7 +1,7 @@
 -- One part of the report after the other.
 use Rattle.std.proofs.lemmas.Result.{on_ok_weaker}
 use Rattle.tomex_layout.proofs.Pieces.{◌▸◌, last_piece}
-use Rattle.tomex_floor.specs.Floor.{latency_of}
+use Rattle.tomex_config.specs.Configuration.{latency_of}
 use Rattle.tomex_run_views.proofs.stalls.put_needs.Goals as goal
 
 pub returns : goal.returns

@@ -1,6 +1,6 @@
 -- The record of one more part.
 use Rattle.std.proofs.Common.{refl}
-use Rattle.tomex_timing.specs.Needs.{all_parts}
+use Rattle.tomex_config.specs.Parts.{all_parts}
 use Rattle.tomex_run_views.specs.StallsReport.{part_record}
 use Rattle.tomex_layout.specs.Csv.{text_written}
 use Rattle.tomex_layout.proofs.Pieces.{next_piece}

@@ -1,7 +1,7 @@
 -- The records of the parts so far are written.
 use Rattle.std.proofs.Common.{◌≡◌, ◌++◌, take}
 use Rattle.std.specs.List.{flat_map}
-use Rattle.tomex_timing.specs.Needs.{all_parts}
+use Rattle.tomex_config.specs.Parts.{all_parts}
 use Rattle.tomex_layout.specs.Csv.{IsReady, text_written}
 use Rattle.tomex_run_views.specs.StallsReport.{part_record}
 use Rattle.tomex_run_views.proofs.stalls.put_parts.Given as goal

@@ -1,6 +1,6 @@
 -- One visit more is counted.
 use Rattle.std.proofs.Common.{◌∙◌, ap, sym, subst, refl, get_or, List, ◌++◌, ◌∷◌, [], take, ℕ}
-use Rattle.tomex_timing.specs.declared.part.Waits.{Waits}
+use Rattle.tomex_timing.specs.declared.need.Waits.{Waits}
 use Rattle.tomex_run_views.specs.ByPlace.{Visit}
 use Rattle.tomex_run_views.specs.Tally.{IsTally, visit, visits_by}
 use Rattle.tomex_run_views.proofs.Tallies.{few_so_far, key_there, small_so_far, small_whole, visits_more, whole}

@@ -3,8 +3,9 @@ use Rattle.std.proofs.Common.{◌≡◌, ◌∙◌, ap, arith, ℕ, Bool, not, �
 use Rattle.std.specs.Prelude.{if◌then◌else◌}
 use Rattle.std.proofs.lemmas.List.{get_or_default}
 use Rattle.tomex_config.specs.Configuration.{Configuration}
-use Rattle.tomex_timing.specs.Needs.{all_parts}
-use Rattle.tomex_worth.specs.Changes.{differ_at, part_at, same_entry}
+use Rattle.tomex_config.specs.Parts.{all_parts}
+use Rattle.tomex_worth.specs.Changes.{differ_at}
+use Rattle.tomex_config.specs.Parts.{part_at, same_entry}
 use Rattle.tomex_worth.proofs.Ranges.{all_fails, all_hold, all_holds}
 use Rattle.tomex_worth.proofs.changes.differ_at.Goals as goal
 

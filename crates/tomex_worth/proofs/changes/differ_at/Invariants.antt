@@ -1,7 +1,7 @@
 -- The remaining lists.
 use Rattle.std.proofs.Common.{◌≡◌, ◌==◌, ◌-◌, not, if◌then◌else◌}
 use Rattle.std.specs.List.{list_all, range_with_len}
-use Rattle.tomex_worth.specs.Changes.{part_at, same_entry}
+use Rattle.tomex_config.specs.Parts.{part_at, same_entry}
 use Rattle.tomex_worth.proofs.changes.differ_at.Given as goal
 
 abbrev pub invariant-loop-k : goal.invariant-loop-k

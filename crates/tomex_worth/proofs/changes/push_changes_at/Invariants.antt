@@ -1,7 +1,8 @@
 -- The changes so far, and the remaining rows.
 use Rattle.std.proofs.Common.{◌≡◌, ◌++◌, drop, map}
 use Rattle.std.specs.List.{filter}
-use Rattle.tomex_worth.specs.Changes.{change, differ_at, part_at}
+use Rattle.tomex_worth.specs.Changes.{change, differ_at}
+use Rattle.tomex_config.specs.Parts.{part_at}
 use Rattle.tomex_study.specs.Study.{config_at}
 use Rattle.tomex_worth.proofs.changes.push_changes_at.Given as goal
 

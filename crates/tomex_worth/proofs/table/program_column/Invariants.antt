@@ -1,7 +1,7 @@
 -- The entries so far, and the remaining ones.
 use Rattle.std.proofs.Common.{◌≡◌, ◌∷◌, ◌++◌, drop, map}
 use Rattle.std.specs.Fmt.{decimal}
-use Rattle.tomex_worth.specs.Differences.{signed_difference}
+use Rattle.tomex_layout.specs.Differences.{signed_difference}
 use Rattle.tomex_study.specs.Cycles.{total_at}
 use Rattle.tomex_worth.proofs.table.program_column.Given as goal
 

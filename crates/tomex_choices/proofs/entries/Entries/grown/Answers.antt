@@ -1,7 +1,7 @@
 -- A number that some row has isn't lacked, and one that none has is.
 use Rattle.std.proofs.Common.{◌∙◌, ap}
-use Rattle.tomex_timing.specs.declared.part.Part.{Part}
-use Rattle.tomex_choices.specs.NewMachines.{with_count}
+use Rattle.tomex_config.specs.declared.part.Part.{Part}
+use Rattle.tomex_config.specs.Parts.{with_count}
 use Rattle.tomex_choices.proofs.Reading.{is_lacked, not_lacked}
 use Rattle.tomex_choices.proofs.entries.Entries.grown.Goals as goal
 

@@ -2,7 +2,8 @@
 use Rattle.std.proofs.Common.{◌∙◌, All, ap, subst, sym, List}
 use Rattle.std.proofs.lemmas.List.Elements.{All-push}
 use Rattle.tomex_rvexec.specs.declared.step.Step.{Step}
-use Rattle.tomex_floor.specs.Floor.{floors_by_width, latency_of}
+use Rattle.tomex_floor.specs.Floor.{floors_by_width}
+use Rattle.tomex_config.specs.Configuration.{latency_of}
 use Rattle.tomex_choices.specs.Flooring.{AreFloorsOf}
 use Rattle.tomex_choices.specs.Floors.{steps_of}
 use Rattle.tomex_choices.proofs.SameFloors.{floors_known}

@@ -3,8 +3,8 @@ use Rattle.std.proofs.Common.{◌∙◌, ap}
 use Rattle.std.proofs.lemmas.List.{get_or_default}
 use Rattle.std.proofs.lemmas.Result.{IfOk-weaker}
 use Rattle.tomex_study.specs.Study.{DesignSpace}
-use Rattle.tomex_timing.specs.Needs.{all_parts}
-use Rattle.tomex_timing.specs.declared.part.Part.TheVariants.{Width}
+use Rattle.tomex_config.specs.Parts.{all_parts}
+use Rattle.tomex_config.specs.declared.part.Part.TheVariants.{Width}
 use Rattle.tomex_choices.proofs.Adding.{added_is}
 use Rattle.tomex_choices.proofs.weighing.WeighedChoices.additions.Goals as goal
 

@@ -1,7 +1,8 @@
 -- The column of one more setting.
 use Rattle.std.proofs.Common.{refl}
 use Rattle.tomex_layout.proofs.Pieces.{next_piece}
-use Rattle.tomex_front_views.specs.FrontTable.{all_settings, setting_columns}
+use Rattle.tomex_front_views.specs.FrontTable.{setting_columns}
+use Rattle.tomex_config.specs.Settings.{all_settings}
 use Rattle.tomex_front_views.proofs.table.front.push_settings.Goals as goal
 
 pub loop-setting-preserved : goal.loop-setting-preserved

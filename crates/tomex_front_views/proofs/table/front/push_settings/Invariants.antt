@@ -1,7 +1,8 @@
 -- The columns so far.
 use Rattle.std.proofs.Common.{◌≡◌, ◌++◌, take}
 use Rattle.std.specs.List.{flat_map}
-use Rattle.tomex_front_views.specs.FrontTable.{all_settings, setting_columns}
+use Rattle.tomex_front_views.specs.FrontTable.{setting_columns}
+use Rattle.tomex_config.specs.Settings.{all_settings}
 use Rattle.tomex_front_views.proofs.table.front.push_settings.Given as goal
 
 abbrev pub invariant-loop-setting : goal.invariant-loop-setting

@@ -5,8 +5,9 @@ use Rattle.std.proofs.lemmas.Iterator.{YieldsList-from_slice}
 use Rattle.std.proofs.lemmas.Iterator.Search.{all_from_yields_List}
 use Rattle.tomex_rvdec.specs.declared.pool.UnitId.{UnitId}
 use Rattle.tomex_config.specs.Configuration.{Configuration, option_of}
-use Rattle.tomex_timing.specs.declared.part.Part.{Part}
-use Rattle.tomex_timing.specs.Needs.{all_parts, all_units, count_of}
+use Rattle.tomex_config.specs.declared.part.Part.{Part}
+use Rattle.tomex_config.specs.Parts.{all_parts, count_of}
+use Rattle.tomex_config.specs.Cost.{all_units}
 use Rattle.tomex_plateaus.specs.declared.plateau.Plateau.{Plateau}
 use Rattle.tomex_plateaus.specs.Plateaus.{counts_of, is_within, latencies_of}
 use Rattle.tomex_plateaus.proofs.plateau.Plateau.has.Goals as goal

@@ -1,6 +1,6 @@
 -- Each part's stalls are small, and so is each wait.
 use Rattle.std.proofs.Common.{◌^◌, ◌≤◌, arith, rules}
-use Rattle.tomex_timing.specs.declared.part.Part.TheVariants.{Stations, Units, Buses, Width}
+use Rattle.tomex_config.specs.declared.part.Part.TheVariants.{Stations, Units, Buses, Width}
 use Rattle.tomex_timing.proofs.needs.Needs.note.Goals as goal
 
 pub after-self-requires : goal.after-self-requires

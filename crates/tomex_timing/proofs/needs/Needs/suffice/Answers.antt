@@ -3,7 +3,9 @@ use Rattle.std.proofs.Common.{rules, ◌≡◌, refl, tests}
 use Rattle.std.specs.List.{list_all}
 use Rattle.std.proofs.lemmas.Iterator.{YieldsList-from_slice}
 use Rattle.std.proofs.lemmas.Iterator.Search.{all_from_yields_List}
-use Rattle.tomex_timing.specs.Needs.{all_parts, all_units, allows, allows_latency}
+use Rattle.tomex_timing.specs.Needs.{allows, allows_latency}
+use Rattle.tomex_config.specs.Parts.{all_parts}
+use Rattle.tomex_config.specs.Cost.{all_units}
 use Rattle.tomex_timing.proofs.needs.Needs.suffice.Goals as goal
 
 pub returns-then-all : goal.returns-then-all

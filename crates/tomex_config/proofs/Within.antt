@@ -14,38 +14,11 @@ use Rattle.tomex_config.specs.Configuration.{option_of}
 use Rattle.tomex_config.specs.Configuration.{plain_option, with_buses, with_option, with_stations, with_width}
 use Rattle.tomex_config.specs.declared.config.UnitOption.{UnitOption}
 use Rattle.tomex_config.proofs.Ranges.{fits_any, one_branch_unit}
-use Rattle.tomex_floor.specs.Floor.{latency_of}
-use Rattle.tomex_timing.specs.declared.part.Part.{Part}
-use Rattle.tomex_timing.specs.declared.part.Part.TheVariants.{Stations, Units, Buses, Width}
-use Rattle.tomex_choices.specs.Choices.{most_of}
-use Rattle.tomex_choices.specs.NewMachines.{with_count}
-
--- all parts of a list, by place
-
-pub six : (xs : List ℕ) → length xs ≡ 6
-    → slice_index xs 0 ∷ slice_index xs 1 ∷ slice_index xs 2 ∷ slice_index xs 3 ∷ slice_index xs 4
-    ∷ slice_index xs 5 ∷ []
-    ≡ xs
-six (a ∷ b ∷ c ∷ d ∷ e ∷ f ∷ []) many = refl
-six [] many = absurd (let l : 0 ≡ 6 = many in omega arith)
-six (a ∷ []) many = absurd (let l : 1 ≡ 6 = many in omega arith)
-six (a ∷ b ∷ []) many = absurd (let l : 2 ≡ 6 = many in omega arith)
-six (a ∷ b ∷ c ∷ []) many = absurd (let l : 3 ≡ 6 = many in omega arith)
-six (a ∷ b ∷ c ∷ d ∷ []) many = absurd (let l : 4 ≡ 6 = many in omega arith)
-six (a ∷ b ∷ c ∷ d ∷ e ∷ []) many = absurd (let l : 5 ≡ 6 = many in omega arith)
-six (a ∷ b ∷ c ∷ d ∷ e ∷ f ∷ g ∷ xs) many = absurd (
-    let l : suc (suc (suc (suc (suc (suc (suc (length xs))))))) ≡ 6 = many in omega arith)
-
-pub five : {X : Type 0} (xs : List X) (x : X) → length xs ≡ 5
-    → get_or xs 0 x ∷ get_or xs 1 x ∷ get_or xs 2 x ∷ get_or xs 3 x ∷ get_or xs 4 x ∷ [] ≡ xs
-five (a ∷ b ∷ c ∷ d ∷ e ∷ []) x many = refl
-five [] x many = absurd (let l : 0 ≡ 5 = many in omega arith)
-five (a ∷ []) x many = absurd (let l : 1 ≡ 5 = many in omega arith)
-five (a ∷ b ∷ []) x many = absurd (let l : 2 ≡ 5 = many in omega arith)
-five (a ∷ b ∷ c ∷ []) x many = absurd (let l : 3 ≡ 5 = many in omega arith)
-five (a ∷ b ∷ c ∷ d ∷ []) x many = absurd (let l : 4 ≡ 5 = many in omega arith)
-five (a ∷ b ∷ c ∷ d ∷ e ∷ f ∷ xs) x many = absurd (
-    let l : suc (suc (suc (suc (suc (suc (length xs)))))) ≡ 5 = many in omega arith)
+use Rattle.tomex_config.specs.Configuration.{latency_of}
+use Rattle.tomex_config.specs.declared.part.Part.{Part}
+use Rattle.tomex_config.specs.declared.part.Part.TheVariants.{Stations, Units, Buses, Width}
+use Rattle.tomex_config.specs.Parts.{most_of}
+use Rattle.tomex_config.specs.Parts.{with_count}
 
 pub place_low : (unit : UnitId) → place_of_unit unit < 5
 place_low units.Alu = omega arith

@@ -1,8 +1,8 @@
 -- The remaining configurations.
 use Rattle.std.proofs.Common.{◌≡◌, drop}
 use Rattle.std.specs.List.{list_any}
-use Rattle.tomex_choices.specs.Asking.{is_like}
-use Rattle.tomex_choices.proofs.choices.Likeness.is_in.Given as goal
+use Rattle.tomex_config.specs.Parts.{is_like}
+use Rattle.tomex_config.proofs.likeness.Likeness.is_in.Given as goal
 
 abbrev pub invariant-loop-config : goal.invariant-loop-config
 invariant-loop-config l =

@@ -1,10 +1,10 @@
 -- No configuration yet, and one more.
 use Rattle.std.proofs.Common.{◌≡◌, ◌∙◌, ap, sym}
 use Rattle.std.specs.List.{list_any}
-use Rattle.tomex_choices.specs.Asking.{is_like}
-use Rattle.tomex_choices.proofs.Firsts.{all_coming, one_came, one_comes}
-use Rattle.tomex_choices.proofs.choices.Likeness.firsts.Goals as goal
-use Rattle.tomex_choices.proofs.choices.Likeness.firsts.Goals.{else-not-is_in, then-not-is_in+in_ok-push}
+use Rattle.tomex_config.specs.Parts.{is_like}
+use Rattle.tomex_config.proofs.Firsts.{all_coming, one_came, one_comes}
+use Rattle.tomex_config.proofs.likeness.Likeness.firsts.Goals as goal
+use Rattle.tomex_config.proofs.likeness.Likeness.firsts.Goals.{else-not-is_in, then-not-is_in+in_ok-push}
 
 pub loop-config-init : goal.loop-config-init
 loop-config-init c = all_coming c.args.self c.args.rows.now c.new-firsts.result.items c.new-firsts.ensures.items

@@ -1,9 +1,9 @@
 -- The firsts so far, and those that come.
 use Rattle.std.proofs.Common.{◌≡◌, ◌++◌, drop}
-use Rattle.tomex_choices.specs.Asking.{is_like}
-use Rattle.tomex_choices.specs.Choices.{firsts}
-use Rattle.tomex_choices.proofs.Firsts.{coming}
-use Rattle.tomex_choices.proofs.choices.Likeness.firsts.Given as goal
+use Rattle.tomex_config.specs.Parts.{is_like}
+use Rattle.tomex_config.specs.Parts.{firsts}
+use Rattle.tomex_config.proofs.Firsts.{coming}
+use Rattle.tomex_config.proofs.likeness.Likeness.firsts.Given as goal
 
 abbrev pub invariant-loop-config : goal.invariant-loop-config
 invariant-loop-config l =

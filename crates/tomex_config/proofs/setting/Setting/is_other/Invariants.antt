@@ -1,8 +1,8 @@
 -- The remaining configurations.
 use Rattle.std.proofs.Common.{◌≡◌, ◌==◌, not, drop}
 use Rattle.std.specs.List.{list_any}
-use Rattle.tomex_front_views.specs.FrontTable.{setting_of}
-use Rattle.tomex_front_views.proofs.table.heading.Setting.is_other.Given as goal
+use Rattle.tomex_config.specs.Settings.{setting_of}
+use Rattle.tomex_config.proofs.setting.Setting.is_other.Given as goal
 
 abbrev pub invariant-loop-config : goal.invariant-loop-config
 invariant-loop-config l =

@@ -6,12 +6,11 @@ use Rattle.std.proofs.lemmas.Bool.{cases_Bool}
 use Rattle.std.proofs.lemmas.Bool.Decides.{nat_tests}
 use Rattle.std.proofs.lemmas.List.{append-nil, at_drop_all, at_drop_more}
 use Rattle.tomex_config.specs.Configuration.{Configuration}
-use Rattle.tomex_timing.specs.declared.part.Part.TheVariants.{Stations, Units, Buses, Width}
-use Rattle.tomex_choices.specs.Asking.{is_like}
-use Rattle.tomex_choices.specs.Choices.{firsts}
-use Rattle.tomex_choices.specs.declared.choices.Likeness.{Likeness}
-use Rattle.tomex_choices.specs.declared.choices.Likeness.TheVariants.{Entry, Latency}
-use Rattle.tomex_choices.proofs.EnoughFrom.{any_at, any_from}
+use Rattle.tomex_config.specs.declared.part.Part.TheVariants.{Stations, Units, Buses, Width}
+use Rattle.tomex_config.specs.Parts.{is_like}
+use Rattle.tomex_config.specs.Parts.{firsts}
+use Rattle.tomex_config.specs.declared.likeness.Likeness.{Likeness}
+use Rattle.tomex_config.specs.declared.likeness.Likeness.TheVariants.{Entry, Latency}
 
 -- filters
 
@@ -50,6 +49,17 @@ neither : (a b : Bool) → not (a || b) ≡ (not a && not b)
 neither true b = refl
 neither false b = refl
 
+-- if one item passes a test, and what passes it passes another, one passes that
+any_too : {X : Type 0} (p q : X → Bool) (xs : List X) → ((x : X) → p x ≡ true → q x ≡ true) → list_any p xs ≡ true
+    → list_any q xs ≡ true
+any_too p q [] too some = some
+any_too p q (x ∷ xs) too some = elim (cases_Bool (p x)) [
+  | inl e ↦ rw (too x e) refl
+  | inr e ↦
+      let rest : list_any q xs ≡ true = any_too p q xs too (rw e at some) in
+      elim (cases_Bool (q x)) [ inl f ↦ rw f refl | inr f ↦ rw f rest ]
+]
+
 -- what is like one that is like another is like that one
 
 like_too : (l : Likeness) (a b c : Configuration) → is_like l a b ≡ true → is_like l b c ≡ true → is_like l a c ≡ true
@@ -78,10 +88,9 @@ came : (l : Likeness) (before rows : List Configuration) (x : Configuration)
     → list_any (λ c. is_like l c x) before ≡ true → coming l before (x ∷ rows) ≡ coming l before rows
 came l before rows x is =
     rw is (within_other (is_new l before) (λ d. not (is_like l x d)) (firsts (is_like l) rows) (λ d e.
-    let w = any_at (λ c. is_like l c x) before is in
     let own : is_like l x d ≡ true = grind (arith, nat_tests) in
     let too : list_any (λ c. is_like l c d) before ≡ true =
-    any_from (λ c. is_like l c d) before w.0 w.1 (like_too l w.0 x d w.2 own) in
+    any_too (λ c. is_like l c x) (λ c. is_like l c d) before (λ c f. like_too l c x d f own) is in
     ap not too))
 
 comes : (l : Likeness) (before rows : List Configuration) (x : Configuration)
