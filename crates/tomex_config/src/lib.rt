@@ -1,4 +1,4 @@
-//! Configurations of a Tomasulo machine: their parts, their costs, and the grid of all
+//! Configurations of a Tomasulo machine: their parts and settings, their costs, and the grid of all
 //! configurations that the axes of a study span.
 //!
 //! Source of the parts: R. M. Tomasulo, "An Efficient Algorithm for Exploiting Multiple Arithmetic

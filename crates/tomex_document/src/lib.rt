@@ -1,5 +1,5 @@
-//! The document of a study, before its programs' files are read: TOML, whose places and keys are
-//! tested one after another.
+//! Studies, read from their bytes and those of the files that they name, or the first test that they fail: the document
+//! in TOML, whose places and keys are tested one after another, and then its programs.
 //! Tests: tomex_tests_documents.
 #![tactic(auto)]
 

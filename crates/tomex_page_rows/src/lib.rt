@@ -1,5 +1,6 @@
 //! The tables that a study's report has of each row of the front: its parts, what one part changed brings, and the
-//! prices with which it stays.
+//! prices with which it stays. And of the choices of its lists: which of them no row of the front has, how far the
+//! fastest row is from the floors, and what choices that the lists lack would bring.
 //!
 //! Source: the HTML Living Standard, in its XML syntax.
 //! Tests: tomex_cases.

@@ -1,5 +1,8 @@
 //! The Pareto front of configurations by cost and cycles: those that no other configuration dominates. It is found
 //! from their costs and cycles, without their programs. And its lower convex hull: those that no mix of two beats.
+//!
+//! Spans: rows one measure of which, cost or cycles, grows with a value, such as a price or a weight, and for which
+//! values of it a row is on the front. And by how much all such values may be wrong at once.
 //! Tests: tomex_tests_sweeps, tomex_tests_surveys.
 #![tactic(auto)]
 

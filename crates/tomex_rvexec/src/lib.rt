@@ -1,4 +1,5 @@
-//! The in-order machine of RV32IM: runs of an image, step by step, and their traces.
+//! RV32IM, in order: what an instruction with its operands reads, computes and stores; the machine that carries out one
+//! after another; runs of an image, step by step, and their traces.
 //!
 //! Source: The RISC-V Instruction Set Manual, Volume I: Unprivileged ISA, version 20191213,
 //! chapters "RV32I Base Integer Instruction Set" 2.1 and "M Standard Extension" 2.0.
