@@ -26,7 +26,7 @@ use Rattle.tomex_config.specs.Parts.{part_at, same_entry}
 use Rattle.tomex_choices.specs.Asking.{are_alike, are_alike_in, changes_at, last_change}
 use Rattle.tomex_config.specs.Parts.{latency_in, most_of, same_latency}
 use Rattle.tomex_choices.specs.Enough.{total_with}
-use Rattle.tomex_choices.specs.Extremes.{greatest}
+use Rattle.tomex_survey.specs.Extremes.{greatest}
 use Rattle.tomex_choices.specs.NewMachines.{brought_by, greatest_units, grown, machine_if, more_units}
 use Rattle.tomex_config.specs.Parts.{with_count}
 use Rattle.tomex_choices.specs.Passing.{Has}

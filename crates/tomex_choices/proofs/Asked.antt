@@ -17,7 +17,7 @@ use Rattle.tomex_config.specs.declared.part.Part.{Part}
 use Rattle.tomex_config.specs.declared.part.Part.TheVariants.{Stations, Units, Buses, Width}
 use Rattle.tomex_choices.specs.Asking.{IsAsked, IsNumberAsked, changes_at, differ, last_change}
 use Rattle.tomex_config.specs.Parts.{most_of}
-use Rattle.tomex_choices.specs.Extremes.{greatest}
+use Rattle.tomex_survey.specs.Extremes.{greatest}
 use Rattle.tomex_choices.specs.NewMachines.{brought_by, greatest_units, grown, machine_if, more_units}
 use Rattle.tomex_config.specs.Parts.{with_count}
 use Rattle.tomex_choices.specs.Passing.{Has}

@@ -19,7 +19,7 @@ use Rattle.tomex_config.specs.declared.part.Part.{Part}
 use Rattle.tomex_config.specs.declared.part.Part.TheVariants.{Stations, Units, Buses, Width}
 use Rattle.tomex_choices.specs.Additions.{additions, has_entry, useful}
 use Rattle.tomex_config.specs.Parts.{most_of}
-use Rattle.tomex_choices.specs.Extremes.{least}
+use Rattle.tomex_survey.specs.Extremes.{least}
 use Rattle.tomex_choices.specs.Laws.{CoveredIsNothingToAdd, CoveredMachinesAddNoPoints}
 use Rattle.tomex_choices.specs.Laws.{AreLongerCovered, IsDearer, IsLonger, NothingToAddIsCovered}
 use Rattle.tomex_choices.specs.NewMachines.{greatest_units, grown, lacking, least_price, more_units, new_machines}

@@ -13,7 +13,7 @@ use Rattle.tomex_config.specs.declared.part.Part.{Part}
 use Rattle.tomex_choices.specs.Asking.{changes_at, last_change}
 use Rattle.tomex_config.specs.Parts.{most_of}
 use Rattle.tomex_choices.specs.Enough.{enough, is_enough_on, stays_from, total_with}
-use Rattle.tomex_choices.specs.Extremes.{greatest}
+use Rattle.tomex_survey.specs.Extremes.{greatest}
 use Rattle.tomex_choices.specs.Passing.{Has}
 use Rattle.tomex_choices.proofs.Members.{from_filter, has_filter}
 

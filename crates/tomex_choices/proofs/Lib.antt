@@ -4,7 +4,6 @@ pub mod Members
 pub mod Leasts
 pub mod Greatest
 pub mod SameSavings
-pub mod SameFloors
 pub mod SameTotals
 pub mod EnoughFrom
 pub mod Alike
@@ -20,7 +19,6 @@ pub mod AskedRows
 pub mod Joining
 pub mod AllStretches
 mod Oks
-pub mod FloorSums
 pub mod Adding
 pub mod PriceFree
 pub mod AboveFloors

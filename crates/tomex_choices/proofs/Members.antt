@@ -5,7 +5,7 @@ use Rattle.std.specs.Prelude.{min, nat_le}
 use Rattle.std.specs.List.{filter}
 use Rattle.std.proofs.lemmas.Bool.{cases_Bool}
 use Rattle.std.proofs.lemmas.Bool.Decides.{nat_tests}
-use Rattle.tomex_choices.specs.Extremes.{least, lesser}
+use Rattle.tomex_survey.specs.Extremes.{least, lesser}
 use Rattle.tomex_choices.specs.Passing.{Has}
 
 pub has_map : {X Y : Type 0} (f : X → Y) (xs : List X) (x : X) → Has xs x → Has (map f xs) (f x)

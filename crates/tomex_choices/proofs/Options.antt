@@ -8,10 +8,10 @@ use Rattle.std.proofs.lemmas.Bool.Decides.{nat_tests}
 use Rattle.std.proofs.lemmas.List.{at_drop_all, at_drop_more}
 use Rattle.tomex_rvdec.specs.declared.pool.UnitId.{UnitId}
 use Rattle.tomex_config.specs.Configuration.{Configuration, option_of}
-use Rattle.tomex_choices.specs.Extremes.{least}
+use Rattle.tomex_survey.specs.Extremes.{least}
 use Rattle.tomex_choices.specs.NewMachines.{greatest_units, least_price, options_at}
 use Rattle.tomex_choices.specs.declared.entries.MostUnits.{MostUnits}
-use Rattle.tomex_choices.proofs.Leasts.{least_by, least_by_is}
+use Rattle.tomex_survey.proofs.Leasts.{least_by, least_by_is}
 
 abbrev pub no_units : MostUnits
 no_units = record { units = 0; price = 0 }

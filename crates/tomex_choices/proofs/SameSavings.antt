@@ -8,7 +8,7 @@ use Rattle.std.proofs.lemmas.Bool.Decides.{nat_tests}
 use Rattle.std.proofs.lemmas.Nat.{le-div}
 use Rattle.std.proofs.Math.Nat.{div-mul-le_self, div-le_of_le-mul, mul-add, mul-le-mul_right}
 use Rattle.tomex_pareto.specs.declared.front_row.FrontRow.{FrontRow}
-use Rattle.tomex_choices.specs.Extremes.{least}
+use Rattle.tomex_survey.specs.Extremes.{least}
 use Rattle.tomex_choices.specs.Passing.{AreUnbeaten, Has}
 use Rattle.tomex_choices.specs.Savings.{as_row, complete, costs_asked, fewest, greatest_saving, saving_among, saving_at}
 use Rattle.tomex_choices.specs.Savings.{saving_if, thousandths}

@@ -12,7 +12,7 @@ use Rattle.tomex_timing.specs.Needs.{Serves, peak}
 use Rattle.tomex_config.specs.Parts.{count_of}
 use Rattle.tomex_timing.specs.Run.{total}
 use Rattle.tomex_timing.specs.Search.{history}
-use Rattle.tomex_choices.specs.Floors.{steps_of}
+use Rattle.tomex_survey.specs.Floors.{steps_of}
 use Rattle.tomex_choices.specs.Laws.{HasMoreUnneeded, MoreOfTheUnneededChangesNothing}
 use Rattle.tomex_choices.specs.Passing.{Has}
 use Rattle.tomex_choices.proofs.Passes.{contains_from}

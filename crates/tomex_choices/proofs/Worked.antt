@@ -1,8 +1,7 @@
 -- The choices of some rows, computed by the definitions themselves: the rows of examples/study.toml, an alu station at
 -- 10, the fast multiplier at 40, the slow one at 15, a bus at 25.
 use Rattle.std.proofs.Common.{◌≡◌, ◌⊎◌, arith, refl, ℕ, zero, suc, List, [], ◌∷◌, inl, inr, map, Some, None}
-use Rattle.std.specs.Prelude.{codes, false, nat_le, true}
-use Rattle.std.specs.Fmt.{digits}
+use Rattle.std.specs.Prelude.{false, nat_le, true}
 use Rattle.std.specs.List.{Contains, filter, list_all}
 use Rattle.std.proofs.lemmas.Bool.Decides.{nat_tests}
 use Rattle.tomex_rvdec.specs.declared.pool.PoolId.TheVariants as pools
@@ -17,8 +16,7 @@ use Rattle.tomex_study.specs.Study.{DesignSpace, costs_of}
 use Rattle.tomex_config.specs.Parts.{count_of}
 use Rattle.tomex_config.specs.declared.part.Part.{Part}
 use Rattle.tomex_config.specs.declared.part.Part.TheVariants.{Stations, Units, Buses, Width}
-use Rattle.tomex_config.specs.Parts.{same_entry}
-use Rattle.tomex_layout.specs.Lists.{entry_text}
+use Rattle.tomex_config.specs.Parts.{count_of, latency_in, same_entry}
 use Rattle.tomex_choices.specs.Choices.{choices}
 use Rattle.tomex_choices.specs.Ends.{HasMoreAtEnd, IsAtEnd, IsBeyondEnds}
 use Rattle.tomex_choices.specs.Enough.{stays_from}
@@ -62,26 +60,28 @@ study_of configs =
 abbrev study : DesignSpace
 study = study_of rows
 
-abbrev texts : Part → List Configuration → List (List ℕ)
-texts part configs = map (λ c. entry_text c part) configs
+-- the numbers of a part that configurations have, and the latencies of its units
+abbrev counts : Part → List Configuration → List ℕ
+counts part configs = map (λ c. count_of c part) configs
+
+abbrev latencies : Part → List Configuration → List ℕ
+latencies part configs = map (latency_in part) configs
 
 -- what the lists have
-alu_choices : texts (Stations pools.Alu) (choices study (Stations pools.Alu)) ≡ codes "1" ∷ codes "2" ∷ codes "4" ∷ []
-unfolding digits
+alu_choices : counts (Stations pools.Alu) (choices study (Stations pools.Alu)) ≡ 1 ∷ 2 ∷ 4 ∷ []
 alu_choices = refl
 
-mul_choices : texts (Units units.Mul) (choices study (Units units.Mul)) ≡ codes "1@3" ∷ codes "1@6" ∷ []
-unfolding digits
-mul_choices = refl
+mul_choices : (counts (Units units.Mul) (choices study (Units units.Mul)) ≡ 1 ∷ 1 ∷ [])
+    × (latencies (Units units.Mul) (choices study (Units units.Mul)) ≡ 3 ∷ 6 ∷ [])
+mul_choices = (refl, refl)
 
 -- what they lack
-buses_lack : texts Buses (lacking study Buses)
-    ≡ codes "3" ∷ codes "4" ∷ codes "5" ∷ codes "6" ∷ codes "7" ∷ codes "8" ∷ []
-unfolding lacking digits
+buses_lack : counts Buses (lacking study Buses) ≡ 3 ∷ 4 ∷ 5 ∷ 6 ∷ 7 ∷ 8 ∷ []
+unfolding lacking
 buses_lack = refl
 
-widths_lack : texts Width (lacking study Width) ≡ codes "2" ∷ codes "3" ∷ codes "4" ∷ []
-unfolding lacking digits
+widths_lack : counts Width (lacking study Width) ≡ 2 ∷ 3 ∷ 4 ∷ []
+unfolding lacking
 widths_lack = refl
 
 branch_units_lack : lacking study (Units units.Bru) ≡ []
@@ -93,10 +93,10 @@ abbrev more : DesignSpace
 more = study_of (config 1 (option 6 3 40) 1 ∷ config 1 (option 7 6 15) 1 ∷ config 1 (option 6 3 30) 1
     ∷ config 1 (option 5 3 20) 1 ∷ [])
 
-mul_units_lack : texts (Units units.Mul) (lacking more (Units units.Mul))
-    ≡ codes "7@3" ∷ codes "8@3" ∷ codes "8@6" ∷ []
-unfolding lacking greatest_units least_price digits
-mul_units_lack = refl
+mul_units_lack : (counts (Units units.Mul) (lacking more (Units units.Mul)) ≡ 7 ∷ 8 ∷ 8 ∷ [])
+    × (latencies (Units units.Mul) (lacking more (Units units.Mul)) ≡ 3 ∷ 3 ∷ 6 ∷ [])
+unfolding lacking greatest_units least_price
+mul_units_lack = (refl, refl)
 
 -- at the price of the cheapest with most units: 10 for the station, 25 for the bus, 30 for the option
 abbrev of_units : ℕ → NewMachine

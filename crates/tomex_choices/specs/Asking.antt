@@ -15,7 +15,7 @@ use Rattle.tomex_config.specs.declared.part.Part.TheVariants.{Units}
 use Rattle.tomex_config.specs.Parts.{part_at, same_entry}
 use Rattle.tomex_config.specs.Parts.{most_of, same_latency}
 use Rattle.tomex_choices.specs.Enough.{total_with}
-use Rattle.tomex_choices.specs.Extremes.{greatest}
+use Rattle.tomex_survey.specs.Extremes.{greatest}
 use Rattle.tomex_choices.specs.NewMachines.{brought_by, greatest_units, grown, least_price, machine_if}
 use Rattle.tomex_choices.specs.NewMachines.{new_machines}
 use Rattle.tomex_choices.specs.Passing.{Has}

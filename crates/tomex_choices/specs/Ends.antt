@@ -13,7 +13,7 @@ use Rattle.tomex_config.specs.declared.part.Part.{Part}
 use Rattle.tomex_config.specs.declared.part.Part.TheVariants.{Units}
 use Rattle.tomex_config.specs.Parts.{same_entry}
 use Rattle.tomex_config.specs.Parts.{latency_in}
-use Rattle.tomex_choices.specs.Floors.{steps_of}
+use Rattle.tomex_survey.specs.Floors.{steps_of}
 
 -- no row has more of a part than this one; of units, no row with the same latency
 abbrev pub IsAtEnd : DesignSpace → Part → Configuration → Type 0

@@ -23,7 +23,7 @@ use Rattle.tomex_choices.specs.Choices.{unused}
 use Rattle.tomex_config.specs.Parts.{most_of}
 use Rattle.tomex_choices.specs.Ends.{AreReweighted, IsBeyondEnds, IsCoveredAtAnyPrice, IsUnneededAtEnd, repriced}
 use Rattle.tomex_choices.specs.Enough.{enough}
-use Rattle.tomex_choices.specs.Floors.{any_width, steps_of, study_floor}
+use Rattle.tomex_survey.specs.Floors.{any_width, steps_of, study_floor}
 use Rattle.tomex_choices.specs.NewMachines.{grown, new_machines}
 use Rattle.tomex_config.specs.Parts.{with_count}
 use Rattle.tomex_choices.specs.Points.{IsCovered, IsFrontKept, row_of}

@@ -1,16 +1,13 @@
 -- Definitions that contracts cite: what a study's lists have, what they lack, and what that would bring.
-pub mod Extremes
 pub mod Choices
 pub mod NewMachines
 pub mod Savings
 pub mod Additions
 pub mod Enough
-pub mod Floors
 pub mod Points
 pub mod Ends
 pub mod Laws
 -- the code's own words
 pub mod Asking
-pub mod Flooring
 pub mod Passing
 pub mod Weighed

@@ -4,7 +4,7 @@ use Rattle.std.specs.Prelude.{List, [], ◌∷◌, ◌++◌, map, Option, Some, 
 use Rattle.std.specs.Prelude.{option_to_list}
 use Rattle.std.specs.List.{filter, list_any}
 use Rattle.tomex_pareto.specs.declared.front_row.FrontRow.{FrontRow}
-use Rattle.tomex_choices.specs.Extremes.{least}
+use Rattle.tomex_survey.specs.Extremes.{least}
 use Rattle.tomex_choices.specs.declared.new_machine.NewMachine.{NewMachine}
 use Rattle.tomex_choices.specs.declared.saving.Saving.{Saving}
 

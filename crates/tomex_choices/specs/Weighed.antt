@@ -8,10 +8,10 @@ use Rattle.tomex_config.specs.Parts.{part_at}
 use Rattle.tomex_choices.specs.Additions.{has_entry, saving_of, useful}
 use Rattle.tomex_config.specs.Parts.{most_of}
 use Rattle.tomex_choices.specs.Enough.{enough}
-use Rattle.tomex_choices.specs.Floors.{any_width, study_floor}
+use Rattle.tomex_survey.specs.Floors.{any_width, study_floor}
 use Rattle.tomex_choices.specs.NewMachines.{grown}
 use Rattle.tomex_choices.specs.Passing.{Has}
-use Rattle.tomex_choices.specs.declared.floors.Floors.{Floors}
+use Rattle.tomex_survey.specs.declared.floors.Floors.{Floors}
 use Rattle.tomex_choices.specs.declared.new_machine.NewMachine.{NewMachine}
 use Rattle.tomex_choices.specs.declared.weighing.WeighedList.{WeighedList}
 

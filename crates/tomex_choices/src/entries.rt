@@ -7,7 +7,7 @@ ghost use Rattle.tomex_config.specs.Grid.{most_rows};
 ghost use Rattle.tomex_config.specs.Parts.{part_at, same_entry};
 ghost use Rattle.tomex_choices.specs.Asking.{AreMostUnits, HasEarlier, are_alike, has_number, most_at};
 ghost use Rattle.tomex_config.specs.Parts.{most_of, same_latency};
-ghost use Rattle.tomex_choices.specs.Extremes.{lesser};
+ghost use Rattle.tomex_survey.specs.Extremes.{lesser};
 ghost use Rattle.tomex_choices.specs.NewMachines.{greatest_units, grown, least_price};
 
 use std::marker::Model;

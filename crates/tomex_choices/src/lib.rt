@@ -1,12 +1,11 @@
 //! Which choices of a study's lists are of use: those that a list lacks and what they would bring, by evaluating new
-//! machines as rows are; from which number on nothing changes; and the floors of a study.
+//! machines as rows are; and from which number on nothing changes.
 //! Tests: tomex_tests_choices.
 #![tactic(auto)]
 
 mod asking;
 mod choices;
 mod entries;
-mod floors;
 mod found;
 mod laws;
 mod new_machine;
@@ -16,7 +15,6 @@ mod useful;
 mod weighing;
 
 pub use choices::{front_choices, unused};
-pub use floors::{Floored, Floors, all_floored, fastest, floors_of};
 pub use laws::{
     additions_are_all_that_is_needed, complete_lists_are_complete, covered_machines_add_no_points,
     floor_bounds_machines_of_all_sizes, longer_lists_at_once_add_nothing,

@@ -1,13 +1,14 @@
 //! The cycles that a complete list saves.
 
 ghost use Rattle.std.specs.Prelude.{◌≡◌, map};
-ghost use Rattle.tomex_choices.specs.Extremes.{least, lesser};
+ghost use Rattle.tomex_survey.specs.Extremes.{least};
 ghost use Rattle.tomex_choices.specs.Passing.{cheapest_saving};
 ghost use Rattle.tomex_choices.specs.Savings.{complete, fewest, is_greater, more, saving_among, saving_at, saving_if};
 ghost use Rattle.tomex_choices.specs.Savings.{thousandths};
 
 use crate::new_machine::NewMachine;
 use tomex_pareto::FrontRow;
+use tomex_survey::lesser;
 
 /// The fewest cycles that a cost buys: of a study's rows, and fewer of those with the new machines of a list.
 #[derive(Clone, Copy, Debug, Drop, PartialEq, Eq)]
@@ -15,16 +16,6 @@ pub struct Saving {
     pub cost: u64,
     pub now: u64,
     pub new: u64,
-}
-
-/// The lesser of a number and what is least so far.
-pub(crate) fn lesser(number: u64, least: Option<u64>) -> u64
-    ensures { result ≡ lesser number least }
-{
-    match least {
-        None => number,
-        Some(least) => number.min(least),
-    }
 }
 
 /// The fewest cycles of the rows that a cost buys.

@@ -9,12 +9,11 @@ ghost use Rattle.tomex_choices.specs.Additions.{additions, has_entry, saving_of,
 ghost use Rattle.tomex_choices.specs.Asking.{AreFound, IsFound};
 ghost use Rattle.tomex_config.specs.Parts.{most_of};
 ghost use Rattle.tomex_choices.specs.Enough.{enough};
-ghost use Rattle.tomex_choices.specs.Floors.{any_width, study_floor};
+ghost use Rattle.tomex_survey.specs.Floors.{any_width, study_floor};
 ghost use Rattle.tomex_choices.specs.NewMachines.{configurations_if, grown};
 ghost use Rattle.tomex_choices.specs.Weighed.{AreWeighed, IsWeighed, added_by, added_if};
 
 use crate::entries::Entries;
-use crate::floors::{Floors, floors_of};
 use crate::found::ListFound;
 use crate::new_machine::NewMachine;
 use crate::saving::{Saving, greatest_saving};
@@ -26,7 +25,7 @@ use std::thread::Threads;
 use tomex_config::{Config, Likeness, Part};
 use tomex_pareto::FrontRow;
 use tomex_study::{Gate, Study, Surveyed};
-use tomex_survey::surveyed;
+use tomex_survey::{Floors, floors_of, surveyed};
 
 /// What a list lacks.
 #[derive(Debug, Drop)]

@@ -14,7 +14,7 @@ use Rattle.tomex_choices.specs.Additions.{additions, saving_of}
 use Rattle.tomex_choices.specs.Choices.{front_choices, unused}
 use Rattle.tomex_config.specs.Parts.{most_of}
 use Rattle.tomex_choices.specs.Enough.{enough}
-use Rattle.tomex_choices.specs.Floors.{any_width, fastest, study_floor}
+use Rattle.tomex_survey.specs.Floors.{any_width, fastest, study_floor}
 use Rattle.tomex_choices.specs.declared.saving.Saving.{Saving}
 use Rattle.tomex_choices_table.specs.declared.heading.Heading.{Heading}
 use Rattle.tomex_choices_table.specs.declared.heading.Heading.TheVariants as headings

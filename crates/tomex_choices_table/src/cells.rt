@@ -8,7 +8,7 @@ ghost use Rattle.tomex_choices_table.specs.ChoicesTable.{percent_cell};
 
 use std::alloc::{AllocError, Allocator, Global};
 use std::fmt::Write;
-use tomex_choices::{Saving};
+use tomex_choices::Saving;
 use tomex_config::{Config, Part};
 use tomex_layout::{push_entry, push_percent};
 

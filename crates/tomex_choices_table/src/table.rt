@@ -2,7 +2,7 @@
 
 ghost use Rattle.std.specs.Prelude.{◌≡◌, ◌<◌, ◌++◌, map, IfOk, OnOk, string_bytes};
 ghost use Rattle.tomex_layout.specs.Growth.{Appends};
-ghost use Rattle.tomex_choices.specs.Floors.{any_width, fastest, study_floor};
+ghost use Rattle.tomex_survey.specs.Floors.{any_width, fastest, study_floor};
 ghost use Rattle.tomex_choices_table.specs.ChoicesTable.{all_headings, both_floors, choices_table_of, floor_text};
 ghost use Rattle.tomex_choices_table.specs.ChoicesTable.{floors_text, heading_column, text_under};
 ghost use Rattle.tomex_config.specs.Parts.{part_at};
@@ -11,9 +11,10 @@ use crate::cells::{push_cost, push_enough, push_entries, push_saving};
 use crate::heading::Heading;
 use std::alloc::{AllocError, Allocator, Global};
 use std::fmt::Write;
-use tomex_choices::{WeighedChoices, fastest, front_choices, unused};
-use tomex_layout::{Column, table_of, push_name_of_list, push_percent};
+use tomex_choices::{WeighedChoices, front_choices, unused};
 use tomex_config::Part;
+use tomex_layout::{Column, push_name_of_list, push_percent, table_of};
+use tomex_survey::fastest;
 
 /// Adds the text under a heading in the line of the list at a place.
 fn push_under<A: Allocator>(

@@ -13,12 +13,13 @@ use crate::overview::{push_left_out, push_overview, push_page_head};
 use crate::section::push_sections;
 use std::alloc::{AllocError, Allocator, Global};
 use std::fmt::Write;
-use tomex_choices::{WeighedChoices, all_floored};
+use tomex_choices::WeighedChoices;
 use tomex_html::push_page_end;
 use tomex_page_rows::{PriceBook, push_choices_table};
 use tomex_page_tables::{push_front_table, shown_rows};
 use tomex_pareto::FrontRow;
 use tomex_study::Surveyed;
+use tomex_survey::all_floored;
 
 /// Adds the views of the rows that are shown.
 #[tactic(auto, unfolding(crate::specs::Page::views_text))]

@@ -13,10 +13,10 @@ use crate::charts::push_chart;
 use crate::stalls::push_stalls_table;
 use std::alloc::{AllocError, Allocator, Global};
 use std::fmt::Write;
-use tomex_choices::Floored;
 use tomex_config::Config;
 use tomex_path::{Link, RunPath, path};
 use tomex_study::Program;
+use tomex_survey::Floored;
 use tomex_timing::Needs;
 use tomex_timing::evaluate::needs;
 

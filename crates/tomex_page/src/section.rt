@@ -11,7 +11,6 @@ ghost use Rattle.tomex_page_rows.specs.Stays.{AreFound};
 use crate::runs::push_runs;
 use std::alloc::{AllocError, Allocator, Global};
 use std::fmt::Write;
-use tomex_choices::Floored;
 use tomex_config::Config;
 use tomex_html::{Links, push_links};
 use tomex_page_rows::{
@@ -20,6 +19,7 @@ use tomex_page_rows::{
 use tomex_page_tables::{ShownRow, row_of};
 use tomex_pareto::FrontRow;
 use tomex_study::Surveyed;
+use tomex_survey::Floored;
 
 /// A row between its neighbours among the rows that are shown.
 #[derive(Drop)]

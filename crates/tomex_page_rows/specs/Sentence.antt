@@ -1,7 +1,7 @@
 -- How far the fastest row is from the floors.
 use Rattle.std.specs.Prelude.{ℕ, List, ◌++◌, codes}
 use Rattle.std.specs.Fmt.{decimal}
-use Rattle.tomex_choices.specs.Floors.{any_width, fastest, study_floor}
+use Rattle.tomex_survey.specs.Floors.{any_width, fastest, study_floor}
 use Rattle.tomex_choices_table.specs.ChoicesTable.{floor_text}
 use Rattle.tomex_study.specs.Study.{DesignSpace}
 

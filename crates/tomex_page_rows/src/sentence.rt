@@ -6,9 +6,9 @@ ghost use Rattle.tomex_page_rows.specs.Sentence.{floor_sentence, sentence_of};
 
 use std::alloc::{AllocError, Allocator};
 use std::fmt::Write;
-use tomex_choices::{fastest, floors_of};
 use tomex_choices_table::push_floor;
 use tomex_study::Surveyed;
+use tomex_survey::{fastest, floors_of};
 
 /// Adds the sentence of the fewest cycles of a row and both floors.
 #[tactic(auto, unfolding(crate::specs::Sentence::sentence_of))]

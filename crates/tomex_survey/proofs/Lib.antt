@@ -2,3 +2,6 @@
 pub mod Neighbours
 pub mod Weighing
 mod Oks
+pub mod Leasts
+pub mod FloorSums
+pub mod SameFloors

@@ -1,2 +1,5 @@
--- What contracts cite: the stretches of rows that workers handle.
+-- What contracts cite: the stretches of rows that workers handle, and floors.
 pub mod Stretches
+pub mod Extremes
+pub mod Floors
+pub mod Flooring

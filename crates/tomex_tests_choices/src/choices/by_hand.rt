@@ -2,11 +2,11 @@
 
 use std::alloc::{AllocError, Global};
 use std::test::Fail;
-use tomex_choices::Floored;
-use tomex_config::{Config, UnitOption, cost, Part};
+use tomex_config::{Config, Part, UnitOption, cost};
 use tomex_floor::floors;
 use tomex_rvdec::{PoolId, UnitId};
 use tomex_study::{Program, Study};
+use tomex_survey::Floored;
 use tomex_timing::evaluate::{times, total};
 
 /// A machine's entry in a list, its cost and its weighted cycles. The latency is 0 in lists without one.

@@ -6,7 +6,7 @@ use super::{program_of, study_on, weighed};
 use std::alloc::Global;
 use std::test::Fail;
 use tomex_choices::{Saving, WeighedChoices, front_choices, unused};
-use tomex_config::{Config, Prices, Part, same_entry};
+use tomex_config::{Config, Part, Prices, same_entry};
 use tomex_study::Study;
 use tomex_tests_fixtures::Random;
 use tomex_tests_fixtures::machines::{PLAIN, config_of, unit};

@@ -3,10 +3,11 @@
 use std::alloc::{AllocError, Global};
 use std::test::Fail;
 use std::thread::Threads;
-use tomex_choices::{all_floored, weigh_choices};
+use tomex_choices::weigh_choices;
 use tomex_choices_table::choices_table;
 use tomex_document::read_study;
 use tomex_study::{OpenGate, Study};
+use tomex_survey::all_floored;
 use tomex_tests_fixtures::programs::PRODUCT;
 use tomex_tests_fixtures::studies::PRODUCT_STUDY;
 use tomex_tests_fixtures::{Heap, Try, ample, refusals_of};

@@ -1,7 +1,7 @@
 -- The least price so far, and of the remaining rows.
 use Rattle.std.proofs.Common.{◌≡◌, ◌≤◌, drop, None}
 use Rattle.std.specs.Prelude.{IfSome}
-use Rattle.tomex_choices.proofs.Leasts.{least_by}
+use Rattle.tomex_survey.proofs.Leasts.{least_by}
 use Rattle.tomex_choices.proofs.Options.{is_such, price_of}
 use Rattle.tomex_choices.proofs.entries.least_price.Given as goal
 

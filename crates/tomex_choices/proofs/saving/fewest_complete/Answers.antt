@@ -1,6 +1,7 @@
 -- After the last machine.
 use Rattle.std.proofs.Common.{◌∙◌, arith}
-use Rattle.tomex_choices.proofs.Leasts.{fewest_of_complete, last_least}
+use Rattle.tomex_choices.proofs.Leasts.{fewest_of_complete}
+use Rattle.tomex_survey.proofs.Leasts.{last_least}
 use Rattle.tomex_choices.proofs.saving.fewest_complete.Goals as goal
 
 pub returns : goal.returns

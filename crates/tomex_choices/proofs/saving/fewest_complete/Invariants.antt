@@ -2,7 +2,7 @@
 use Rattle.std.proofs.Common.{◌≡◌, drop}
 use Rattle.std.specs.Prelude.{nat_le}
 use Rattle.tomex_choices.specs.Savings.{fewest}
-use Rattle.tomex_choices.proofs.Leasts.{least_by}
+use Rattle.tomex_survey.proofs.Leasts.{least_by}
 use Rattle.tomex_choices.proofs.saving.fewest_complete.Given as goal
 
 abbrev pub invariant-loop-x : goal.invariant-loop-x

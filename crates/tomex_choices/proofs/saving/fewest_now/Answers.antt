@@ -1,6 +1,7 @@
 -- After the last row.
 use Rattle.std.proofs.Common.{◌∙◌, arith}
-use Rattle.tomex_choices.proofs.Leasts.{fewest_of_rows, last_least}
+use Rattle.tomex_choices.proofs.Leasts.{fewest_of_rows}
+use Rattle.tomex_survey.proofs.Leasts.{last_least}
 use Rattle.tomex_choices.proofs.saving.fewest_now.Goals as goal
 
 pub returns : goal.returns

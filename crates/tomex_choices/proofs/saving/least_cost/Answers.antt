@@ -1,6 +1,7 @@
 -- After the last row.
 use Rattle.std.proofs.Common.{◌∙◌, arith, true}
-use Rattle.tomex_choices.proofs.Leasts.{last_least, least_of_costs}
+use Rattle.tomex_choices.proofs.Leasts.{least_of_costs}
+use Rattle.tomex_survey.proofs.Leasts.{last_least}
 use Rattle.tomex_choices.proofs.saving.least_cost.Goals as goal
 
 pub returns : goal.returns

@@ -1,6 +1,6 @@
 -- The least cost so far, and of those to come.
 use Rattle.std.proofs.Common.{◌≡◌, drop, None, true}
-use Rattle.tomex_choices.proofs.Leasts.{least_by}
+use Rattle.tomex_survey.proofs.Leasts.{least_by}
 use Rattle.tomex_choices.proofs.saving.least_cost.Given as goal
 
 abbrev pub invariant-loop-row : goal.invariant-loop-row

@@ -1,8 +1,8 @@
 -- The floor at the configuration's own width is one of the four.
 use Rattle.std.proofs.Common.{arith}
-use Rattle.tomex_choices.specs.Floors.{steps_of}
-use Rattle.tomex_choices.proofs.SameFloors.{own_floor_is}
-use Rattle.tomex_choices.proofs.floors.Floored.own_floor.Goals as goal
+use Rattle.tomex_survey.specs.Floors.{steps_of}
+use Rattle.tomex_survey.proofs.SameFloors.{own_floor_is}
+use Rattle.tomex_survey.proofs.floors.Floored.own_floor.Goals as goal
 
 pub returns-clause-floor : goal.returns-clause-floor
 returns-clause-floor g c =

@@ -9,7 +9,7 @@ use Rattle.tomex_config.specs.Configuration.{latency_of}
 use Rattle.tomex_study.specs.Program.{Workload}
 use Rattle.tomex_study.specs.Study.{DesignSpace}
 use Rattle.tomex_study.specs.StudyFront.{all_rows}
-use Rattle.tomex_choices.specs.Extremes.{least}
+use Rattle.tomex_survey.specs.Extremes.{least}
 
 -- the steps of a program's run
 abbrev pub steps_of : Workload → List Step

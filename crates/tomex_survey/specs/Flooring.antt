@@ -11,8 +11,8 @@ use Rattle.tomex_config.specs.Configuration.{latency_of}
 use Rattle.tomex_study.specs.Program.{Workload}
 use Rattle.tomex_timing.specs.History.{is_of}
 use Rattle.tomex_config.specs.Cost.{all_units}
-use Rattle.tomex_choices.specs.Floors.{steps_of}
-use Rattle.tomex_choices.specs.declared.floors.KnownFloors.{KnownFloors}
+use Rattle.tomex_survey.specs.Floors.{steps_of}
+use Rattle.tomex_survey.specs.declared.floors.KnownFloors.{KnownFloors}
 
 -- a step uses this kind of unit
 abbrev pub is_used_by : List Step → UnitId → Bool

@@ -8,10 +8,10 @@ use Rattle.std.proofs.lemmas.List.Sums.{sum_by-cons}
 use Rattle.tomex_config.specs.Configuration.{Configuration}
 use Rattle.tomex_study.specs.Program.{Workload}
 use Rattle.tomex_study.specs.Study.{DesignSpace}
-use Rattle.tomex_choices.specs.Extremes.{least, lesser}
-use Rattle.tomex_choices.specs.Floors.{any_width, floor_at, study_floor, weighted_floor}
-use Rattle.tomex_choices.specs.declared.floors.Floors.{Floors}
-use Rattle.tomex_choices.proofs.Leasts.{last_least, least_by, least_of_all}
+use Rattle.tomex_survey.specs.Extremes.{least, lesser}
+use Rattle.tomex_survey.specs.Floors.{any_width, floor_at, study_floor, weighted_floor}
+use Rattle.tomex_survey.specs.declared.floors.Floors.{Floors}
+use Rattle.tomex_survey.proofs.Leasts.{last_least, least_by, least_of_all}
 
 -- sums
 

@@ -2,10 +2,10 @@
 use Rattle.std.proofs.Common.{◌∙◌, ℕ, List, Option, ap, map, true}
 use Rattle.std.specs.Prelude.{unwrap_or}
 use Rattle.tomex_pareto.specs.declared.front_row.FrontRow.{FrontRow}
-use Rattle.tomex_choices.specs.Extremes.{least}
-use Rattle.tomex_choices.specs.Floors.{fastest}
-use Rattle.tomex_choices.proofs.Leasts.{last_least, least_of_all}
-use Rattle.tomex_choices.proofs.floors.fastest.Goals as goal
+use Rattle.tomex_survey.specs.Extremes.{least}
+use Rattle.tomex_survey.specs.Floors.{fastest}
+use Rattle.tomex_survey.proofs.Leasts.{last_least, least_of_all}
+use Rattle.tomex_survey.proofs.floors.fastest.Goals as goal
 
 pub returns : goal.returns
 unfolding fastest

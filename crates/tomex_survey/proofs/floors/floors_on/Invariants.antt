@@ -1,8 +1,8 @@
 -- The floors of the programs so far, and of the remaining ones; they are small.
 use Rattle.std.proofs.Common.{◌≡◌, ◌+◌, ◌*◌, ◌≤◌, drop}
 use Rattle.std.specs.Prelude.{sum_by}
-use Rattle.tomex_choices.specs.Floors.{floor_at, weighted_floor}
-use Rattle.tomex_choices.proofs.floors.floors_on.Given as goal
+use Rattle.tomex_survey.specs.Floors.{floor_at, weighted_floor}
+use Rattle.tomex_survey.proofs.floors.floors_on.Given as goal
 
 abbrev pub invariant-loop-place : goal.invariant-loop-place
 invariant-loop-place g l = record {

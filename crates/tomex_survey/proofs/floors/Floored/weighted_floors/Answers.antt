@@ -1,8 +1,8 @@
 -- A floor times a weight is small.
 use Rattle.std.proofs.Common.{arith, subst}
 use Rattle.tomex_study.specs.Program.{IsProgram}
-use Rattle.tomex_choices.proofs.SameFloors.{weighed_small}
-use Rattle.tomex_choices.proofs.floors.Floored.weighted_floors.Goals as goal
+use Rattle.tomex_survey.proofs.SameFloors.{weighed_small}
+use Rattle.tomex_survey.proofs.floors.Floored.weighted_floors.Goals as goal
 
 pub overflow_mul-result : goal.overflow_mul-result
 overflow_mul-result g c =

@@ -1,9 +1,9 @@
 -- The least floors so far, and of the remaining rows.
 use Rattle.std.proofs.Common.{◌≡◌, drop, None, true}
 use Rattle.std.specs.Prelude.{option_map}
-use Rattle.tomex_choices.specs.Floors.{floor_at}
-use Rattle.tomex_choices.proofs.Leasts.{least_by}
-use Rattle.tomex_choices.proofs.floors.floors_of.Given as goal
+use Rattle.tomex_survey.specs.Floors.{floor_at}
+use Rattle.tomex_survey.proofs.Leasts.{least_by}
+use Rattle.tomex_survey.proofs.floors.floors_of.Given as goal
 
 abbrev pub invariant-loop-config : goal.invariant-loop-config
 invariant-loop-config g l = record {

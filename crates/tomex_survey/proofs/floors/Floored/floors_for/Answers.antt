@@ -4,10 +4,10 @@ use Rattle.std.proofs.lemmas.List.Elements.{All-push}
 use Rattle.tomex_rvexec.specs.declared.step.Step.{Step}
 use Rattle.tomex_floor.specs.Floor.{floors_by_width}
 use Rattle.tomex_config.specs.Configuration.{latency_of}
-use Rattle.tomex_choices.specs.Flooring.{AreFloorsOf}
-use Rattle.tomex_choices.specs.Floors.{steps_of}
-use Rattle.tomex_choices.proofs.SameFloors.{floors_known}
-use Rattle.tomex_choices.proofs.floors.Floored.floors_for.Goals as goal
+use Rattle.tomex_survey.specs.Flooring.{AreFloorsOf}
+use Rattle.tomex_survey.specs.Floors.{steps_of}
+use Rattle.tomex_survey.proofs.SameFloors.{floors_known}
+use Rattle.tomex_survey.proofs.floors.Floored.floors_for.Goals as goal
 
 pub invariant_of-self-2 : goal.invariant_of-self-2
 invariant_of-self-2 g c =

@@ -2,11 +2,11 @@
 use Rattle.std.proofs.Common.{◌∙◌, ap, ℕ, List, Some}
 use Rattle.std.specs.Prelude.{option_map}
 use Rattle.tomex_study.specs.Program.{Workload}
-use Rattle.tomex_choices.specs.Extremes.{lesser}
-use Rattle.tomex_choices.specs.Floors.{floor_at}
-use Rattle.tomex_choices.specs.declared.floors.Floors.{Floors}
-use Rattle.tomex_choices.proofs.FloorSums.{any_width_of, least_any_width, least_more, least_own, own_of}
-use Rattle.tomex_choices.proofs.floors.floors_of.Goals as goal
+use Rattle.tomex_survey.specs.Extremes.{lesser}
+use Rattle.tomex_survey.specs.Floors.{floor_at}
+use Rattle.tomex_survey.specs.declared.floors.Floors.{Floors}
+use Rattle.tomex_survey.proofs.FloorSums.{any_width_of, least_any_width, least_more, least_own, own_of}
+use Rattle.tomex_survey.proofs.floors.floors_of.Goals as goal
 
 pub loop-config-preserved : goal.loop-config-preserved
 loop-config-preserved g c =

@@ -25,9 +25,9 @@ use Rattle.tomex_timing.specs.Run.{total}
 use Rattle.tomex_timing.specs.Search.{times_in, total_of}
 use Rattle.tomex_timing.specs.declared.times.Done.{Done}
 use Rattle.tomex_timing.specs.declared.times.Times.{Times}
-use Rattle.tomex_choices.specs.Floors.{steps_of}
-use Rattle.tomex_choices.specs.Flooring.{AreFloorsOf, is_used_by, used_latencies, used_latency}
-use Rattle.tomex_choices.specs.declared.floors.KnownFloors.{KnownFloors}
+use Rattle.tomex_survey.specs.Floors.{steps_of}
+use Rattle.tomex_survey.specs.Flooring.{AreFloorsOf, is_used_by, used_latencies, used_latency}
+use Rattle.tomex_survey.specs.declared.floors.KnownFloors.{KnownFloors}
 use Rattle.tomex_config.proofs.Within.{width_within}
 
 -- the same latency of each kind that a step uses

@@ -1,7 +1,7 @@
 -- No program yet.
 use Rattle.std.proofs.Common.{arith, refl}
-use Rattle.tomex_choices.proofs.FloorSums.{no_sum}
-use Rattle.tomex_choices.proofs.floors.floors_on.Goals as goal
+use Rattle.tomex_survey.proofs.FloorSums.{no_sum}
+use Rattle.tomex_survey.proofs.floors.floors_on.Goals as goal
 
 pub loop-place-init : goal.loop-place-init
 loop-place-init g c = record {

@@ -5,11 +5,11 @@ ghost use Rattle.std.specs.List.{Contains};
 ghost use Rattle.tomex_floor.specs.Floor.{floor_of, floors_by_width};
 ghost use Rattle.tomex_config.specs.Configuration.{latency_of};
 ghost use Rattle.tomex_timing.specs.History.{is_of};
-ghost use Rattle.tomex_choices.specs.Floors.{any_width, fastest, floor_at, steps_of, study_floor, weighted_floor};
-ghost use Rattle.tomex_choices.specs.Extremes.{lesser};
-ghost use Rattle.tomex_choices.specs.Flooring.{is_used_by, used_latencies, used_latency};
+ghost use Rattle.tomex_survey.specs.Floors.{any_width, fastest, floor_at, steps_of, study_floor, weighted_floor};
+ghost use Rattle.tomex_survey.specs.Extremes.{lesser};
+ghost use Rattle.tomex_survey.specs.Flooring.{is_used_by, used_latencies, used_latency};
 
-use crate::saving::lesser;
+use crate::least::lesser;
 use std::alloc::{AllocError, Allocator};
 use std::marker::Model;
 use tomex_config::Config;
@@ -36,7 +36,7 @@ pub struct Floored<'s, A: Allocator> {
 }
 
 impl<'s, A: Allocator> Model for Floored<'s, A> {
-    ghost use Rattle.tomex_choices.specs.Flooring.{AreFloors};
+    ghost use Rattle.tomex_survey.specs.Flooring.{AreFloors};
     ghost use Rattle.tomex_study.specs.Program.{Workload};
 
     ghost Value = { Workload };
