@@ -9,6 +9,7 @@ use Rattle.tomex_study.specs.StudyFront.{front_of_study}
 use Rattle.tomex_config.specs.declared.part.Part.{Part}
 use Rattle.tomex_config.specs.declared.part.Part.TheVariants.{Stations, Units, Buses, Width}
 use Rattle.tomex_config.specs.Parts.{same_entry}
+use Rattle.tomex_config.specs.Parts.{firsts}
 
 -- the choices of a list, in the order of the first rows that have them; for each of them its first configuration
 abbrev pub choices : DesignSpace → Part → List Configuration

@@ -16,6 +16,7 @@ use Rattle.tomex_config.specs.declared.part.Part.{Part}
 use Rattle.tomex_config.specs.declared.part.Part.TheVariants.{Stations, Units, Buses, Width}
 use Rattle.tomex_config.specs.Parts.{firsts, latency_in, most_of, same_latency}
 use Rattle.tomex_survey.specs.Extremes.{greatest, least}
+use Rattle.tomex_config.specs.Parts.{with_count}
 use Rattle.tomex_choices.specs.declared.new_machine.NewMachine.{NewMachine}
 
 -- the options of a latency that rows have for a kind of unit

@@ -17,6 +17,8 @@ use Rattle.tomex_config.specs.Parts.{count_of}
 use Rattle.tomex_config.specs.declared.part.Part.TheVariants.{Stations, Units, Buses, Width}
 use Rattle.tomex_layout.specs.Hundredths.{hundredths}
 use Rattle.tomex_layout.specs.Table.{TableColumn, table_of}
+use Rattle.tomex_config.specs.Settings.{all_settings, differs, setting_of}
+use Rattle.tomex_layout.specs.Lists.{name_of_setting}
 use Rattle.tomex_front_views.specs.declared.table.heading.Heading.{Heading}
 use Rattle.tomex_front_views.specs.declared.table.heading.Heading.TheVariants.{Row as OfRow, Cost, Cycles}
 use Rattle.tomex_front_views.specs.declared.table.heading.Heading.TheVariants.{Setting as OfSetting}

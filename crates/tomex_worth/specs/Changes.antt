@@ -11,6 +11,7 @@ use Rattle.tomex_study.specs.StudyFront.{all_rows}
 use Rattle.tomex_config.specs.Parts.{all_parts, count_of}
 use Rattle.tomex_config.specs.declared.part.Part.{Part}
 use Rattle.tomex_config.specs.declared.part.Part.TheVariants.{Units, Width}
+use Rattle.tomex_config.specs.Parts.{part_at, same_entry}
 use Rattle.tomex_worth.specs.declared.changes.Change.{Change}
 
 -- they differ in the list at this place, and in no other

@@ -16,6 +16,8 @@ use Rattle.tomex_layout.specs.Table.{TableColumn, table_of}
 use Rattle.tomex_config.specs.Parts.{count_of}
 use Rattle.tomex_config.specs.declared.part.Part.{Part}
 use Rattle.tomex_config.specs.declared.part.Part.TheVariants.{Stations, Units, Buses, Width}
+use Rattle.tomex_layout.specs.Lists.{entry_text, name_of_list}
+use Rattle.tomex_layout.specs.Rates.{rate_text}
 use Rattle.tomex_worth.specs.Changes.{changes_of}
 use Rattle.tomex_layout.specs.Differences.{distance, percent, signed_difference}
 use Rattle.tomex_worth.specs.declared.changes.Change.{Change}
