@@ -7,6 +7,7 @@ use Rattle.std.proofs.Math.ListN.{set, length-set}
 use Rattle.std.proofs.lemmas.Bool.{cases_Bool}
 use Rattle.std.proofs.lemmas.Bool.Decides.{nat_tests}
 use Rattle.std.proofs.lemmas.List.{ext_get_or, get_or-set_other, get_or-set_same}
+use Rattle.tomex_rvdec.proofs.Places.{pool_low, unit_low}
 use Rattle.tomex_rvdec.specs.Parts.{place_of_pool, place_of_unit}
 use Rattle.tomex_rvdec.specs.declared.pool.PoolId.{PoolId}
 use Rattle.tomex_rvdec.specs.declared.pool.PoolId.TheVariants as pools
@@ -56,21 +57,6 @@ at_place (Units units.Mem) = refl
 at_place (Units units.Bru) = refl
 at_place Buses = refl
 at_place Width = refl
-
-pub pool_low : (pool : PoolId) → place_of_pool pool < 6
-pool_low pools.Alu = omega arith
-pool_low pools.Mul = omega arith
-pool_low pools.Div = omega arith
-pool_low pools.Load = omega arith
-pool_low pools.Store = omega arith
-pool_low pools.Bru = omega arith
-
-unit_low : (unit : UnitId) → place_of_unit unit < 5
-unit_low units.Alu = omega arith
-unit_low units.Mul = omega arith
-unit_low units.Div = omega arith
-unit_low units.Mem = omega arith
-unit_low units.Bru = omega arith
 
 place_low : (part : Part) → place_of part < 13
 place_low (Stations pool) = let l = pool_low pool in omega arith

@@ -13,12 +13,10 @@ pub mod Finding
 pub mod WeighedLists
 pub mod AllWeighed
 pub mod Options
-pub mod Ranges
 pub mod Reading
 pub mod AskedRows
 pub mod Joining
 pub mod AllStretches
-mod Oks
 pub mod Adding
 pub mod PriceFree
 pub mod AboveFloors

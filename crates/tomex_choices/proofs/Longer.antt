@@ -25,7 +25,8 @@ use Rattle.tomex_choices.specs.NewMachines.{brought_by, grown, machine_if, machi
 use Rattle.tomex_choices.specs.Passing.{Has}
 use Rattle.tomex_choices.specs.declared.new_machine.NewMachine.{NewMachine}
 use Rattle.tomex_choices.proofs.AboveFloors.{sums_rise}
-use Rattle.tomex_config.proofs.Within.{option_within, own_option, place_low}
+use Rattle.tomex_config.proofs.Within.{option_within, own_option}
+use Rattle.tomex_rvdec.proofs.Places.{unit_low}
 use Rattle.tomex_choices.proofs.EnoughFrom.{in_range}
 use Rattle.tomex_choices.proofs.Finding.{has_flat_map}
 use Rattle.tomex_choices.proofs.Passes.{contains_from, has_from}
@@ -66,7 +67,7 @@ module _ (unit : UnitId) (e : Configuration) (price : ℕ) (kinds : length e.uni
   place = place_of_unit unit
 
   low : place < length e.units
-  low = let l = place_low unit in omega (arith, kinds)
+  low = let l = unit_low unit in omega (arith, kinds)
 
   own_price : (get_or (set e.units place dear) place plain_option).price ≡ price
   own_price = ap (λ (o : UnitOption). o.price) (get_or-set_same e.units place dear plain_option low)

@@ -26,8 +26,8 @@ use Rattle.tomex_config.specs.Parts.{with_count}
 use Rattle.tomex_choices.specs.Passing.{Has, IsUnbeaten}
 use Rattle.tomex_choices.specs.Savings.{as_row, beats, complete, fewest, is_as_good, is_of_use}
 use Rattle.tomex_choices.specs.declared.new_machine.NewMachine.{NewMachine}
-use Rattle.tomex_choices.proofs.Alike.{pool_low}
-use Rattle.tomex_config.proofs.Within.{place_low}
+use Rattle.tomex_rvdec.proofs.Places.{pool_low}
+use Rattle.tomex_rvdec.proofs.Places.{unit_low}
 use Rattle.tomex_choices.proofs.EnoughFrom.{any_at, any_from}
 use Rattle.tomex_choices.proofs.Finding.{from_flat_map, has_flat_map}
 use Rattle.tomex_choices.proofs.Members.{from_filter, from_map, has_either, has_filter, has_left, has_map, has_right}
@@ -185,7 +185,7 @@ grown_too rows (Units unit) a c d n within other same is =
     (with_option unit c (more_units rows unit (latency_of c unit) n)) d is in
     let more : nat_lt (greatest_units rows unit (latency_of a unit)) n ≡ true =
     ap (λ (l : ℕ). nat_lt (greatest_units rows unit l) n) latency ∙ w.0 in
-    let low = place_low unit in
+    let low = unit_low unit in
     let kinds = within.kinds in
     let others = other.kinds in
     let own : UnitOption = more_units rows unit (latency_of a unit) n in

@@ -20,7 +20,7 @@ use Rattle.tomex_timing.specs.Search.{history}
 use Rattle.tomex_timing.specs.declared.times.Done.{Done}
 use Rattle.tomex_config.specs.declared.part.Part.{Part}
 use Rattle.tomex_config.specs.declared.part.Part.TheVariants.{Stations, Units, Buses, Width}
-use Rattle.tomex_config.proofs.Within.{place_low}
+use Rattle.tomex_rvdec.proofs.Places.{unit_low}
 
 -- what two options have in common stays in common
 common : {X Y : Type 0} (f : X → Y) (xs : List X) (k j : ℕ) (a b d : X) → k < length xs → f a ≡ f b
@@ -38,7 +38,7 @@ common f xs k j a b d low same = elim (cases_Bool (j == k)) [
 module _ (c : Configuration) (unit : UnitId) (a b : UnitOption) (kinds : length c.units ≡ 5)
     (units : b.units ≡ a.units) (latency : b.latency ≡ a.latency) where
   low : place_of_unit unit < length c.units
-  low = let l = place_low unit in omega (arith, kinds)
+  low = let l = unit_low unit in omega (arith, kinds)
 
   same_count : (part : Part) → count_of (with_option unit c b) part ≡ count_of (with_option unit c a) part
   same_count (Stations pool) = refl

@@ -5,4 +5,5 @@ pub mod Varied
 pub mod Counted
 pub mod Firsts
 pub mod Within
+pub mod EachPart
 pub mod Worked

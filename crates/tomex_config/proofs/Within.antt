@@ -5,6 +5,7 @@ use Rattle.std.specs.Prelude.{slice_index, nat_le}
 use Rattle.std.proofs.lemmas.Bool.Decides.{nat_tests}
 use Rattle.std.proofs.lemmas.Grind.{common_steps}
 use Rattle.std.proofs.lemmas.List.Elements.{All-get_or, All-set}
+use Rattle.tomex_rvdec.proofs.Places.{unit_low}
 use Rattle.tomex_rvdec.specs.Parts.{place_of_pool, place_of_unit}
 use Rattle.tomex_rvdec.specs.declared.pool.PoolId.{PoolId}
 use Rattle.tomex_rvdec.specs.declared.pool.UnitId.{UnitId}
@@ -19,13 +20,6 @@ use Rattle.tomex_config.specs.declared.part.Part.{Part}
 use Rattle.tomex_config.specs.declared.part.Part.TheVariants.{Stations, Units, Buses, Width}
 use Rattle.tomex_config.specs.Parts.{most_of}
 use Rattle.tomex_config.specs.Parts.{with_count}
-
-pub place_low : (unit : UnitId) → place_of_unit unit < 5
-place_low units.Alu = omega arith
-place_low units.Mul = omega arith
-place_low units.Div = omega arith
-place_low units.Mem = omega arith
-place_low units.Bru = omega arith
 
 -- the limits
 
@@ -81,7 +75,7 @@ width_within c n w fits = record {
 pub own_option : (c : Configuration) (unit : UnitId) → IsWithinLimits c → is_option 8 (option_of c unit) ≡ true
 own_option c unit w =
     All-get_or (λ o. is_option 8 o ≡ true) c.units (place_of_unit unit) plain_option
-    (let l = place_low unit in omega (arith, w.kinds)) w.units
+    (let l = unit_low unit in omega (arith, w.kinds)) w.units
 
 -- with another number of units, and another price
 pub other_units : (c : Configuration) (unit : UnitId) (n price : ℕ) → IsWithinLimits c

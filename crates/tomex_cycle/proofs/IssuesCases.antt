@@ -1,6 +1,6 @@
 -- The cases of an issue: fetch waits or has stopped, no station is left, a step without a station, and one with its
 -- station.
-use Rattle.tomex_timing.proofs.Limits.{pool_in as pool_in_range}
+use Rattle.tomex_rvdec.proofs.Places.{pool_low}
 use Rattle.tomex_cycle.proofs.Words.{is_none, IfSome, Ok, Err, cases_Bool, lt-ltb, both_ways, Loaded, Configuration}
 use Rattle.tomex_cycle.proofs.Words.{stations_of, PoolId, Instruction, dest_of, pool_of, sources_of, place_of_pool}
 use Rattle.tomex_cycle.proofs.Words.{Fault, Step, instruction_at, end_of, step_after, is_branch, step_pool, Field, Done}
@@ -56,7 +56,7 @@ fault_case i config count old pc why fault here bad n t u at slot shown =
     absurd (ok_not_err (instruction_at i pc) x.0.instr why x.1.fetched bad)
 
 place_small : (p : PoolId) (n : ℕ) → n < 16 → 16 * place_of_pool p + n < 96
-place_small p n l = let k : place_of_pool p < 6 = pool_in_range p in omega arith
+place_small p n l = let k : place_of_pool p < 6 = pool_low p in omega arith
 
 -- the stations say which numbers are free
 pub open_is : {i : Loaded} {config : Configuration} {s t u : ℕ} (n : ℕ) (p : PoolId) {h : List Done} {st : Pools}

@@ -1,6 +1,6 @@
 -- What is known of the finishes ahead, as stations come and their operations start. It follows from the stations and
 -- only the cycle.
-use Rattle.tomex_timing.proofs.Limits.{pool_in as pool_in_range}
+use Rattle.tomex_rvdec.proofs.Places.{pool_low}
 use Rattle.tomex_cycle.proofs.Words.{nat_lt, ◌==◌, ◌&&◌, not, is_none, is_some, IsSome, and_right, both_ways, nat_tests}
 use Rattle.tomex_cycle.proofs.Words.{cases_Bool, eq-eqb, eqb-true, eqb-false, le-ltb, ltb-true, ltb-false, ne_eqb}
 use Rattle.tomex_cycle.proofs.Words.{get_or-replicate, get_or-set_same, get_or-set_other, get_or_past, length-set}
@@ -73,7 +73,7 @@ pub known_taken : {slots : List (Option Station)} (new : List (Option Station)) 
     → is_open slots pool number ≡ true → number < count → count ≤ 16 → s.finish ≡ None → IsTimetableOf slots next f
     → IsTimetableOf new next f
 known_taken {slots} new number count pool s made empty less few idle known =
-    let low : place_of_pool pool < 6 = pool_in_range pool in
+    let low : place_of_pool pool < 6 = pool_low pool in
     rw made (known_issued (16 * place_of_pool pool + number) s (omega arith) known
     (none_of (slot slots (16 * place_of_pool pool + number)) empty) idle)
 

@@ -1,9 +1,10 @@
 -- The picture of a study's front over all of its rows, in a page whose views are rows: the circles of these rows link
 -- to them.
 -- Source: the HTML Living Standard, 4.8.16 (SVG in HTML); Scalable Vector Graphics 1.1, section 17.1 (links).
-use Rattle.std.specs.Prelude.{ℕ, ◌==◌, Bool, if◌then◌else◌, List, ◌++◌, codes, length, None}
+use Rattle.std.specs.Prelude.{ℕ, Bool, if◌then◌else◌, List, ◌++◌, codes, length, None}
 use Rattle.std.specs.Fmt.{decimal}
-use Rattle.std.specs.List.{flat_map, list_any}
+use Rattle.std.specs.List.{flat_map}
+use Rattle.tomex_pareto.specs.Front.{is_on}
 use Rattle.tomex_pareto.specs.declared.front_row.FrontRow.{FrontRow}
 use Rattle.tomex_study.specs.StudyFront.{all_rows, front_of_study}
 use Rattle.tomex_study.specs.Study.{DesignSpace}
@@ -12,10 +13,6 @@ use Rattle.tomex_front_views.specs.Dots.{dots_line}
 use Rattle.tomex_front_views.specs.Plot.{circle, lines_text, numbers_of, radius_of, scales_text, shade, sheet}
 use Rattle.tomex_front_views.specs.Plot.{size_text, staircase, title_of}
 use Rattle.tomex_front_views.specs.declared.plot.axes.Axes.{Axes}
-
--- the row of this number is one of those that are shown
-unfoldable pub is_shown : List FrontRow → ℕ → Bool
-is_shown shown row = list_any (λ r. r.row == row) shown
 
 -- a link to a row's view
 unfoldable pub link_start : ℕ → List ℕ
@@ -27,7 +24,7 @@ link_to row text = link_start row ++ (text ++ codes "</a>")
 -- a row's point, which is a link if the row is shown
 unfoldable pub linked_circle : Axes → ℕ → List FrontRow → FrontRow → List ℕ
 linked_circle axes radius shown r =
-    if is_shown shown r.row then link_to r.row (circle axes radius r) else circle axes radius r
+    if is_on shown r.row then link_to r.row (circle axes radius r) else circle axes radius r
 
 -- the same on a line
 unfoldable pub linked_line : Axes → ℕ → List FrontRow → FrontRow → List ℕ

@@ -6,6 +6,6 @@ mod plot;
 mod table;
 
 pub use plot::front_picture;
-pub use plot::linked::{is_shown, push_link_start, push_linked_picture};
+pub use plot::linked::{push_link_start, push_linked_picture};
 pub use plot::over_rows::rows_picture;
 pub use table::front::rows_table;

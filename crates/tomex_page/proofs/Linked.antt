@@ -16,7 +16,7 @@ use Rattle.tomex_pareto.proofs.Pareto.{rises_pairs}
 use Rattle.tomex_study.specs.Cycles.{cycles_of}
 use Rattle.tomex_study.specs.StudyFront.{all_rows, front_of_study}
 use Rattle.tomex_study.specs.Study.{DesignSpace}
-use Rattle.tomex_front_views.specs.LinkedPlot.{is_shown}
+use Rattle.tomex_pareto.specs.Front.{is_on}
 use Rattle.tomex_page_tables.specs.Shown.{chosen_row, chosen_place, no_row, row_of, shown_rows}
 use Rattle.tomex_page_tables.specs.declared.shown.ShownRow.{ShownRow}
 use Rattle.tomex_page.specs.Laws.{AreApart, IsShownRow, LeadsOn, LinkedRowsAreShown, LinksLeadToViews, SectionsAreViews}
@@ -49,7 +49,6 @@ row_at (r ∷ shown) n found = elim (or_cases (r.row == n) (list_any (λ r. r.ro
 ]
 
 pub linked_rows_are_shown : LinkedRowsAreShown
-unfolding is_shown
 linked_rows_are_shown shown n found = row_at shown n found
 
 -- links to the rows before and after

@@ -9,7 +9,7 @@ use Rattle.tomex_pareto.specs.declared.front_row.FrontRow.{FrontRow}
 use Rattle.tomex_study.specs.StudyFront.{front_of_study}
 use Rattle.tomex_study.specs.Program.{Workload}
 use Rattle.tomex_study.specs.Study.{DesignSpace}
-use Rattle.tomex_front_views.specs.LinkedPlot.{is_shown}
+use Rattle.tomex_pareto.specs.Front.{is_on}
 use Rattle.tomex_timing.specs.Needs.{need_of}
 use Rattle.tomex_timing.specs.declared.needs.Needs.{Needs}
 use Rattle.tomex_config.specs.declared.part.Part.TheVariants.{Width}
@@ -81,7 +81,7 @@ IsShownRow shown n = (r : FrontRow) × Contains shown r × (r.row ≡ n)
 
 -- what the picture and the tables link to
 abbrev pub LinkedRowsAreShown : Type 0
-LinkedRowsAreShown = (shown : List FrontRow) (n : ℕ) → is_shown shown n ≡ true → IsShownRow shown n
+LinkedRowsAreShown = (shown : List FrontRow) (n : ℕ) → is_on shown n ≡ true → IsShownRow shown n
 
 -- each link of a view leads to the view of a row that is shown
 pub record LeadsOn (shown : List FrontRow) (l : Links) : Type 0 where

@@ -10,13 +10,12 @@ ghost use Rattle.tomex_layout.specs.Rates.{rate_text};
 use crate::parts::push_entry_cell;
 use std::alloc::{AllocError, Allocator, Global};
 use std::fmt::Write;
-use tomex_front_views::is_shown;
 use tomex_html::{push_table_end, push_table_head};
 use tomex_layout::push_rate;
 use tomex_page_tables::{
     first_lines, push_list_start, push_more, push_percent_cell, push_row_link, push_signed_cell,
 };
-use tomex_pareto::FrontRow;
+use tomex_pareto::{FrontRow, is_on};
 use tomex_study::Surveyed;
 use tomex_worth::{Change, changes_of};
 
@@ -29,7 +28,7 @@ fn push_row_text<A: Allocator>(
 ) -> Result<(), AllocError>
     ensures { OnOk result (Appends (row_text shown.now row) text.old text.new) }
 {
-    if is_shown(shown, row) {
+    if is_on(shown, row) {
         push_row_link(text, row)
     } else {
         write!(text, "{row}")

@@ -1,11 +1,12 @@
 -- The front as a function: which rows are on it, in which order, and that no other list is so.
 use Rattle.std.proofs.Common.{◌≡◌, ◌≢◌, ℕ, zero, suc, ◌<◌, ◌⊎◌, ⊎_elim, inl, inr, arith, ap, sym, refl, subst, ◌∙◌}
-use Rattle.std.proofs.Common.{List, [], ◌∷◌, length, Bool, true, false, not, get_or, ◌==◌}
+use Rattle.std.proofs.Common.{All, List, [], ◌∷◌, length, Bool, true, false, not, get_or, ◌==◌}
 use Rattle.std.specs.List.{filter, AllByRecursion, AllPairs, Contains, IsDistinct}
 use Rattle.std.specs.List.Sorted.{IsPermutation}
 use Rattle.std.proofs.lemmas.Bool.{both_ways, cases_Bool, eq-eqb, false_from_ne_true, ne_eqb, not-true}
 use Rattle.std.proofs.lemmas.Bool.Decides.{nat_tests}
-use Rattle.std.proofs.lemmas.List.Elements.{All-contains, All-filter, All-from_recursion, filter_passes}
+use Rattle.std.proofs.lemmas.List.Elements.{All-contains, All-contains_itself, All-filter, All-from_recursion}
+use Rattle.std.proofs.lemmas.List.Elements.{filter_passes}
 use Rattle.std.proofs.lemmas.List.Elements.{recursion_from_All}
 use Rattle.std.proofs.lemmas.List.Folds.{list_any-from_Any, list_any_none}
 use Rattle.std.proofs.lemmas.List.Kept.{AllPairs-cons, AllPairs-filter}
@@ -142,6 +143,13 @@ pub ordered_moves : (rs : List FrontRow) → IsPermutation rs (by_cost rs)
 ordered_moves [] = IsPermutation-refl []
 ordered_moves (r ∷ rs) = IsPermutation-trans (r ∷ rs) (r ∷ by_cost rs) (by_cost (r ∷ rs))
     (IsPermutation-cons r rs (by_cost rs) (ordered_moves rs)) (put_moves r (by_cost rs))
+
+-- so what is kept of rows and ordered is of these rows
+pub kept_there : (keep : FrontRow → Bool) (rows : List FrontRow) → All (Contains rows) (by_cost (filter keep rows))
+kept_there keep rows =
+    let those = filter keep rows in
+    All-permutation (Contains rows) those (by_cost those) (ordered_moves those)
+    (All-filter keep (Contains rows) rows (All-contains_itself rows))
 
 rises_put : (r : FrontRow) (qs : List FrontRow) → Rises ComesBefore qs → AllOf (λ q. r.row ≢ q.row) qs
     → Rises ComesBefore (put r qs)

@@ -2,7 +2,7 @@
 
 ghost use Rattle.std.specs.Prelude.{◌≡◌, IfOk, IsPermutation};
 ghost use Rattle.std.specs.List.{AllPairs};
-ghost use Rattle.tomex_pareto.specs.Front.{by_cost, front_of};
+ghost use Rattle.tomex_pareto.specs.Front.{by_cost, front_of, is_on};
 ghost use Rattle.tomex_pareto.specs.Pareto.{AreNumbered};
 ghost use Rattle.tomex_pareto.specs.Passing.{IsUpTo, stays_after};
 
@@ -23,6 +23,13 @@ pub fn sort_by_cost<A: Allocator>(rows: &mut Vec<FrontRow, A>)
     ensures { rows.new.items ≡ by_cost rows.old.items }
 {
     rows.sort_unstable_by_key(|row| (row.cost, row.row));
+}
+
+/// True if the row of this number is one of these.
+pub fn is_on(front: &[FrontRow], row: usize) -> bool
+    ensures { result ≡ is_on front.now row }
+{
+    front.iter().any(|other| other.row == row)
 }
 
 /// True if a row is on the front, given `last`, the last row of the front before it. Rows come by cost, then

@@ -16,7 +16,7 @@ mod span_laws;
 mod spans;
 
 pub use front_row::FrontRow;
-pub use fronts::{front, sort_by_cost};
+pub use fronts::{front, is_on, sort_by_cost};
 pub use hulls::hull;
 pub use laws::{
     ends_of_the_front_are_on_the_hull, equal_rows_stay_together, front_is_the_undominated_rows,

@@ -12,7 +12,8 @@ use Rattle.tomex_prices.specs.Percent.{difference, percent_of}
 use Rattle.tomex_prices.specs.Price.{payments, amount}
 use Rattle.tomex_prices.specs.Prices.{prices_of}
 use Rattle.tomex_prices.specs.Studies.{config_of}
-use Rattle.tomex_prices.proofs.NewCosts.{front_free, on_with_costs, row_shares}
+use Rattle.tomex_prices.proofs.NewCosts.{on_with_costs, row_shares}
+use Rattle.tomex_study.proofs.StudyFronts.{front_free}
 
 -- a study's prices as amounts, and how often a row pays them
 

@@ -45,11 +45,3 @@ pub on_with_costs : (cost : FrontRow → ℕ) (s : DesignSpace) (r : FrontRow) �
     → is_on (front_of (map (costed cost (all_rows s)) (all_rows s))) r.row
     ≡ is_undominated (map (costed cost (all_rows s)) (all_rows s)) (costed cost (all_rows s) r)
 on_with_costs cost s r one = costed_on cost (all_rows s) r (rows_numbered s.costs (cycles_of s)) one
-
--- a row of the front is one of all rows, and none of them dominates it
-pub front_free : (s : DesignSpace) (r : FrontRow) → Contains (front_of_study s) r
-    → Has (all_rows s) r × IsFree (all_rows s) r
-unfolding front_of_study
-front_free s r one =
-    (front_is (all_rows s) (rows_apart 0 s.costs (cycles_of s))).only r
-    (contains_has (front_of (all_rows s)) one.0 r one.1 one.2)

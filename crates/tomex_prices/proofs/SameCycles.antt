@@ -25,7 +25,7 @@ use Rattle.tomex_timing.specs.History.{greatest_end}
 use Rattle.tomex_timing.specs.Needs.{Serves}
 use Rattle.tomex_config.specs.Parts.{count_of}
 use Rattle.tomex_timing.specs.Search.{history}
-use Rattle.tomex_timing.proofs.Limits.{unit_in}
+use Rattle.tomex_rvdec.proofs.Places.{unit_low}
 use Rattle.tomex_timing.proofs.SameTimes.{serves_history}
 use Rattle.tomex_timing.specs.Run.{run_of, total}
 use Rattle.tomex_study.specs.Program.{Workload}
@@ -46,7 +46,7 @@ option_is : (unit u : UnitId) (q : ℕ) (config : Configuration) → length conf
 option_is unit u q config kinds = elim (cases_eq (place_of_unit u) (place_of_unit unit)) [
   | inl same ↦
       let o : UnitOption = record (option_of config unit) { price = q } in
-      let low : place_of_unit unit < length config.units = rw kinds (unit_in unit) in
+      let low : place_of_unit unit < length config.units = rw kinds (unit_low unit) in
       let e : option_of (other_price unit q config) u ≡ o =
       rw same (get_or-set_same config.units (place_of_unit unit) o plain_option low) in
       let f : option_of config unit ≡ option_of config u = rw same refl in (
@@ -70,7 +70,7 @@ other_within : (unit : UnitId) (q : ℕ) (config : Configuration) → q ≤ GREA
     → IsWithinLimits (other_price unit q config)
 other_within unit q config few good =
     let o : UnitOption = record (option_of config unit) { price = q } in
-    let low : place_of_unit unit < length config.units = rw good.kinds (unit_in unit) in
+    let low : place_of_unit unit < length config.units = rw good.kinds (unit_low unit) in
     record {
       pools = good.pools;
       stations = good.stations;

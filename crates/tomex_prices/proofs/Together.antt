@@ -22,7 +22,8 @@ use Rattle.tomex_prices.specs.Price.{payments, amount}
 use Rattle.tomex_prices.specs.Prices.{prices_of}
 use Rattle.tomex_prices.specs.Studies.{config_of, interval_of, row_with, rows_with}
 use Rattle.tomex_prices.specs.Together.{IsShareOfWay, IsStatedAtStated, StaysByShares, Values, cost_at_values}
-use Rattle.tomex_prices.proofs.NewCosts.{config_cost, front_free, on_with_costs, row_shares}
+use Rattle.tomex_prices.proofs.NewCosts.{config_cost, on_with_costs, row_shares}
+use Rattle.tomex_study.proofs.StudyFronts.{front_free}
 use Rattle.tomex_prices.proofs.RepricedStudy.{row_at_apart}
 use Rattle.tomex_prices.proofs.Repricing.{rows_stated}
 use Rattle.tomex_prices.proofs.Splitting.{costs_split, stated_costs_stay}

@@ -1,4 +1,3 @@
-pub mod Oks
 pub mod Placed
 pub mod Cycles
 pub mod Machines

@@ -10,15 +10,14 @@ use Rattle.std.proofs.lemmas.List.{get_or-replicate, get_or-set_other, get_or-se
 use Rattle.std.proofs.lemmas.List.Folds.{list_any_more}
 use Rattle.std.proofs.lemmas.List.FromFn.{fill_by_all}
 use Rattle.tomex_pareto.specs.declared.front_row.FrontRow.{FrontRow}
-use Rattle.tomex_rows.specs.RowsReport.{is_on_front}
+use Rattle.tomex_pareto.specs.Front.{is_on}
 
 -- a flag for each row: true if it is among these
 pub record AreFlags (rows : ℕ) (front : List FrontRow) (flags : List Bool) : Type 0 where
   pub count : length flags ≡ rows
-  pub each : (row : ℕ) → row < rows → get_or flags row false ≡ is_on_front front row
+  pub each : (row : ℕ) → row < rows → get_or flags row false ≡ is_on front row
 
 pub none_flagged : (rows : ℕ) (flags : List Bool) → flags ≡ replicate rows false → AreFlags rows [] flags
-unfolding is_on_front
 none_flagged rows flags is = record {
   count = ap length is ∙ length-replicate rows false;
   each = λ row low. ap (λ (bs : List Bool). get_or bs row false) is ∙ get_or-replicate rows row false false low;
@@ -31,7 +30,6 @@ or_true false = refl
 pub one_flagged : (rows : ℕ) (front : List FrontRow) (k : ℕ) (d : FrontRow) (flags : List Bool) → k < length front
     → (get_or front k d).row < rows → AreFlags rows (take k front) flags
     → AreFlags rows (take (k + 1) front) (set flags (get_or front k d).row true)
-unfolding is_on_front
 one_flagged rows front k d flags low within before =
     let r : FrontRow = get_or front k d in
     record {
@@ -56,7 +54,7 @@ one_flagged rows front k d flags low within before =
     }
 
 pub all_flagged : (rows : ℕ) (front : List FrontRow) (k : ℕ) (flags : List Bool) → length front ≤ k
-    → AreFlags rows (take k front) flags → flags ≡ map (is_on_front front) (range_with_len 0 rows)
+    → AreFlags rows (take k front) flags → flags ≡ map (is_on front) (range_with_len 0 rows)
 all_flagged rows front k flags past are =
-    fill_by_all (is_on_front front) flags rows false are.count
-    (λ row low. are.each row low ∙ ap (λ (rs : List FrontRow). is_on_front rs row) (take_all k front past))
+    fill_by_all (is_on front) flags rows false are.count
+    (λ row low. are.each row low ∙ ap (λ (rs : List FrontRow). is_on rs row) (take_all k front past))

@@ -10,20 +10,21 @@ use Rattle.tomex_layout.specs.Csv.{record_text}
 use Rattle.tomex_study.specs.Cycles.{totals_on}
 use Rattle.tomex_study.specs.StudyFront.{front_of_study}
 use Rattle.tomex_study.specs.Study.{DesignSpace, config_at}
-use Rattle.tomex_rows.specs.RowsReport.{fields_of_row, is_on_front, row_record}
+use Rattle.tomex_rows.specs.RowsReport.{fields_of_row, row_record}
+use Rattle.tomex_pareto.specs.Front.{is_on}
 
 -- the flag of a row
 pub flag_there : (front : List FrontRow) (rows : ℕ) (flags : List Bool) (k : ℕ) → k < rows
-    → flags ≡ map (is_on_front front) (range_with_len 0 rows) → get_or flags k false ≡ is_on_front front k
+    → flags ≡ map (is_on front) (range_with_len 0 rows) → get_or flags k false ≡ is_on front k
 flag_there front rows flags k low are =
     ap (λ (bs : List Bool). get_or bs k false) are
-    ∙ get_or-map-range_with_len (is_on_front front) 0 rows k k false low (let e : 0 + k ≡ k = omega arith in e)
+    ∙ get_or-map-range_with_len (is_on front) 0 rows k k false low (let e : 0 + k ≡ k = omega arith in e)
 
 -- the record of a row
 pub record_there : (s : DesignSpace) (r : FrontRow) (wide : Bool) (config : Configuration) (totals : List ℕ)
     (on_front : Bool) → wide ≡ s.wide → config ≡ config_at s r.row
     → totals ≡ totals_on s.programs (config_at s r.row)
-    → on_front ≡ is_on_front (front_of_study s) r.row
+    → on_front ≡ is_on (front_of_study s) r.row
     → record_text (fields_of_row wide r config totals on_front) ≡ row_record s r
 unfolding row_record
 record_there s r wide config totals on_front wide_is config_is totals_are on_front_is =

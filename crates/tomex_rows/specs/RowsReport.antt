@@ -3,6 +3,7 @@ use Rattle.std.specs.Prelude.{ℕ, ◌==◌, Bool, if◌then◌else◌, List, []
 use Rattle.std.specs.List.{flat_map, list_any}
 use Rattle.std.specs.Fmt.{decimal}
 use Rattle.tomex_config.specs.Configuration.{Configuration, plain}
+use Rattle.tomex_pareto.specs.Front.{is_on}
 use Rattle.tomex_pareto.specs.declared.front_row.FrontRow.{FrontRow}
 use Rattle.tomex_layout.specs.Csv.{record_text}
 use Rattle.tomex_study.specs.Cycles.{totals_on}
@@ -20,11 +21,7 @@ cycles_column p = p.name ++ codes "_cycles"
 unfoldable pub columns_of : DesignSpace → List (List ℕ)
 columns_of s = row_columns s.wide ++ (map cycles_column s.programs ++ codes "front" ∷ [])
 
--- the row of this number is on the front
-unfoldable pub is_on_front : List FrontRow → ℕ → Bool
-is_on_front front row = list_any (λ r. r.row == row) front
-
--- 1 if it is, else 0
+-- 1 if a row is on the front, else 0
 abbrev pub flag : Bool → ℕ
 flag on_front = if on_front then 1 else 0
 
@@ -36,7 +33,7 @@ fields_of_row wide r config totals on_front =
 unfoldable pub row_record : DesignSpace → FrontRow → List ℕ
 row_record s r =
     let config = slice_index_or s.rows r.row plain in
-    record_text (fields_of_row s.wide r config (totals_on s.programs config) (is_on_front (front_of_study s) r.row))
+    record_text (fields_of_row s.wide r config (totals_on s.programs config) (is_on (front_of_study s) r.row))
 
 -- the header, and a record for each row
 unfoldable pub rows_text_of : DesignSpace → List ℕ

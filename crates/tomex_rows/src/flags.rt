@@ -2,7 +2,7 @@
 
 ghost use Rattle.std.specs.Prelude.{◌≡◌, ◌<◌, length, map, All, IfOk};
 ghost use Rattle.std.specs.List.{range_with_len};
-ghost use Rattle.tomex_rows.specs.RowsReport.{is_on_front};
+ghost use Rattle.tomex_pareto.specs.Front.{is_on};
 
 use std::alloc::{AllocError, Allocator};
 use tomex_pareto::FrontRow;
@@ -14,7 +14,7 @@ pub(crate) fn flags<A: Allocator>(
     front: &[FrontRow],
 ) -> Result<Vec<bool, A>, AllocError>
     requires { All (λ r. r.row < rows) front.now }
-    ensures { IfOk result (λ v. v.items ≡ map (is_on_front front.now) (range_with_len 0 rows)) }
+    ensures { IfOk result (λ v. v.items ≡ map (is_on front.now) (range_with_len 0 rows)) }
 {
     let mut flags = vec![in alloc; false; rows]?;
     for row in front {

@@ -4,7 +4,8 @@ ghost use Rattle.std.specs.Prelude.{◌≡◌, ◌<◌, length, map, IfOk, OnOk}
 ghost use Rattle.std.specs.List.{flat_map, range_with_len};
 ghost use Rattle.tomex_layout.specs.Csv.{IsReady};
 ghost use Rattle.tomex_layout.specs.Growth.{Writes};
-ghost use Rattle.tomex_rows.specs.RowsReport.{is_on_front, row_record, rows_text_of};
+ghost use Rattle.tomex_rows.specs.RowsReport.{row_record, rows_text_of};
+ghost use Rattle.tomex_pareto.specs.Front.{is_on};
 ghost use Rattle.tomex_study.specs.StudyFront.{all_rows, front_of_study};
 
 use crate::columns::columns;
@@ -26,7 +27,7 @@ fn put_row<A: Allocator>(
 ) -> Result<(), AllocError>
     requires ready { IsReady writer.old }
     requires row { row.row < length surveyed.now.rows }
-    requires front { on_front ≡ is_on_front (front_of_study surveyed.now) row.row }
+    requires front { on_front ≡ is_on (front_of_study surveyed.now) row.row }
     ensures ready { OnOk result (IsReady writer.new) }
     ensures text { OnOk result (Writes (row_record surveyed.now row) writer.old writer.new) }
 {
@@ -46,7 +47,7 @@ fn put_rows<A: Allocator>(
 ) -> Result<(), AllocError>
     requires ready { IsReady writer.old }
     requires flags { flags.now
-        ≡ map (is_on_front (front_of_study surveyed.now)) (range_with_len 0 (length surveyed.now.rows)) }
+        ≡ map (is_on (front_of_study surveyed.now)) (range_with_len 0 (length surveyed.now.rows)) }
     ensures ready { OnOk result (IsReady writer.new) }
     ensures text { OnOk result (
         Writes (flat_map (row_record surveyed.now) (all_rows surveyed.now)) writer.old writer.new) }

@@ -9,6 +9,7 @@ use Rattle.std.proofs.lemmas.Bool.{false_from_ne_true, eqb-true, and_from, and_p
 use Rattle.std.proofs.lemmas.Simd.{map-map}
 use Rattle.std.proofs.lemmas.List.{reverse-append, map-append, take_more}
 use Rattle.std.proofs.lemmas.List.FromFn.{get_or-map-range_with_len}
+use Rattle.tomex_rvdec.proofs.Places.{pool_low}
 use Rattle.tomex_rvdec.specs.Parts.{place_of_pool}
 use Rattle.tomex_rvdec.specs.declared.pool.PoolId.{PoolId}
 use Rattle.tomex_rvdec.specs.declared.pool.PoolId.TheVariants as pools
@@ -61,14 +62,6 @@ pool_back pools.Load = refl
 pool_back pools.Store = refl
 pool_back pools.Bru = refl
 
-low_place : (p : PoolId) → place_of_pool p < 6
-low_place pools.Alu = omega arith
-low_place pools.Mul = omega arith
-low_place pools.Div = omega arith
-low_place pools.Load = omega arith
-low_place pools.Store = omega arith
-low_place pools.Bru = omega arith
-
 -- a place is only that of its station
 other_place : (p : PoolId) (n k : ℕ) → k < 96 → k ≢ 16 * place_of_pool p + n
     → (place_of_pool p == place_of_pool (pool_at (k / 16)) && n == k % 16) ≡ false
@@ -89,7 +82,7 @@ same_place p n l =
 pub at_station : (f : Tag → Option Busy) (p : PoolId) (n : ℕ) (d : Option Busy) → n < 16
     → slice_index_or (map f all_tags) (16 * place_of_pool p + n) d ≡ f (record { pool = p; number = n })
 at_station f p n d l =
-    let low = low_place p in
+    let low = pool_low p in
     ap (λ (tags : List Tag). slice_index_or (map f tags) (16 * place_of_pool p + n) d) tags_are_places
     ∙ (ap (λ (xs : List (Option Busy)). slice_index_or xs (16 * place_of_pool p + n) d)
     (map-map f tag_at_place (range_with_len 0 96))

@@ -3,6 +3,7 @@ use Rattle.std.proofs.Common.{ℕ, ◌≡◌, ◌∙◌, true, ap, refl, sym, �
 use Rattle.std.specs.Prelude.{◌==◌, if◌then◌else◌}
 use Rattle.std.proofs.lemmas.Bool.{eqb-true, and_parts}
 use Rattle.std.proofs.lemmas.Bool.Decides.{nat_tests}
+use Rattle.tomex_rvdec.proofs.Places.{pool_low, unit_low}
 use Rattle.tomex_rvdec.specs.Parts.{place_of_pool, place_of_unit}
 use Rattle.tomex_rvdec.specs.declared.pool.PoolId.{PoolId}
 use Rattle.tomex_rvdec.specs.declared.pool.PoolId.TheVariants as pools
@@ -50,32 +51,17 @@ pub unit_is : (unit : UnitId) (x : Option UnitId) → is_of unit x ≡ true → 
 unit_is unit None e = absurd (cc)
 unit_is unit (Some p) e = ap Some (same_unit p unit e)
 
-pub pool_in : (pool : PoolId) → place_of_pool pool < 6
-pool_in pools.Alu = omega arith
-pool_in pools.Mul = omega arith
-pool_in pools.Div = omega arith
-pool_in pools.Load = omega arith
-pool_in pools.Store = omega arith
-pool_in pools.Bru = omega arith
-
-pub unit_in : (unit : UnitId) → place_of_unit unit < 5
-unit_in units.Alu = omega arith
-unit_in units.Mul = omega arith
-unit_in units.Div = omega arith
-unit_in units.Mem = omega arith
-unit_in units.Bru = omega arith
-
 pub between : (low high n : ℕ) → is_between low high n ≡ true → (low ≤ n) × (n ≤ high)
 between low high n h = grind (arith, nat_tests)
 
 stations_are : (config : Configuration) (pool : PoolId) → IsWithinLimits config
     → (1 ≤ stations_of config pool) × (stations_of config pool ≤ 16)
 stations_are config pool good =
-    between 1 16 (stations_of config pool) (good.stations (place_of_pool pool) 0 (rw good.pools (pool_in pool)))
+    between 1 16 (stations_of config pool) (good.stations (place_of_pool pool) 0 (rw good.pools (pool_low pool)))
 
 option_is : (config : Configuration) (unit : UnitId) → IsWithinLimits config
     → is_option 8 (option_of config unit) ≡ true
-option_is config unit good = good.units (place_of_unit unit) plain_option (rw good.kinds (unit_in unit))
+option_is config unit good = good.units (place_of_unit unit) plain_option (rw good.kinds (unit_low unit))
 
 units_are : (config : Configuration) (unit : UnitId) → IsWithinLimits config
     → (1 ≤ (option_of config unit).units) × ((option_of config unit).units ≤ 8)

@@ -24,7 +24,8 @@ use Rattle.tomex_timing.specs.Laws.{InReach}
 use Rattle.tomex_timing.specs.Waiting.{need_after, needs_after, nothing_needed, stations_after, taken_from, units_after}
 use Rattle.tomex_timing.specs.Recent.{facts_of}
 use Rattle.tomex_timing.proofs.Summary.{issued_kept}
-use Rattle.tomex_timing.proofs.Limits.{pool_in, unit_in, unit_is}
+use Rattle.tomex_timing.proofs.Limits.{unit_is}
+use Rattle.tomex_rvdec.proofs.Places.{pool_low, unit_low}
 use Rattle.tomex_timing.proofs.NextTimed.{ComesNext, next_timed}
 use Rattle.tomex_timing.proofs.Orders.{dest_unit, reach}
 use Rattle.tomex_timing.proofs.Tests.{cases_unit, operation, unit_of}
@@ -65,7 +66,7 @@ pool_part : (pool : PoolId) (x : Option PoolId) (taken waited : ℕ) (xs : List 
     (cond (is_in pool x) waited 0)
 pool_part pool None taken waited xs len = no_more (slice_index_or xs (place_of_pool pool) no_need)
 pool_part pool (Some p) taken waited xs len =
-    part_after (place_of_pool pool) (place_of_pool p) taken waited xs (rw len (pool_in pool))
+    part_after (place_of_pool pool) (place_of_pool p) taken waited xs (rw len (pool_low pool))
 
 unit_part : (unit : UnitId) (x : Option UnitId) (taken waited : ℕ) (xs : List Need) → length xs ≡ 5
     → slice_index_or (units_after x taken waited xs) (place_of_unit unit) no_need
@@ -73,7 +74,7 @@ unit_part : (unit : UnitId) (x : Option UnitId) (taken waited : ℕ) (xs : List 
     (cond (is_of unit x) waited 0)
 unit_part unit None taken waited xs len = no_more (slice_index_or xs (place_of_unit unit) no_need)
 unit_part unit (Some p) taken waited xs len =
-    part_after (place_of_unit unit) (place_of_unit p) taken waited xs (rw len (unit_in unit))
+    part_after (place_of_unit unit) (place_of_unit p) taken waited xs (rw len (unit_low unit))
 
 length-stations_after : (x : Option PoolId) (taken waited : ℕ) (xs : List Need)
     → length (stations_after x taken waited xs) ≡ length xs
@@ -171,7 +172,7 @@ needs_none config = record {
 }
   where
     none : (part : Part) → need_of nothing_needed part ≡ record { peak = peak part []; stalls = stalls config part [] }
-    none (Stations pool) = get_or-replicate 6 (place_of_pool pool) no_need no_need (pool_in pool)
-    none (Units unit) = get_or-replicate 5 (place_of_unit unit) no_need no_need (unit_in unit)
+    none (Stations pool) = get_or-replicate 6 (place_of_pool pool) no_need no_need (pool_low pool)
+    none (Units unit) = get_or-replicate 5 (place_of_unit unit) no_need no_need (unit_low unit)
     none Buses = refl
     none Width = refl

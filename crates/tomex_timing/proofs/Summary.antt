@@ -32,7 +32,7 @@ use Rattle.tomex_rvdec.specs.declared.pool.UnitId.{UnitId}
 use Rattle.tomex_reservations.specs.Reservations.{bus_line, end_at, station_place, taken_at}
 use Rattle.tomex_timing.specs.Station.{is_held, is_free}
 use Rattle.tomex_timing.proofs.Bound.{timed_by}
-use Rattle.tomex_timing.proofs.Limits.{pool_in, unit_in}
+use Rattle.tomex_rvdec.proofs.Places.{pool_low, unit_low}
 
 -- what is kept is of this history
 pub record IsKept (h : List Done) (latest : Latest) : Type 0 where
@@ -140,7 +140,7 @@ nothing_at : (line t : ℕ) → line < 6 → taken_at (record { base = 0; slots 
 nothing_at line t l = get_or-replicate 8 line 0 0 (omega arith)
 
 place_low : (pool : PoolId) (n : ℕ) → n < 16 → station_place pool n < 96
-place_low pool n l = omega (arith, pool_in pool)
+place_low pool n l = omega (arith, pool_low pool)
 
 pub empty_summary : IsSummary [] nothing_held
 empty_summary = record {
@@ -154,7 +154,7 @@ empty_summary = record {
     end = refl;
   };
   base = omega arith;
-  starts = λ unit t l. nothing_at (place_of_unit unit) t (omega (arith, unit_in unit));
+  starts = λ unit t l. nothing_at (place_of_unit unit) t (omega (arith, unit_low unit));
   results = λ t l. nothing_at 5 t (omega arith);
   stations = λ pool t n pos l. sym (rw (get_or-replicate {A = ℕ} 96 (station_place pool n) 0 0 (place_low pool n l))
       (lt-ltb 0 t pos));

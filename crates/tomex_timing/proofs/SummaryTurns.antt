@@ -29,7 +29,8 @@ use Rattle.tomex_timing.specs.Station.{is_free}
 use Rattle.tomex_timing.specs.Recent.{facts_of}
 use Rattle.tomex_timing.proofs.Bools.{and_assoc, and_swap, and_true}
 use Rattle.tomex_timing.proofs.Summary.{kept_on, IsSummary}
-use Rattle.tomex_timing.proofs.Limits.{pool_in, stations_high}
+use Rattle.tomex_timing.proofs.Limits.{stations_high}
+use Rattle.tomex_rvdec.proofs.Places.{pool_low}
 use Rattle.tomex_timing.proofs.NextTimed.{ComesNext, next_timed}
 use Rattle.tomex_timing.proofs.Orders.{dest_unit, reach}
 use Rattle.tomex_timing.proofs.Width.{issue_from}
@@ -45,7 +46,7 @@ place_apart p q m n l k apart e =
     absurd (cc)
 
 place_in : (p : PoolId) (m : ℕ) (taken : List ℕ) → m < 16 → length taken ≡ 96 → station_place p m < length taken
-place_in p m taken l size = omega (arith, pool_in p)
+place_in p m taken l size = omega (arith, pool_low p)
 
 station_turn : (pool : PoolId) (x : Option PoolId) (station : Option ℕ) (taken : List ℕ) (free : Bool)
     (issue end t n : ℕ) → issue ≤ end → n < 16 → length taken ≡ 96

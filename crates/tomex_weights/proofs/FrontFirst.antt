@@ -9,7 +9,7 @@ use Rattle.std.proofs.lemmas.List.Sorted.{All-permutation}
 use Rattle.tomex_pareto.specs.declared.front_row.FrontRow.{FrontRow}
 use Rattle.tomex_pareto.specs.Front.{by_cost, front_of, is_undominated}
 use Rattle.tomex_pareto.proofs.OnFront.{contains_map}
-use Rattle.tomex_pareto.proofs.Pareto.{among, free_undominated, has_contains, ordered_moves, undominated_free}
+use Rattle.tomex_pareto.proofs.Pareto.{among, free_undominated, has_contains, kept_there, undominated_free}
 use Rattle.tomex_pareto.specs.declared.line_row.LineRow.{LineRow}
 use Rattle.tomex_pareto.specs.declared.spans.ValueSpan.{ValueSpan}
 use Rattle.tomex_pareto.specs.Spans.{as_cost, holds, settled, span, stays}
@@ -70,10 +70,7 @@ module _ (least limit : ℕ) (rows few : List LineRow) (r : LineRow) (there : Al
 
 pub front_there : (s : DesignSpace) → All (Contains (all_rows s)) (front_of_study s)
 unfolding front_of_study front_of
-front_there s =
-    let those = filter (is_undominated (all_rows s)) (all_rows s) in
-    All-permutation (Contains (all_rows s)) those (by_cost those) (ordered_moves those)
-    (All-filter (is_undominated (all_rows s)) (Contains (all_rows s)) (all_rows s) (All-contains_itself (all_rows s)))
+front_there s = kept_there (is_undominated (all_rows s)) (all_rows s)
 
 pub lines_there : (s : DesignSpace) (place : ℕ)
     → All (Contains (rows_by_weight s place)) (map (by_weight s place) (front_of_study s))

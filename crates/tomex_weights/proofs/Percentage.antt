@@ -16,7 +16,8 @@ use Rattle.tomex_study.specs.StudyFront.{all_rows}
 use Rattle.tomex_weights.specs.AllWeights.{Factors, IsStatedAtHundred, LeavesBeyondPercent, StaysIfHundred}
 use Rattle.tomex_weights.specs.AllWeights.{StaysWithinPercent, is_on_at}
 use Rattle.tomex_weights.specs.Percent.{difference, percent_of}
-use Rattle.tomex_weights.proofs.Recycled.{front_free, on_recycled, turned}
+use Rattle.tomex_weights.proofs.Recycled.{on_recycled, turned}
+use Rattle.tomex_study.proofs.StudyFronts.{front_free}
 use Rattle.tomex_weights.proofs.SmallRows.{row_of}
 
 -- a study's weights as amounts, and a program's cycles as how often a row has them

@@ -18,13 +18,6 @@ use Rattle.tomex_study.specs.StudyFront.{all_rows, front_of_study}
 abbrev pub turned : DesignSpace → List FrontRow
 turned s = map swapped (all_rows s)
 
--- a row of the front is one of all rows, and none of them dominates it
-pub front_free : (s : DesignSpace) (r : FrontRow) → Contains (front_of_study s) r
-    → Has (all_rows s) r × IsFree (all_rows s) r
-unfolding front_of_study
-front_free s r one = (front_is (all_rows s) (rows_apart 0 s.costs (cycles_of s))).only r
-    (among (front_of (all_rows s)) r one)
-
 -- the new cycles are what `cost` says of the rows with their cycles as costs
 
 module _ (cost : FrontRow → ℕ) where

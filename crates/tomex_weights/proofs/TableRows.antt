@@ -8,7 +8,7 @@ use Rattle.std.proofs.lemmas.List.FromFn.{get_or-range_with_len, length-range_wi
 use Rattle.std.proofs.lemmas.List.Sorted.{All-permutation}
 use Rattle.tomex_pareto.specs.declared.front_row.FrontRow.{FrontRow}
 use Rattle.tomex_pareto.specs.Front.{by_cost}
-use Rattle.tomex_pareto.proofs.Pareto.{ordered_moves}
+use Rattle.tomex_pareto.proofs.Pareto.{kept_there}
 use Rattle.tomex_layout.specs.RowColumns.{row_columns}
 use Rattle.tomex_layout.proofs.Lengths.{HasEntries, columns_long}
 use Rattle.tomex_pareto.specs.declared.spans.ValueSpan.{ValueSpan}
@@ -28,10 +28,7 @@ use Rattle.tomex_weights.proofs.SmallRows.{row_of}
 
 pub listed_there : (s : DesignSpace) → All (Contains (all_rows s)) (listed_rows_of s)
 unfolding listed_rows_of
-listed_there s =
-    let those = filter (is_listed s) (all_rows s) in
-    All-permutation (Contains (all_rows s)) those (by_cost those) (ordered_moves those)
-    (All-filter (is_listed s) (Contains (all_rows s)) (all_rows s) (All-contains_itself (all_rows s)))
+listed_there s = kept_there (is_listed s) (all_rows s)
 
 pub rows_within : (s : DesignSpace) (rows : List FrontRow) → IsStudy s → All (Contains (all_rows s)) rows
     → All (λ r. r.row < length s.rows) rows

@@ -30,7 +30,8 @@ use Rattle.tomex_weights.specs.Reweighted.{in_hundredths, own_cycles, weight_at}
 use Rattle.tomex_weights.specs.Spans.{by_weight, rows_by_weight, span_of}
 use Rattle.tomex_weights.specs.Together.{IsShareOfWay, IsStatedAtStated, StaysByShares, Weights, reweighted_by}
 use Rattle.tomex_weights.specs.Together.{stated_weights, with_all}
-use Rattle.tomex_weights.proofs.Recycled.{front_free, on_recycled, recycled, turned}
+use Rattle.tomex_weights.proofs.Recycled.{on_recycled, recycled, turned}
+use Rattle.tomex_study.proofs.StudyFronts.{front_free}
 use Rattle.tomex_weights.proofs.Reweighing.{hundredfold, part_within}
 use Rattle.tomex_weights.proofs.SmallRows.{row_of}
 use Rattle.tomex_weights.proofs.Whole.{holds_stated, weight_range}

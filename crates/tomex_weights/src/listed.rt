@@ -2,14 +2,13 @@
 
 ghost use Rattle.std.specs.Prelude.{◌≡◌, ◌<◌, length, slice_index_or, All, IfOk};
 ghost use Rattle.std.specs.List.{filter, list_any, Contains};
-ghost use Rattle.tomex_pareto.specs.Front.{is_on};
 ghost use Rattle.tomex_pareto.specs.Spans.{no_values};
 ghost use Rattle.tomex_study.specs.StudyFront.{all_rows};
 ghost use Rattle.tomex_weights.specs.Listed.{all_spans_of, has_weights, is_listed, listed_rows_of};
 
 use crate::columns::WeightColumn;
 use std::alloc::{AllocError, Allocator};
-use tomex_pareto::{FrontRow, ValueSpan, sort_by_cost};
+use tomex_pareto::{FrontRow, ValueSpan, is_on, sort_by_cost};
 use tomex_study::Surveyed;
 
 /// True if some weight is in a span.
@@ -30,13 +29,6 @@ fn comes_by_weights(columns: &[WeightColumn], row: usize) -> bool
         }
     }
     false
-}
-
-/// True if the row of a number is one of the front's.
-pub(crate) fn is_on(front: &[FrontRow], row: usize) -> bool
-    ensures { result ≡ is_on front.now row }
-{
-    front.iter().any(|other| other.row == row)
 }
 
 /// True if a row is on the front as stated, or for some weight of some program.

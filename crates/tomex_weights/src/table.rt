@@ -10,12 +10,12 @@ ghost use Rattle.tomex_weights.specs.WeightsTable.{all_text, columns_of, name_at
 ghost use Rattle.tomex_weights.specs.WeightsTable.{weights_table_of};
 
 use crate::columns::{WeightColumn, weight_columns};
-use crate::listed::{is_on, listed_rows};
+use crate::listed::listed_rows;
 use crate::percents::percent;
 use crate::texts::span_text;
 use std::alloc::{AllocError, Allocator, Global};
 use tomex_layout::{Column, percent_text, push_row_columns, table_of};
-use tomex_pareto::{FrontRow, ValueSpan};
+use tomex_pareto::{FrontRow, ValueSpan, is_on};
 use tomex_study::Surveyed;
 
 /// The percentage by which all weights may be wrong at once, if the row is on the front; else `-`.

@@ -1,4 +1,3 @@
 -- Lemmas of this crate.
-mod Ranges
 pub mod Rows
 mod Columns

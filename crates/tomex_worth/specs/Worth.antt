@@ -1,11 +1,10 @@
 -- What one more or one less part is worth on a machine, as a table.
 use Rattle.std.specs.Prelude.{ℕ, suc, ◌*◌, ◌/◌, ◌==◌, nat_lt, if◌then◌else◌, List, [], ◌∷◌, ◌++◌}
 use Rattle.std.specs.Prelude.{codes, length, map}
-use Rattle.std.specs.List.{list_any}
 use Rattle.std.specs.Fmt.{decimal}
 use Rattle.tomex_rvdec.specs.Parts.{name_of_pool, name_of_unit}
 use Rattle.tomex_config.specs.Configuration.{Configuration, option_of}
-use Rattle.tomex_pareto.specs.Front.{dominates}
+use Rattle.tomex_pareto.specs.Front.{is_on}
 use Rattle.tomex_pareto.specs.declared.front_row.FrontRow.{FrontRow}
 use Rattle.tomex_layout.specs.Hundredths.{hundredths}
 use Rattle.tomex_study.specs.Cycles.{total_at}
@@ -26,7 +25,7 @@ use Rattle.tomex_worth.specs.declared.heading.Heading.TheVariants as headings
 
 -- `yes` if a row is on the front
 abbrev pub front_text : DesignSpace → FrontRow → List ℕ
-front_text s r = if list_any (λ f. f.row == r.row) (front_of_study s) then codes "yes" else codes "-"
+front_text s r = if is_on (front_of_study s) r.row then codes "yes" else codes "-"
 
 abbrev pub name_under : Heading → List ℕ
 name_under headings.Part = codes "part"

@@ -1,8 +1,8 @@
 //! The table of a machine.
 
-ghost use Rattle.std.specs.Prelude.{◌≡◌, ◌<◌, ◌++◌, ◌==◌, if◌then◌else◌, slice_get, Some};
+ghost use Rattle.std.specs.Prelude.{◌≡◌, ◌<◌, ◌++◌, if◌then◌else◌, slice_get, Some};
 ghost use Rattle.std.specs.Prelude.{codes, length, map, IfOk, OnOk, string_bytes};
-ghost use Rattle.std.specs.List.{list_any};
+ghost use Rattle.tomex_pareto.specs.Front.{is_on};
 ghost use Rattle.tomex_worth.specs.Changes.{IsMachine};
 ghost use Rattle.tomex_worth.specs.Worth.{all_headings, heading_column, own_under, program_column, program_columns};
 ghost use Rattle.tomex_worth.specs.Worth.{text_under, worth_table_of};
@@ -13,7 +13,7 @@ use std::alloc::{AllocError, Allocator, Global};
 use tomex_layout::{
     Column, entry_text, name_of_list, percent, rate_text, signed_difference, table_of,
 };
-use tomex_pareto::FrontRow;
+use tomex_pareto::{FrontRow, is_on};
 use tomex_study::{Program, Surveyed};
 
 /// A machine, and the rows that differ from it in only one list.
@@ -23,17 +23,10 @@ struct Machine<'m> {
     changes: &'m [Change],
 }
 
-/// True if a row is on the front.
-fn is_on(front: &[FrontRow], row: usize) -> bool
-    ensures { result ≡ list_any (λ f. f.row == row) front.now }
-{
-    front.iter().any(|f| f.row == row)
-}
-
 /// The text of the column `front` for a row.
 fn front_text(heap: Global, front: &[FrontRow], row: usize) -> Result<String, AllocError>
     ensures { IfOk result (λ text. string_bytes text
-        ≡ (if list_any (λ f. f.row == row) front.now then codes "yes" else codes "-")) }
+        ≡ (if is_on front.now row then codes "yes" else codes "-")) }
 {
     if is_on(front, row) {
         format!(in heap; "yes")

@@ -3,7 +3,7 @@
 ghost use Rattle.std.specs.Prelude.{◌≡◌, length, OnOk};
 ghost use Rattle.std.specs.List.{flat_map};
 ghost use Rattle.tomex_layout.specs.Growth.{Appends};
-ghost use Rattle.tomex_front_views.specs.LinkedPlot.{is_shown, link_start, link_to, linked_circle, linked_line};
+ghost use Rattle.tomex_front_views.specs.LinkedPlot.{link_start, link_to, linked_circle, linked_line};
 ghost use Rattle.tomex_front_views.specs.LinkedPlot.{linked_over, linked_picture_of, linked_rows};
 ghost use Rattle.tomex_front_views.specs.Plot.{circle, radius_of};
 
@@ -14,16 +14,8 @@ use crate::plot::stairs::push_staircase;
 use crate::plot::{push_lines, push_scales, push_shade, push_sheet, push_size, title_of};
 use std::alloc::{AllocError, Allocator, Global};
 use std::fmt::Write;
-use tomex_pareto::FrontRow;
+use tomex_pareto::{FrontRow, is_on};
 use tomex_study::Surveyed;
-
-/// True if the row of this number is one of those that are shown.
-#[tactic(auto, unfolding(crate::specs::LinkedPlot::is_shown))]
-pub fn is_shown(shown: &[FrontRow], row: usize) -> bool
-    ensures { result ≡ is_shown shown.now row }
-{
-    shown.iter().any(|r| r.row == row)
-}
 
 /// Adds the start of a link to a row's view.
 #[tactic(auto, unfolding(crate::specs::LinkedPlot::link_start))]
@@ -59,7 +51,7 @@ fn push_linked_circle<A: Allocator>(
 ) -> Result<(), AllocError>
     ensures { OnOk result (Appends (linked_circle axes.now radius shown.now row) text.old text.new) }
 {
-    if is_shown(shown, row.row) {
+    if is_on(shown, row.row) {
         push_link(text, axes, radius, row)
     } else {
         push_circle(text, axes, radius, row)

@@ -7,7 +7,7 @@ use Rattle.tomex_config.specs.declared.part.Part.{Part}
 use Rattle.tomex_config.specs.Parts.{same_entry}
 use Rattle.tomex_choices.specs.Asking.{are_alike, are_alike_in}
 use Rattle.tomex_config.specs.Parts.{same_latency}
-use Rattle.tomex_choices.proofs.Ranges.{all_fails, all_hold, all_holds}
+use Rattle.tomex_config.proofs.EachPart.{all_fails, all_hold, all_holds}
 use Rattle.tomex_choices.proofs.entries.are_alike.Goals as goal
 
 pub returns-then-not-is_alike_in : goal.returns-then-not-is_alike_in

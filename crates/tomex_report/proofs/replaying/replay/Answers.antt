@@ -3,7 +3,7 @@ use Rattle.std.proofs.Common.{◌∙◌, ap, sym, subst}
 use Rattle.std.specs.List.{AllZip}
 use Rattle.rayon.proofs.ToStd.{slice-AllZip}
 use Rattle.tomex_texts.specs.RowEnds.{AreEndsOf}
-use Rattle.tomex_report.proofs.Oks.{if_ok, AllZip-oks}
+use Rattle.tomex_survey.proofs.Oks.{if_ok, AllZip-oks}
 use Rattle.tomex_report.proofs.replaying.replay.Goals as goal
 
 pub returns : goal.returns

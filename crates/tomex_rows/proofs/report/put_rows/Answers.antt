@@ -2,7 +2,7 @@
 use Rattle.std.proofs.Common.{◌∙◌, ap, arith, length}
 use Rattle.std.proofs.lemmas.List.FromFn.{length-map-range_with_len}
 use Rattle.tomex_pareto.specs.declared.front_row.FrontRow.{FrontRow}
-use Rattle.tomex_rows.specs.RowsReport.{is_on_front}
+use Rattle.tomex_pareto.specs.Front.{is_on}
 use Rattle.tomex_study.specs.StudyFront.{front_of_study}
 use Rattle.tomex_rows.proofs.Lines.{flag_there}
 use Rattle.tomex_rows.proofs.report.put_rows.Goals as goal
@@ -15,7 +15,7 @@ bounds-flags-row g c =
     let s = c.args.surveyed.now in
     let low = c.rows-row-items.ensures.within c.loop-row.row-index none c.loop-row-test.true in
     let many = ap length c.requires.flags
-    ∙ length-map-range_with_len (is_on_front (front_of_study s)) 0 (length s.rows) in
+    ∙ length-map-range_with_len (is_on (front_of_study s)) 0 (length s.rows) in
     omega (arith, low, many)
 
 pub put_row-requires-clause-front : goal.put_row-requires-clause-front

@@ -10,7 +10,7 @@ use Rattle.tomex_reservations.specs.Reservations.{Reserved, bus_line, is_left, t
 use Rattle.tomex_timing.specs.Ahead.{TakesBus, one}
 use Rattle.tomex_timing.specs.History.{is_of}
 use Rattle.tomex_timing.proofs.Least.{first_agree, first_from_le}
-use Rattle.tomex_timing.proofs.Limits.{unit_in}
+use Rattle.tomex_rvdec.proofs.Places.{unit_low}
 use Rattle.tomex_timing.proofs.asking.take_slots.Goals as goal
 
 -- equal either way round
@@ -26,7 +26,7 @@ buses_stay : (before after : Reserved) (unit : UnitId) (cycle t : ℕ)
     → taken_at after bus_line t ≡ taken_at before bus_line t
 buses_stay before after unit cycle t with =
     let e : (bus_line == place_of_unit unit) ≡ false =
-    ne_eqb bus_line (place_of_unit unit) (λ (e : bus_line ≡ place_of_unit unit). absurd (omega (arith, unit_in unit)))
+    ne_eqb bus_line (place_of_unit unit) (λ (e : bus_line ≡ place_of_unit unit). absurd (omega (arith, unit_low unit)))
     in
     with ∙ rw e refl
 
@@ -66,6 +66,6 @@ returns-clause-end g c =
 
 pub returns-clause-taken : goal.returns-clause-taken
 returns-clause-taken g c = λ u t late. rw c.requires.unit
-    (c.in_ok-end.ensures.units (place_of_unit u) t (unit_in u) (rw c.in_ok-start.ensures.base late)
+    (c.in_ok-end.ensures.units (place_of_unit u) t (unit_low u) (rw c.in_ok-start.ensures.base late)
     ∙ unit_taken c.args.table.now c.reserve.new.self c.args.unit u c.in_ok-start.start.cycle t
-    (rw c.place.ensures.place at (c.in_ok-start.ensures.with (place_of_unit u) t (omega (arith, unit_in u)) late)))
+    (rw c.place.ensures.place at (c.in_ok-start.ensures.with (place_of_unit u) t (omega (arith, unit_low u)) late)))

@@ -6,7 +6,7 @@ use Rattle.tomex_config.specs.Configuration.{Configuration}
 use Rattle.tomex_config.specs.Parts.{all_parts}
 use Rattle.tomex_worth.specs.Changes.{differ_at}
 use Rattle.tomex_config.specs.Parts.{part_at, same_entry}
-use Rattle.tomex_worth.proofs.Ranges.{all_fails, all_hold, all_holds}
+use Rattle.tomex_config.proofs.EachPart.{all_fails, all_hold, all_holds}
 use Rattle.tomex_worth.proofs.changes.differ_at.Goals as goal
 
 abbrev asked : ℕ → Configuration → Configuration → ℕ → Bool
