@@ -7,6 +7,7 @@ use Rattle.tomex_rvexec.specs.Steps.{is_branch}
 use Rattle.tomex_config.specs.Configuration.{Configuration, IsWithinLimits}
 use Rattle.tomex_timing.specs.declared.times.Done.{Done}
 use Rattle.tomex_timing.specs.History.{last_issue, greatest_end}
+use Rattle.tomex_timing.specs.Issue.{branch_finish, first_issue, slot_from}
 use Rattle.tomex_timing.specs.Laws.{InReach}
 use Rattle.tomex_timing.specs.Needs.{waits_of}
 use Rattle.tomex_timing.specs.Recurrence.{AreTimed}
@@ -14,7 +15,7 @@ use Rattle.tomex_timing.proofs.Accounts.{issue_account}
 use Rattle.tomex_timing.proofs.Bound.{issue_low}
 use Rattle.tomex_timing.proofs.Charges.{branch_waits, width_waits, station_waits}
 use Rattle.tomex_timing.proofs.Orders.{reach, start_after}
-use Rattle.tomex_timing.proofs.Splits.{branch_finish, from_of, issue_split, slot_from, slot_range}
+use Rattle.tomex_timing.proofs.Splits.{issue_split, slot_range}
 use Rattle.tomex_timing.proofs.Width.{issue_from}
 use Rattle.tomex_path.specs.declared.event.Event.{Event}
 use Rattle.tomex_path.specs.declared.event.Event.TheVariants.{Issue}
@@ -46,8 +47,8 @@ module _ (config : Configuration) (good : IsWithinLimits config) where
         (first_issues older t timed.1 (omega arith) l)
   ]
 
-  pub from_low : (d : Done) (older : List Done) → AreTimed config (d ∷ older) → from_of config older ≤ d.at.issue
-  from_low d older timed = leb-true (from_of config older) d.at.issue
+  pub from_low : (d : Done) (older : List Done) → AreTimed config (d ∷ older) → first_issue config older ≤ d.at.issue
+  from_low d older timed = leb-true (first_issue config older) d.at.issue
       (issue_split config older d.at.issue good timed.1 ∙ (and_parts _ _ timed.0.issue.0).0)
 
   -- the youngest branch finishes last
@@ -55,7 +56,7 @@ module _ (config : Configuration) (good : IsWithinLimits config) where
   youngest_branch [] timed = refl
   youngest_branch (d ∷ older) timed = elim (cases_Bool (is_branch d.step)) [
     | inl e ↦
-        let low : from_of config older ≤ d.at.issue = from_low d older timed in
+        let low : first_issue config older ≤ d.at.issue = from_low d older timed in
         let start : d.at.issue ≤ d.at.start = start_after config older d.step d.at timed.0 in
         let within : InReach (greatest_end older) d.at = reach config d older good timed in
         rw e (omega (arith, within.order))

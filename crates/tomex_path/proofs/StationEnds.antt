@@ -9,6 +9,7 @@ use Rattle.tomex_config.specs.Configuration.{Configuration, IsWithinLimits, stat
 use Rattle.tomex_config.specs.declared.part.Part.TheVariants.{Stations}
 use Rattle.tomex_timing.specs.declared.times.Done.{Done}
 use Rattle.tomex_timing.specs.History.{last_issue}
+use Rattle.tomex_timing.specs.Issue.{first_issue}
 use Rattle.tomex_timing.specs.Needs.{waits_of}
 use Rattle.tomex_timing.specs.Recurrence.{AreTimed, are_branches_finished, can_issue_another}
 use Rattle.tomex_timing.specs.Station.{has_station, is_free, is_held}
@@ -17,7 +18,7 @@ use Rattle.tomex_timing.proofs.Bools.{last_fails}
 use Rattle.tomex_timing.proofs.Charges.{station_waits}
 use Rattle.tomex_timing.proofs.Holders.{number_low, stations_apart, stations_fit}
 use Rattle.tomex_timing.proofs.Limits.{pool_is}
-use Rattle.tomex_timing.proofs.Splits.{from_of, issue_split, slot_range}
+use Rattle.tomex_timing.proofs.Splits.{issue_split, slot_range}
 use Rattle.tomex_timing.proofs.Taken.{peak_within}
 use Rattle.tomex_timing.proofs.Width.{issue_from}
 use Rattle.tomex_path.specs.declared.event.Holder.TheVariants.{Station}
@@ -82,12 +83,12 @@ station_case config d older good timed waits =
     let low = from_low config good d older timed in
     let slot = slot_range config older in
     let sw = station_waits config older d good timed.1 low in
-    let early : from_of config older ≤ d.at.issue - 1 = omega arith in
+    let early : first_issue config older ≤ d.at.issue - 1 = omega arith in
     let rest = issue_split config older (d.at.issue - 1) good timed.1 in
     let none : has_station config older (step_pool d.step) (d.at.issue - 1) ≡ false =
     last_fails ((nat_lt 0 (d.at.issue - 1) && can_issue_another config older (d.at.issue - 1))
     && are_branches_finished older (d.at.issue - 1)) (has_station config older (step_pool d.step) (d.at.issue - 1))
-    (sym rest ∙ le-leb (from_of config older) (d.at.issue - 1) early)
+    (sym rest ∙ le-leb (first_issue config older) (d.at.issue - 1) early)
     (timed.0.issue.1 (d.at.issue - 1) (omega arith)) in
     elim (pool_cases (step_pool d.step)) [
       | inl e ↦ let f : true ≡ false = rw e at none in absurd (cc)

@@ -8,11 +8,12 @@ use Rattle.tomex_config.specs.Configuration.{Configuration, IsWithinLimits}
 use Rattle.tomex_timing.specs.declared.need.Waits.{Waits}
 use Rattle.tomex_timing.specs.declared.times.Done.{Done}
 use Rattle.tomex_timing.specs.History.{last_issue, cycle_of, source_end}
+use Rattle.tomex_timing.specs.Issue.{branch_finish, first_after_branches, first_issue, slot_from}
 use Rattle.tomex_timing.specs.Needs.{lacks_branch, lacks_width, lacks_station, issue_waits, waits_of, lacks_operand}
 use Rattle.tomex_timing.specs.Needs.{lacks_address, lacks_memory, lacks_unit, start_waits}
 use Rattle.tomex_timing.specs.Recurrence.{AreTimed, are_branches_finished, has_operands, are_conflicts_finished}
 use Rattle.tomex_timing.proofs.Bands.{band, is_in_band, none_of}
-use Rattle.tomex_timing.proofs.Splits.{branch_finish, slot_from, slot_range, from_of, max_split, slot_split}
+use Rattle.tomex_timing.proofs.Splits.{slot_range, max_split, slot_split}
 use Rattle.tomex_timing.proofs.Splits.{branch_split, issue_split, after_split, ready_split}
 use Rattle.tomex_rvdec.specs.declared.pool.UnitId.{UnitId}
 use Rattle.tomex_rvexec.specs.Steps.{step_unit, j_of, k_of}
@@ -43,9 +44,6 @@ same_waits a b e1 e2 e3 e4 e5 e6 e7 e8 =
 abbrev pub low_of : List Done → ℕ
 low_of h = max 1 (last_issue h)
 
-abbrev pub branches_of : List Done → ℕ
-branches_of h = max (low_of h) (branch_finish h + 1)
-
 branches_at : (h : List Done) (t : ℕ) → low_of h ≤ t → are_branches_finished h t ≡ nat_le (branch_finish h + 1) t
 branches_at h t l = sym (let p : nat_lt 0 t ≡ true = lt-ltb 0 t (omega arith) in
     branch_split h t ∙ ap (λ b. b && are_branches_finished h t) p)
@@ -54,43 +52,46 @@ leb_same : (a b t : ℕ) → (a ≤ t → b ≤ t) → (b ≤ t → a ≤ t) →
 leb_same a b t f g = same_from_decides {P = a ≤ t} (nat_le a t) (nat_le b t) (leb-true a t, le-leb a t)
     (λ e. g (leb-true b t e), λ l. le-leb b t (f l))
 
-pub branch_waits : (config : Configuration) (h : List Done) (d : Done) → from_of config h ≤ d.at.issue
-    → issue_waits h d (lacks_branch h) ≡ branches_of h - low_of h
+pub branch_waits : (config : Configuration) (h : List Done) (d : Done) → first_issue config h ≤ d.at.issue
+    → issue_waits h d (lacks_branch h) ≡ first_after_branches h - low_of h
 branch_waits config h d l =
     let r = slot_range config h in
-    band (lacks_branch h) (low_of h) (branches_of h) (low_of h) d.at.issue (omega arith) (omega arith) (omega arith)
-    (λ t a b. rw (branches_at h t a, le-leb (low_of h) t a)
-    (ap (λ x. not x) (leb_same (branch_finish h + 1) (branches_of h) t (λ u. omega arith) (λ u. omega arith))))
+    band (lacks_branch h) (low_of h) (first_after_branches h) (low_of h) d.at.issue (omega arith) (omega arith)
+    (omega arith) (λ t a b. rw (branches_at h t a, le-leb (low_of h) t a)
+    (ap (λ x. not x) (leb_same (branch_finish h + 1) (first_after_branches h) t (λ u. omega arith) (λ u. omega arith))))
 
 pub width_waits : (config : Configuration) (h : List Done) (d : Done) → IsWithinLimits config → AreTimed config h
-    → from_of config h ≤ d.at.issue → issue_waits h d (lacks_width config h) ≡ from_of config h - branches_of h
+    → first_issue config h ≤ d.at.issue
+    → issue_waits h d (lacks_width config h) ≡ first_issue config h - first_after_branches h
 width_waits config h d good timed l =
     let r = slot_range config h in
-    band (lacks_width config h) (branches_of h) (from_of config h) (low_of h) d.at.issue (omega arith) (omega arith)
-    (omega arith) (λ t a b. at_cycle t a)
+    band (lacks_width config h) (first_after_branches h) (first_issue config h) (low_of h) d.at.issue (omega arith)
+    (omega arith) (omega arith) (λ t a b. at_cycle t a)
   where
-    at_cycle : (t : ℕ) → low_of h ≤ t → lacks_width config h t ≡ is_in_band (branches_of h) (from_of config h) t
+    at_cycle : (t : ℕ) → low_of h ≤ t
+        → lacks_width config h t ≡ is_in_band (first_after_branches h) (first_issue config h) t
     at_cycle t a = elim (cases_Bool (nat_le (branch_finish h + 1) t)) [
       | inl e ↦
           let k : branch_finish h + 1 ≤ t = leb-true (branch_finish h + 1) t e in
-          rw (branches_at h t a, e, le-leb (branches_of h) t (omega arith), ← slot_split config h t good timed)
-          (ap (λ x. not x) (leb_same (slot_from config h) (from_of config h) t (λ u. omega arith) (λ u. omega arith)))
+          rw (branches_at h t a, e, le-leb (first_after_branches h) t (omega arith), ← slot_split config h t good timed)
+          (ap (λ x. not x)
+          (leb_same (slot_from config h) (first_issue config h) t (λ u. omega arith) (λ u. omega arith)))
       | inr e ↦
           let k : t < branch_finish h + 1 = leb-false (branch_finish h + 1) t e in
-          rw (branches_at h t a, e, lt-leb (branches_of h) t (omega arith)) refl
+          rw (branches_at h t a, e, lt-leb (first_after_branches h) t (omega arith)) refl
     ]
 
 pub station_waits : (config : Configuration) (h : List Done) (d : Done) → IsWithinLimits config → AreTimed config h
-    → from_of config h ≤ d.at.issue → issue_waits h d (lacks_station config h) ≡ d.at.issue - from_of config h
+    → first_issue config h ≤ d.at.issue → issue_waits h d (lacks_station config h) ≡ d.at.issue - first_issue config h
 station_waits config h d good timed l =
     let r = slot_range config h in
-    band (lacks_station config h) (from_of config h) d.at.issue (low_of h) d.at.issue (omega arith) (omega arith)
+    band (lacks_station config h) (first_issue config h) d.at.issue (low_of h) d.at.issue (omega arith) (omega arith)
     (omega arith) (λ t a b. at_cycle t a b)
   where
     at_cycle : (t : ℕ) → low_of h ≤ t → t < d.at.issue
-        → lacks_station config h t ≡ is_in_band (from_of config h) d.at.issue t
+        → lacks_station config h t ≡ is_in_band (first_issue config h) d.at.issue t
     at_cycle t a b =
-        let m : nat_le (from_of config h) t ≡ (nat_le (slot_from config h) t && nat_le (branch_finish h + 1) t) =
+        let m : nat_le (first_issue config h) t ≡ (nat_le (slot_from config h) t && nat_le (branch_finish h + 1) t) =
         max_split (slot_from config h) (branch_finish h + 1) t in
         rw (branches_at h t a, ← slot_split config h t good timed, m, lt-leb d.at.issue t b)
         (and_swap (nat_le (branch_finish h + 1) t) (nat_le (slot_from config h) t) ∙ and_true _)
@@ -146,8 +147,8 @@ module _ (h : List Done) (d : Done) where
   -- the waits between the marks
   abbrev waits_at : Marks → Waits
   waits_at marks = record {
-    branch = branches_of h - low_of h;
-    width = marks.from - branches_of h;
+    branch = first_after_branches h - low_of h;
+    width = marks.from - first_after_branches h;
     station = d.at.issue - marks.from;
     operand = marks.operands - d.at.issue - 1;
     address = marks.ready - marks.operands;
@@ -158,7 +159,8 @@ module _ (h : List Done) (d : Done) where
 
 module _ {config : Configuration} {h : List Done} {held : Held} {s : Step} {next : Next}
     (c : ComesNext config h held s next) where
-  waits_unit : (unit : Option UnitId) → Runs c unit → last_issue h ≤ next.at.issue → from_of config h ≤ next.at.issue
+  waits_unit : (unit : Option UnitId) → Runs c unit → last_issue h ≤ next.at.issue
+      → first_issue config h ≤ next.at.issue
       → waits_at h (record { step = s; at = next.at }) next.marks
       ≡ waits_of config h (record { step = s; at = next.at })
   waits_unit None run late l =
@@ -190,7 +192,7 @@ module _ {config : Configuration} {h : List Done} {held : Held} {s : Step} {next
   waits_are =
       let is = next_timed c in
       let late : last_issue h ≤ next.at.issue = issue_after config h s next.at.issue is.issue.0 in
-      let l : from_of config h ≤ next.at.issue =
-      leb-true (from_of config h) next.at.issue (issue_split config h next.at.issue c.good c.timed
+      let l : first_issue config h ≤ next.at.issue =
+      leb-true (first_issue config h) next.at.issue (issue_split config h next.at.issue c.good c.timed
       ∙ (and_parts _ _ is.issue.0).0) in
       rw (c.shown.kept.issue, c.shown.kept.branch) (waits_unit (step_unit s) c.by.run late l)

@@ -16,6 +16,7 @@ use Rattle.tomex_timing.specs.declared.times.Done.{Done}
 use Rattle.tomex_timing.specs.Ahead.{Held, IsIdle, IsNextBy, RunsOn, TakesBus, TakesStation, end_in}
 use Rattle.tomex_reservations.specs.Reservations.{IsFreeFirst, bus_line, end_at, is_left}
 use Rattle.tomex_timing.specs.History.{cycle_of, is_memory, last_address, last_issue, source_end}
+use Rattle.tomex_timing.specs.Issue.{first_issue, slot_from}
 use Rattle.tomex_timing.specs.Recurrence.{IsLeast, IsTimed, AreTimed, EndsAfter, are_conflicts_finished, can_address}
 use Rattle.tomex_timing.specs.Recurrence.{can_end, can_issue, can_start, has_operands}
 use Rattle.tomex_timing.specs.Search.{least}
@@ -27,7 +28,7 @@ use Rattle.tomex_timing.proofs.Least.{first_from_le, least_agree}
 use Rattle.tomex_timing.proofs.Limits.{latency_low, stations_high}
 use Rattle.tomex_timing.proofs.Holders.{stations_fit}
 use Rattle.tomex_reservations.proofs.Searching.{first_here}
-use Rattle.tomex_timing.proofs.Splits.{slot_from, slot_range, from_of, issue_split, ready_split, after_split}
+use Rattle.tomex_timing.proofs.Splits.{slot_range, issue_split, ready_split, after_split}
 use Rattle.tomex_timing.proofs.Splits.{address_agree}
 use Rattle.tomex_timing.proofs.Stations.{number_is}
 use Rattle.tomex_timing.proofs.Taken.{peak_within}
@@ -201,12 +202,12 @@ module _ {config : Configuration} {h : List Done} {held : Held} {s : Step} {next
         end = end_timed (step_dest s) next.at.finish next.at.end next.buses (omega arith) run.end;
       }
 
-  pub from_is : next.marks.from ≡ from_of config h
+  pub from_is : next.marks.from ≡ first_issue config h
   from_is = rw (c.shown.kept.issue, c.shown.kept.issued, c.shown.kept.branch) at c.by.from
 
   pub next_timed : IsTimed config h s next.at
   next_timed =
-      let from : next.marks.from ≡ from_of config h = from_is in
+      let from : next.marks.from ≡ first_issue config h = from_is in
       let slot : last_issue h ≤ slot_from config h = (slot_range config h).0 in
       let issue : HasIssue config h (step_pool s) next.marks.from next.at.issue next.at.station =
       has_issue (step_pool s) next.marks.from next.at.issue next.at.station (omega arith) (omega arith) c.by.issue in

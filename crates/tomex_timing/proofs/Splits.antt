@@ -1,5 +1,5 @@
 -- The tests of the recurrence, split by the first cycle in which each of their parts passes.
-use Rattle.std.proofs.Common.{◌∙◌, sym, ℕ, ◌+◌, ◌≤◌, ◌≡◌, Bool, cond, arith, refl, List, [], ◌∷◌, add-one, inl, inr}
+use Rattle.std.proofs.Common.{◌∙◌, sym, ℕ, ◌+◌, ◌≤◌, ◌≡◌, Bool, arith, refl, List, [], ◌∷◌, add-one, inl, inr}
 use Rattle.std.proofs.Common.{max, nat_lt, nat_le, ◌==◌, ◌&&◌, count_by}
 use Rattle.std.proofs.lemmas.Bool.{cases_Bool, cases_order, lt-ltb, le-leb, lt-leb}
 use Rattle.std.proofs.lemmas.Bool.Decides.{nat_tests}
@@ -8,21 +8,12 @@ use Rattle.tomex_rvexec.specs.declared.step.Step.{Step}
 use Rattle.tomex_config.specs.Configuration.{Configuration, IsWithinLimits}
 use Rattle.tomex_timing.specs.declared.times.Done.{Done}
 use Rattle.tomex_timing.specs.History.{source_end, last_issue, last_address}
+use Rattle.tomex_timing.specs.Issue.{branch_finish, first_issue, slot_from}
 use Rattle.tomex_timing.specs.Recurrence.{IsLeast, AreTimed, can_address, can_issue_another, are_branches_finished}
 use Rattle.tomex_timing.proofs.Bools.{and_assoc, and_swap}
 use Rattle.tomex_timing.proofs.Limits.{width_low}
 use Rattle.tomex_timing.proofs.Tests.{can_address_from, can_address_is}
 use Rattle.tomex_timing.proofs.Width.{none_later}
-
--- the latest finish of a branch, 0 if there is none
-abbrev pub branch_finish : List Done → ℕ
-branch_finish [] = 0
-branch_finish (d ∷ older) = cond (is_branch d.step) (max d.at.finish (branch_finish older)) (branch_finish older)
-
--- the first cycle in program order with room for an issue
-abbrev pub slot_from : Configuration → List Done → ℕ
-slot_from config h = cond (nat_lt (count_by (λ d. d.at.issue == last_issue h) h) config.width) (last_issue h)
-    (last_issue h + 1)
 
 pub slot_range : (config : Configuration) (h : List Done) → (last_issue h ≤ slot_from config h)
     × (slot_from config h ≤ last_issue h + 1)
@@ -30,10 +21,6 @@ slot_range config h = elim (cases_Bool (nat_lt (count_by (λ d. d.at.issue == la
   | inl e ↦ rw e (omega arith, omega arith)
   | inr e ↦ rw e (omega arith, omega arith)
 ]
-
--- and later than each branch's finish
-abbrev pub from_of : Configuration → List Done → ℕ
-from_of config h = max (slot_from config h) (branch_finish h + 1)
 
 -- the first cycle from a greatest one on
 pub max_split : (a b t : ℕ) → nat_le (max a b) t ≡ (nat_le a t && nat_le b t)
@@ -85,7 +72,7 @@ branch_split (d ∷ h) t = elim (cases_Bool (is_branch d.step)) [
 
 -- all of the test for issue except the station
 pub issue_split : (config : Configuration) (h : List Done) (t : ℕ) → IsWithinLimits config → AreTimed config h
-    → nat_le (from_of config h) t ≡ ((nat_lt 0 t && can_issue_another config h t) && are_branches_finished h t)
+    → nat_le (first_issue config h) t ≡ ((nat_lt 0 t && can_issue_another config h t) && are_branches_finished h t)
 issue_split config h t good timed =
     rw (max_split (slot_from config h) (branch_finish h + 1) t, slot_split config h t good timed, branch_split h t)
     (swap_and (can_issue_another config h t) (nat_lt 0 t) (are_branches_finished h t)

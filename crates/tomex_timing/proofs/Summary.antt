@@ -17,12 +17,12 @@ use Rattle.tomex_timing.specs.declared.recent.Latest.{Latest}
 use Rattle.tomex_timing.specs.Ahead.{Held, IsSettledBy, end_in, is_past, nothing_held}
 use Rattle.tomex_timing.specs.History.{is_memory, cycle_of, writer_end, source_end, last_issue, last_address}
 use Rattle.tomex_timing.specs.History.{greatest_end, is_of}
+use Rattle.tomex_timing.specs.Issue.{branch_finish}
 use Rattle.tomex_timing.specs.Recurrence.{IsLeast, IsTimed, AreTimed, can_address, are_conflicts_finished}
 use Rattle.tomex_timing.specs.Recent.{facts_of, register_of, written_by, addressed_by, latest_after}
 use Rattle.tomex_timing.proofs.Search.{address_pos}
 use Rattle.tomex_timing.proofs.AfterEnd.{AllBy, IsDoneBy, all_pass, starts_none, results_none, last_address_by}
 use Rattle.tomex_timing.proofs.AfterEnd.{last_issue_by, writer_end_by, writer_of_zero}
-use Rattle.tomex_timing.proofs.Splits.{branch_finish}
 use Rattle.tomex_timing.proofs.Width.{issue_from, none_later}
 use Rattle.std.specs.List.{list_all, All}
 use Rattle.std.proofs.lemmas.List.Elements.{All-nil}

@@ -1,6 +1,7 @@
 pub mod History
 pub mod Station
 pub mod Recurrence
+pub mod Issue
 pub mod Tests
 pub mod Search
 pub mod Run

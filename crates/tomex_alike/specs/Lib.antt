@@ -1,0 +1,3 @@
+-- Histories that look alike, and the laws on them.
+pub mod Alike
+pub mod Laws

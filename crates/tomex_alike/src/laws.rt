@@ -1,0 +1,25 @@
+//! Laws on histories that look alike. These functions do nothing: their contracts are the laws.
+
+ghost use Rattle.tomex_alike.specs.Laws.{BlocksRepeat, RunsAskForNothingNew, RunsRepeat, StepsRepeat};
+
+/// After histories that look alike, steps that are the same to the recurrence get times that are as far after the
+/// first cycles in which they may issue. They take as much of each part and wait for it as long, and with them the
+/// histories look alike again.
+pub fn steps_repeat_themselves()
+    ensures { StepsRepeat }
+{}
+
+/// After histories that look alike, blocks of the same steps leave histories that look alike. The first cycles in which
+/// the next step may issue, and the totals, are as far after the first cycles in which the blocks might issue. As many
+/// stalls of each part are added, and a part that was taken no more by the first block is taken no more by the second.
+pub fn blocks_repeat_themselves()
+    ensures { BlocksRepeat }
+{}
+
+/// A run that comes back to a state, relative to the first cycle in which the next step may issue, with the same
+/// instructions and conflicts ahead, repeats itself cycle for cycle. It takes no more of any part than it has taken,
+/// and waits for no part that it hadn't waited for.
+pub fn runs_that_come_back_repeat_themselves()
+    ensures cycles { RunsRepeat }
+    ensures parts { RunsAskForNothingNew }
+{}
