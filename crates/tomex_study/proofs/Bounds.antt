@@ -12,7 +12,7 @@ use Rattle.tomex_config.specs.Configuration.{Configuration, IsWithinLimits}
 use Rattle.tomex_timing.specs.History.{greatest_end}
 use Rattle.tomex_timing.specs.Search.{history}
 use Rattle.tomex_timing.proofs.Histories.{history_bound}
-use Rattle.tomex_timing.specs.Run.{run_of, total}
+use Rattle.tomex_timing.specs.Run.{most_cycles, run_of, total}
 use Rattle.tomex_study.specs.Cycles.{cycles_on}
 use Rattle.tomex_study.specs.Program.{Workload, IsProgram}
 
@@ -45,7 +45,7 @@ bounded_on : (config : Configuration) (image : Loaded) → IsWithinLimits config
 unfolding run_of
 bounded_on config image lawful = bounded 262144 config (start_of image) lawful
 
-pub total_bound : (config : Configuration) (image : Loaded) → IsWithinLimits config → total config image ≤ 17563648
+pub total_bound : (config : Configuration) (image : Loaded) → IsWithinLimits config → total config image ≤ most_cycles
 total_bound config image lawful = let a : total config image ≤ 67 * 262144 = bounded_on config image lawful in
     omega arith
 

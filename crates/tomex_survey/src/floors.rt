@@ -1,10 +1,11 @@
 //! The floors of a study, and the fewest cycles of a row.
 
-ghost use Rattle.std.specs.Prelude.{◌≡◌, ◌≤◌, length, option_map, IfOk, IfSome};
+ghost use Rattle.std.specs.Prelude.{◌≡◌, ◌≤◌, ◌*◌, length, option_map, IfOk, IfSome};
 ghost use Rattle.std.specs.List.{Contains};
 ghost use Rattle.tomex_floor.specs.Floor.{floor_of, floors_by_width};
 ghost use Rattle.tomex_config.specs.Configuration.{latency_of};
 ghost use Rattle.tomex_timing.specs.History.{is_of};
+ghost use Rattle.tomex_timing.specs.Run.{most_cycles};
 ghost use Rattle.tomex_survey.specs.Floors.{any_width, fastest, floor_at, steps_of, study_floor, weighted_floor};
 ghost use Rattle.tomex_survey.specs.Extremes.{lesser};
 ghost use Rattle.tomex_survey.specs.Flooring.{is_used_by, used_latencies, used_latency};
@@ -165,7 +166,7 @@ impl<'s, A: Allocator + Clone> Floored<'s, A> {
         ensures program { self.new ≡ self.old }
         ensures own { IfOk result (λ f. f.own ≡ weighted_floor config.now.width config.now self.old) }
         ensures any_width { IfOk result (λ f. f.any_width ≡ weighted_floor 4 config.now self.old) }
-        ensures range { IfOk result (λ f. (f.own ≤ 17563648000) × (f.any_width ≤ 17563648000)) }
+        ensures range { IfOk result (λ f. (f.own ≤ 1000 * most_cycles) × (f.any_width ≤ 1000 * most_cycles)) }
     {
         config.keeps_limits();
         self.program.keeps_limits();

@@ -5,7 +5,7 @@ use Rattle.tomex_image.specs.Image.{Loaded}
 use Rattle.tomex_rvexec.specs.Run.{EndsWithin}
 use Rattle.tomex_config.specs.Configuration.{Configuration, IsWithinLimits}
 use Rattle.tomex_cycle.specs.declared.progress.Progress.TheVariants.{Running, Ended}
-use Rattle.tomex_timing.specs.Run.{total}
+use Rattle.tomex_timing.specs.Run.{most_cycles, total}
 use Rattle.tomex_cycle.specs.Seen.{Seen, seen_after, is_end}
 use Rattle.tomex_study.specs.Program.{Workload, IsProgram}
 use Rattle.tomex_study.proofs.Bounds.{total_bound}
@@ -34,17 +34,17 @@ pub record HasEnded (config : Configuration) (p : Workload) (n : Seen) : Type 0 
 
 -- a machine that advances past the end of any program
 pub to_end : (config : Configuration) (p : Workload) (m n : Seen) → IsWithinLimits config → IsProgram p
-    → m ≡ record { image = p.image; config = config; cycle = 0; status = Running } → Advances m n 17563648
+    → m ≡ record { image = p.image; config = config; cycle = 0; status = Running } → Advances m n most_cycles
     → HasEnded config p n
 to_end config p m n lawful program is goes =
     let start : m.cycle ≡ 0 = ap (λ (s : Seen). s.cycle) is in
-    let at : n ≡ seen_after p.image config 17563648 =
-    advanced_from p config m n 17563648 program (ap (λ (s : Seen). s.image) is) (ap (λ (s : Seen). s.config) is)
+    let at : n ≡ seen_after p.image config most_cycles =
+    advanced_from p config m n most_cycles program (ap (λ (s : Seen). s.image) is) (ap (λ (s : Seen). s.config) is)
     (omega arith) goes in
-    let cycle : n.cycle ≡ min 17563648 (total config p.image) = ap (λ (s : Seen). s.cycle) at in
-    let most : total config p.image ≤ 17563648 = total_bound config p.image lawful in
-    let over : is_end (cond (nat_lt 17563648 (total config p.image)) Running Ended) ≡ true =
-    ap (λ (b : Bool). is_end (cond b Running Ended)) (le-ltb 17563648 (total config p.image) most) in
+    let cycle : n.cycle ≡ min most_cycles (total config p.image) = ap (λ (s : Seen). s.cycle) at in
+    let most : total config p.image ≤ most_cycles = total_bound config p.image lawful in
+    let over : is_end (cond (nat_lt most_cycles (total config p.image)) Running Ended) ≡ true =
+    ap (λ (b : Bool). is_end (cond b Running Ended)) (le-ltb most_cycles (total config p.image) most) in
     record {
       image = ap (λ (s : Seen). s.image) at;
       cycle = omega arith;

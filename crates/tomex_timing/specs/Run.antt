@@ -12,6 +12,10 @@ use Rattle.tomex_timing.specs.Search.{history}
 unfoldable pub run_of : Configuration → Loaded → List Done
 run_of config i = history config (steps_from most_steps (start_of i))
 
+-- the most cycles that it takes, at 67 for each of the most steps
+abbrev pub most_cycles : ℕ
+most_cycles = 17563648
+
 -- the cycles that it takes
 abbrev pub total : Configuration → Loaded → ℕ
 total config i = greatest_end (run_of config i)
