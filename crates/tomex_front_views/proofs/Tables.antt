@@ -9,7 +9,7 @@ use Rattle.std.proofs.lemmas.List.Elements.{All-append, All-cons, All-nil}
 use Rattle.tomex_study.specs.Program.{Workload}
 use Rattle.tomex_study.specs.Study.{DesignSpace}
 use Rattle.tomex_pareto.specs.declared.front_row.FrontRow.{FrontRow}
-use Rattle.tomex_front_views.specs.FrontTable.{cycles_on, heading_column, own_columns}
+use Rattle.tomex_front_views.specs.FrontTable.{heading_column, own_columns}
 use Rattle.tomex_config.specs.Settings.{all_settings, differs}
 use Rattle.tomex_front_views.specs.FrontTable.{program_column}
 use Rattle.tomex_front_views.specs.FrontTable.{program_columns, rate_column, rates_after, setting_columns}
@@ -38,8 +38,8 @@ unfolding rate_column
 rate_long front = rates_long None front
 
 program_long : (s : DesignSpace) (front : List FrontRow) (p : Workload) → HasEntries front (program_column s front p)
-unfolding cycles_on
-program_long s front p = length-map (cycles_on s front p) _ ∙ length-map front _
+unfolding program_column
+program_long s front p = length-map front _
 
 setting_long : (s : DesignSpace) (front : List FrontRow) (setting : Setting)
     → All (HasEntries front) (setting_columns s front setting)

@@ -6,11 +6,11 @@ use Rattle.std.specs.List.{flat_map, list_any}
 use Rattle.tomex_rvdec.specs.Parts.{name_of_pool, name_of_unit}
 use Rattle.tomex_rvdec.specs.declared.pool.PoolId.TheVariants as pools
 use Rattle.tomex_rvdec.specs.declared.pool.UnitId.TheVariants as units
-use Rattle.tomex_config.specs.Configuration.{Configuration, option_of, plain}
-use Rattle.tomex_timing.specs.Run.{total}
+use Rattle.tomex_config.specs.Configuration.{Configuration}
+use Rattle.tomex_study.specs.Cycles.{total_at}
 use Rattle.tomex_study.specs.StudyFront.{front_of_study}
 use Rattle.tomex_study.specs.Program.{Workload}
-use Rattle.tomex_study.specs.Study.{DesignSpace}
+use Rattle.tomex_study.specs.Study.{DesignSpace, config_at}
 use Rattle.tomex_pareto.specs.Hull.{hull_of}
 use Rattle.tomex_pareto.specs.declared.front_row.FrontRow.{FrontRow}
 use Rattle.tomex_config.specs.Parts.{count_of}
@@ -31,15 +31,12 @@ name_of_heading Cost = codes "cost"
 name_of_heading Cycles = codes "cycles"
 name_of_heading (OfSetting setting) = name_of_setting setting
 
-abbrev pub config_of : DesignSpace → FrontRow → Configuration
-config_of s r = slice_index_or s.rows r.row plain
-
 -- the number under a heading for a front row
 unfoldable pub number_under : DesignSpace → Heading → FrontRow → ℕ
 number_under s OfRow r = r.row
 number_under s Cost r = r.cost
 number_under s Cycles r = r.cycles
-number_under s (OfSetting setting) r = setting_of (config_of s r) setting
+number_under s (OfSetting setting) r = setting_of (config_at s r.row) setting
 
 unfoldable pub heading_column : DesignSpace → List FrontRow → Heading → TableColumn
 heading_column s front heading =
@@ -71,12 +68,9 @@ own_columns s front =
     map (heading_column s front) (OfRow ∷ Cost ∷ Cycles ∷ [])
     ++ rate_column front ∷ flat_map (setting_columns s front) all_settings
 
--- a program's own cycles on each front row
-unfoldable pub cycles_on : DesignSpace → List FrontRow → Workload → List ℕ
-cycles_on s front p = map (λ r. total (config_of s r) p.image) front
-
-abbrev pub program_column : DesignSpace → List FrontRow → Workload → TableColumn
-program_column s front p = record { name = p.name; entries = map decimal (cycles_on s front p) }
+-- a program's own cycles on each row
+unfoldable pub program_column : DesignSpace → List FrontRow → Workload → TableColumn
+program_column s front p = record { name = p.name; entries = map (λ r. decimal (total_at s p r.row)) front }
 
 -- a column for each program if there are several
 abbrev pub program_columns : DesignSpace → List FrontRow → List TableColumn

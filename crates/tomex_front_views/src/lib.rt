@@ -8,4 +8,4 @@ mod table;
 pub use plot::front_picture;
 pub use plot::linked::{push_link_start, push_linked_picture};
 pub use plot::over_rows::rows_picture;
-pub use table::front::rows_table;
+pub use table::front::{front_table, hull_table};

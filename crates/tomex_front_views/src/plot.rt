@@ -1,7 +1,6 @@
 //! The front as one picture in SVG.
 
 ghost use Rattle.std.specs.Prelude.{◌≡◌, length, OnOk, IfOk, string_bytes};
-ghost use Rattle.tomex_study.specs.StudyFront.{front_of_study};
 ghost use Rattle.tomex_layout.specs.Growth.{Appends};
 ghost use Rattle.tomex_front_views.specs.Plot.{front_picture_of, lines_text, picture_of_rows, rows_text};
 ghost use Rattle.tomex_front_views.specs.Plot.{scales_text, shade, sheet, size_text, title_of};
@@ -22,7 +21,7 @@ use stairs::push_staircase;
 use std::alloc::{AllocError, Allocator, Global};
 use std::fmt::Write;
 use tomex_pareto::FrontRow;
-use tomex_study::Study;
+use tomex_study::Surveyed;
 
 fn push<A: Allocator>(text: &mut String<A>, piece: &str) -> Result<(), AllocError>
     ensures { OnOk result (Appends piece.now text.old text.new) }
@@ -167,11 +166,9 @@ fn picture_of_rows<A: Allocator>(
 pub fn front_picture<A: Allocator>(
     alloc: A,
     heap: Global,
-    study: &Study<A>,
-    front: &[FrontRow],
+    surveyed: &Surveyed<'_, A>,
 ) -> Result<Vec<u8, A>, AllocError>
-    requires { front.now ≡ front_of_study study.now }
-    ensures { IfOk result (λ text. text.items ≡ front_picture_of study.now) }
+    ensures { IfOk result (λ text. text.items ≡ front_picture_of surveyed.now) }
 {
-    picture_of_rows(alloc, heap, study.rows().len(), front)
+    picture_of_rows(alloc, heap, surveyed.rows().len(), surveyed.front())
 }

@@ -2,8 +2,7 @@
 use Rattle.std.specs.Prelude.{ℕ, ◌-◌, ◌*◌, ◌/◌, nat_le, if◌then◌else◌, List, length, map, slice_index_or}
 use Rattle.std.specs.List.{range_with_len}
 use Rattle.tomex_pareto.specs.declared.front_row.FrontRow.{FrontRow}
-use Rattle.tomex_study.specs.Study.{DesignSpace}
-use Rattle.tomex_front_views.specs.FrontTable.{config_of}
+use Rattle.tomex_study.specs.Study.{DesignSpace, config_at}
 use Rattle.tomex_page_tables.specs.declared.shown.ShownRow.{ShownRow}
 
 -- the most rows that are shown
@@ -27,4 +26,4 @@ shown_rows front =
 
 -- a row of a study, with its configuration
 abbrev pub row_of : DesignSpace → FrontRow → ShownRow
-row_of s r = record { row = r; config = config_of s r }
+row_of s r = record { row = r; config = config_at s r.row }

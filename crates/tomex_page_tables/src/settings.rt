@@ -4,7 +4,6 @@
 ghost use Rattle.std.specs.Prelude.{◌≡◌, ◌<◌, length, map, IfOk, OnOk};
 ghost use Rattle.std.specs.List.{flat_map};
 ghost use Rattle.tomex_layout.specs.Growth.{Appends};
-ghost use Rattle.tomex_front_views.specs.FrontTable.{config_of};
 ghost use Rattle.tomex_config.specs.Settings.{all_settings};
 ghost use Rattle.tomex_layout.specs.Lists.{name_of_setting};
 ghost use Rattle.tomex_page_tables.specs.Front.{column_heads, own_programs, setting_cell, settings_of, sets_anew};

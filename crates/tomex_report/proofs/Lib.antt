@@ -1,5 +1,4 @@
 pub mod Placed
 pub mod Cycles
 pub mod Machines
-mod Hulls
 mod Surveyed

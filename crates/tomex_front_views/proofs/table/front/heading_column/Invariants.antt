@@ -7,6 +7,6 @@ use Rattle.tomex_front_views.proofs.table.front.heading_column.Given as goal
 abbrev pub invariant-loop-row : goal.invariant-loop-row
 invariant-loop-row g l = record {
   name : l.column.name ≡ name_of_heading l.heading;
-  entries : l.column.entries ++ map (λ r. decimal (number_under l.study l.heading r)) (drop l.row-index l.front)
-      ≡ map (λ r. decimal (number_under l.study l.heading r)) l.front;
+  entries : l.column.entries ++ map (λ r. decimal (number_under l.surveyed l.heading r)) (drop l.row-index l.rows)
+      ≡ map (λ r. decimal (number_under l.surveyed l.heading r)) l.rows;
 }

@@ -5,5 +5,5 @@ use Rattle.tomex_front_views.proofs.table.front.push_each_program.Given as goal
 
 abbrev pub invariant-loop-place : goal.invariant-loop-place
 invariant-loop-place g l =
-    l.columns.items ++ map (program_column l.study l.front) (drop l.place l.study.programs)
-    ≡ l.fn.columns.items ++ map (program_column l.study l.front) l.study.programs
+    l.columns.items ++ map (program_column l.surveyed l.rows) (drop l.place l.surveyed.programs)
+    ≡ l.fn.columns.items ++ map (program_column l.surveyed l.rows) l.surveyed.programs

@@ -8,16 +8,18 @@ use Rattle.tomex_front_views.proofs.table.front.push_programs.Goals as goal
 
 pub returns-in_ok-push_each_program : goal.returns-in_ok-push_each_program
 returns-in_ok-push_each_program g c =
-    let several : 1 < length c.args.study.now.programs =
-    subst (λ (ps : List Workload). 1 < length ps) c.programs.ensures.value c.if-programs-gt1.true in
+    let several : 1 < length c.args.surveyed.now.programs =
+    subst (λ (ps : List Workload). 1 < length ps) (rw c.study.ensures at c.programs.ensures.value)
+    c.if-programs-gt1.true in
     c.in_ok-push_each_program.ensures
     ∙ ap (λ (more : List TableColumn). c.args.columns.now.items ++ more)
-    (several_columns c.args.study.now c.args.front.now several)
+    (several_columns c.args.surveyed.now c.args.rows.now several)
 
 pub returns-else-programs-gt1 : goal.returns-else-programs-gt1
 returns-else-programs-gt1 g c =
-    let one : length c.args.study.now.programs ≤ 1 =
-    subst (λ (ps : List Workload). length ps ≤ 1) c.programs.ensures.value c.if-programs-gt1.false in
+    let one : length c.args.surveyed.now.programs ≤ 1 =
+    subst (λ (ps : List Workload). length ps ≤ 1) (rw c.study.ensures at c.programs.ensures.value)
+    c.if-programs-gt1.false in
     sym (append-nil c.args.columns.now.items)
     ∙ ap (λ (more : List TableColumn). c.args.columns.now.items ++ more)
-    (no_column c.args.study.now c.args.front.now one)
+    (no_column c.args.surveyed.now c.args.rows.now one)

@@ -7,6 +7,6 @@ use Rattle.tomex_front_views.proofs.table.front.push_settings.Goals as goal
 
 pub loop-setting-preserved : goal.loop-setting-preserved
 loop-setting-preserved g c =
-    next_piece (setting_columns c.args.study.now c.args.front.now) all_settings c.loop-setting.setting-index _ _
+    next_piece (setting_columns c.args.surveyed.now c.args.rows.now) all_settings c.loop-setting.setting-index _ _
     c.args.columns.now.items _ _ c.loop-setting-test.true refl c.loop-setting.invariant
     c.in_ok-push_setting.ensures

@@ -8,4 +8,4 @@ use Rattle.tomex_front_views.proofs.table.front.push_settings.Given as goal
 abbrev pub invariant-loop-setting : goal.invariant-loop-setting
 invariant-loop-setting g l =
     l.columns.items ≡ l.fn.columns.items
-    ++ flat_map (setting_columns l.study l.front) (take l.setting-index all_settings)
+    ++ flat_map (setting_columns l.surveyed l.rows) (take l.setting-index all_settings)

@@ -11,16 +11,16 @@ use Rattle.std.proofs.Common.{sym}
 pub table_of-requires : goal.table_of-requires
 table_of-requires g c =
     let made = c.as_slice.ensures.value
-    ∙ all_columns c.args.study.now c.args.rows.now _ _ _ c.new-columns.ensures.items
+    ∙ all_columns c.args.surveyed.now c.args.rows.now _ _ _ c.new-columns.ensures.items
     c.in_ok-push_own.ensures c.in_ok-push_programs.ensures in
     λ k d within. All-get_or (HasEntries c.args.rows.now) _ k d within
-    (subst (All (HasEntries c.args.rows.now)) (sym made) (columns_long c.args.study.now c.args.rows.now))
+    (subst (All (HasEntries c.args.rows.now)) (sym made) (columns_long c.args.surveyed.now c.args.rows.now))
 
 pub returns : goal.returns
 unfolding rows_table_of
 returns g c =
     let rows = c.args.rows.now in
-    let made = c.as_slice.ensures.value ∙ all_columns c.args.study.now rows _ _ _ c.new-columns.ensures.items
+    let made = c.as_slice.ensures.value ∙ all_columns c.args.surveyed.now rows _ _ _ c.new-columns.ensures.items
     c.in_ok-push_own.ensures c.in_ok-push_programs.ensures in
     let is = rw made at c.table_of.ensures in
     IfOk-weaker c.table_of.result _ _ (λ text t. t) is

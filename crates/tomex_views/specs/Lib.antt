@@ -1,0 +1,2 @@
+-- The texts of a study's views, and when there is none.
+pub mod StudyViews

@@ -1,0 +1,15 @@
+//! The views of a study that aren't the claim's report: tables, pictures, pages and CSV of its front and of all its rows,
+//! and of what its lists lack. From the bytes of a study to the text of a view.
+//! Tests: tomex_cases, tomex_tests_memory, tomex_tests_commands.
+#![tactic(auto)]
+
+mod answering;
+mod crew;
+mod study_view;
+mod texts;
+mod view_error;
+
+pub use answering::answer_view;
+pub use crew::Crew;
+pub use study_view::{ChoicesView, StudyView, SurveyView};
+pub use view_error::ViewError;

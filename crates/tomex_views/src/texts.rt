@@ -1,0 +1,113 @@
+//! The texts of a study's views.
+
+ghost use Rattle.std.specs.Prelude.{◌≡◌, ◌<◌, false, true, length, IfErr, IfOk, IfSome, IsErrOf};
+ghost use Rattle.tomex_prices.specs.PricesTable.{is_too_large};
+ghost use Rattle.tomex_views.specs.StudyViews.{choices_text, lacks_program, lacks_row, place_of};
+ghost use Rattle.tomex_views.specs.StudyViews.{IsSurveyText, IsWithoutSurvey};
+
+use crate::study_view::{ChoicesView, SurveyView};
+use crate::view_error::ViewError;
+use std::alloc::{AllocError, Allocator, Global};
+use tomex_choices::WeighedChoices;
+use tomex_choices_table::choices_table;
+use tomex_compare::compare_table;
+use tomex_front_views::{front_picture, front_table, hull_table, rows_picture};
+use tomex_page::{page_with_choices, study_page};
+use tomex_prices::prices_table;
+use tomex_rows::rows_report;
+use tomex_study::{Study, Surveyed};
+use tomex_weights::weights_table;
+use tomex_worth::worth_table;
+
+/// The place of the first program of that name.
+fn place_of<A: Allocator>(study: &Study<A>, name: &str) -> Option<usize>
+    ensures place { result ≡ place_of name.now study.now }
+    ensures inside { IfSome result (λ place. place < length study.now.programs) }
+{
+    study
+        .programs()
+        .iter()
+        .position(|program| program.name() == name)
+}
+
+/// The tables of two builds, of these names.
+fn compared<A: Allocator>(
+    alloc: A,
+    heap: Global,
+    surveyed: &Surveyed<'_, A>,
+    old: &str,
+    new: &str,
+) -> Result<Vec<u8, A>, ViewError>
+    ensures text { IfOk result
+        (λ text. IsSurveyText (SurveyView.Compare old.entry new.entry) surveyed.now text.items) }
+    ensures refused { IfErr result (IsWithoutSurvey (SurveyView.Compare old.entry new.entry) surveyed.now) }
+{
+    let study = surveyed.study();
+    let old = place_of(study, old).ok_or(ViewError::NoSuchProgram)?;
+    let new = place_of(study, new).ok_or(ViewError::NoSuchProgram)?;
+    Ok(compare_table(alloc, heap, surveyed, old, new)?)
+}
+
+/// A view of a study's front or of all its rows.
+pub(crate) fn text_of_survey<A: Allocator + Clone>(
+    alloc: A,
+    heap: Global,
+    surveyed: &Surveyed<'_, A>,
+    view: SurveyView<'_>,
+) -> Result<Vec<u8, A>, ViewError>
+    requires { lacks_row view surveyed.now ≡ false }
+    ensures text { IfOk result (λ text. IsSurveyText view.entry surveyed.now text.items) }
+    ensures refused { IfErr result (IsWithoutSurvey view.entry surveyed.now) }
+    ensures large { view.entry ≡ SurveyView.Prices → is_too_large surveyed.now ≡ true
+        → IsErrOf result ViewError.TooLarge }
+{
+    match view {
+        SurveyView::Table => Ok(front_table(alloc, heap, surveyed)?),
+        SurveyView::Hull => Ok(hull_table(alloc, heap, surveyed)?),
+        SurveyView::Picture => Ok(front_picture(alloc, heap, surveyed)?),
+        SurveyView::RowsPicture => Ok(rows_picture(alloc, heap, surveyed)?),
+        SurveyView::Rows => Ok(rows_report(alloc, heap, surveyed)?),
+        SurveyView::Worth(row) => Ok(worth_table(alloc, heap, surveyed, row)?),
+        SurveyView::Prices => Ok(prices_table(alloc, heap, surveyed)?),
+        SurveyView::Weights => Ok(weights_table(alloc, heap, surveyed)?),
+        SurveyView::Compare(old, new) => compared(alloc, heap, surveyed, old, new),
+        SurveyView::Page(name) => Ok(study_page(alloc, heap, name, surveyed)?),
+    }
+}
+
+/// A view of a study with what its lists lack.
+pub(crate) fn text_of_choices<A: Allocator + Clone>(
+    alloc: A,
+    heap: Global,
+    weighed: &WeighedChoices<'_, A>,
+    view: ChoicesView<'_>,
+) -> Result<Vec<u8, A>, AllocError>
+    ensures { IfOk result (λ text. text.items ≡ choices_text view.entry weighed.now) }
+{
+    match view {
+        ChoicesView::Table => choices_table(alloc, heap, weighed),
+        ChoicesView::Page(name) => page_with_choices(alloc, heap, name, weighed),
+    }
+}
+
+/// True if the view is of a configuration that the study doesn't have.
+pub(crate) fn lacks_row<A: Allocator>(study: &Study<A>, view: SurveyView<'_>) -> bool
+    ensures { result ≡ lacks_row view.entry study.now }
+{
+    match view {
+        SurveyView::Worth(row) => study.rows().len() <= row,
+        _ => false,
+    }
+}
+
+/// True if the view is of a program that the study doesn't have.
+pub(crate) fn lacks_program<A: Allocator>(study: &Study<A>, view: SurveyView<'_>) -> bool
+    ensures { result ≡ lacks_program view.entry study.now }
+{
+    match view {
+        SurveyView::Compare(old, new) => {
+            !(place_of(study, old).is_some() && place_of(study, new).is_some())
+        }
+        _ => false,
+    }
+}

@@ -1,0 +1,58 @@
+//! Why a study has no text in a view.
+
+ghost use Rattle.std.specs.Prelude.{◌≡◌};
+ghost use Rattle.tomex_views.specs.StudyViews.{error_of_prices};
+ghost use Rattle.tomex_views.specs.declared.view_error.ViewError.TheVariants.{Memory, Study};
+
+use std::alloc::AllocError;
+use thiserror::Error;
+use tomex_document::StudyError;
+use tomex_prices::PricesError;
+
+/// Why a study has no text in a view.
+#[derive(Debug, Drop, Error)]
+pub enum ViewError {
+    /// The bytes and the files are refused.
+    #[error(transparent)]
+    Study(StudyError),
+    /// They are a study without a configuration of this number.
+    #[error("no such row")]
+    NoSuchRow,
+    /// They are a study without a program of one of the names.
+    #[error("no such program")]
+    NoSuchProgram,
+    /// They are a study whose table of prices would have too many intervals.
+    #[error("table too large")]
+    TooLarge,
+    /// They are a study, and out of memory.
+    #[error("out of memory")]
+    Memory,
+}
+
+impl From<StudyError> for ViewError {
+    ghost from_gives = { λ error e. e ≡ Study error };
+
+    fn from(error: StudyError) -> Self {
+        ViewError::Study(error)
+    }
+}
+
+impl From<PricesError> for ViewError {
+    ghost from_gives = { λ error e. e ≡ error_of_prices error };
+
+    fn from(error: PricesError) -> Self {
+        match error {
+            PricesError::TooLarge => ViewError::TooLarge,
+            PricesError::Memory => ViewError::Memory,
+        }
+    }
+}
+
+/// Errors after the study was read.
+impl From<AllocError> for ViewError {
+    ghost from_gives = { λ _ e. e ≡ Memory };
+
+    fn from(_error: AllocError) -> Self {
+        ViewError::Memory
+    }
+}
