@@ -9,7 +9,7 @@ ghost use Rattle.tomex_compare.specs.GroupTable.{name_under, text_under, worst};
 use crate::groups::Group;
 use crate::pairs::Pair;
 use std::alloc::{AllocError, Allocator, Global};
-use tomex_layout::{Column, table_of, push_percent};
+use tomex_layout::{Column, push_percent, table_of};
 
 /// A column's heading: which property of a group it shows.
 #[derive(Clone, Copy)]

@@ -15,8 +15,8 @@ use crate::pairs::Pair;
 use std::alloc::{AllocError, Allocator, Global};
 use std::marker::Model;
 use tomex_config::{Config, Part};
-use tomex_study::Surveyed;
 use tomex_layout::{push_entry, push_name_of_list};
+use tomex_study::Surveyed;
 
 /// Some rows, by ratio, then number, and what they have in common.
 #[derive(Drop)]

@@ -11,7 +11,7 @@ use crate::build::Build;
 use crate::extremes::{RowCycles, best_row, worst_row};
 use std::alloc::{AllocError, Allocator, Global};
 use std::marker::Model;
-use tomex_layout::{Column, table_of, push_percent};
+use tomex_layout::{Column, push_percent, table_of};
 use tomex_study::Surveyed;
 
 /// A column's heading: which property of a build it shows.

@@ -4,9 +4,9 @@ ghost use Rattle.std.specs.Prelude.{◌≡◌, ◌⊎◌, map, string_bytes, IfO
 ghost use Rattle.tomex_document.specs.Document.{files_of, file_names_of};
 ghost use Rattle.tomex_document.specs.Refusals.{IsDocumentRefusal};
 
+use crate::document::{Entry, document_of};
 use crate::error::StudyError;
 use std::alloc::{AllocError, Allocator, Global};
-use crate::document::{Entry, document_of};
 
 /// The names of these programs' files, in order.
 fn files_of<A: Allocator>(

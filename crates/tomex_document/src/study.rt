@@ -8,10 +8,10 @@ ghost use Rattle.tomex_document.specs.Refusals.{unfit_as, load_error};
 ghost use Rattle.tomex_document.specs.Study.{AreProgramsOf, IsFileRefusal, IsFirstRefusal};
 ghost use Rattle.tomex_document.specs.Study.{IsProgramOf, IsRefusalOfFiles, IsStudyOf, IsStudyRefusal};
 
+use crate::document::{Entry, Outline, document_of};
 use crate::error::StudyError;
 use std::alloc::{AllocError, Allocator, Global};
 use tomex_config::grid;
-use crate::document::{Entry, Outline, document_of};
 use tomex_image::{Image, ImageError, load};
 use tomex_study::{Program, ProgramError, Study};
 

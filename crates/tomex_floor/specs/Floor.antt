@@ -89,7 +89,6 @@ floors_by_width latency steps = floor_of latency 1 steps ∷ floor_of latency 2 
 
 -- a configuration's latencies
 
-
 -- each time of the first is no later than the second's
 pub record IsNoLater (a b : Times) : Type 0 where
   pub issue : a.issue ≤ b.issue

@@ -9,9 +9,9 @@ use crate::doing::Cause;
 use crate::on_path::OnPath;
 use std::alloc::{AllocError, Allocator};
 use std::fmt::{self, Write};
+use tomex_config::Part;
 use tomex_path::{Link, Reason};
 use tomex_rvexec::Step;
-use tomex_config::Part;
 
 /// The cause that a row shows while its step waits for a reason; none for one that is in its turn.
 fn cause_of(reason: Reason) -> Option<Cause>

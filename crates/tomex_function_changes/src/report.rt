@@ -18,7 +18,7 @@ use csv::{ByteRecord, Writer};
 use std::alloc::{AllocError, Allocator, Global};
 use tomex_config::Config;
 use tomex_functions::FunctionsError;
-use tomex_layout::{into_text, push_names, put_record, push_signed};
+use tomex_layout::{into_text, push_names, push_signed, put_record};
 use tomex_run_views::push_decimals;
 use tomex_symbols::has_symbols;
 

@@ -4,9 +4,9 @@ ghost use Rattle.std.specs.Prelude.{◌≡◌, [], OnErr, OnOk, string_bytes};
 ghost use Rattle.tomex_layout.specs.Growth.{Appends};
 ghost use Rattle.tomex_layout.specs.Table.{aligned_in, has_line, with_entry};
 
+use crate::aligned::push_aligned;
 use std::alloc::{AllocError, Allocator, Global};
 use std::marker::Model;
-use crate::aligned::push_aligned;
 
 /// A column: a name, and an entry for each line.
 #[derive(Drop)]

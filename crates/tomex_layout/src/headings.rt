@@ -4,8 +4,8 @@ ghost use Rattle.std.specs.Prelude.{◌≡◌, ◌++◌, IfOk, OnOk};
 ghost use Rattle.tomex_layout.specs.RowColumns.{heading_column, name_of_heading, now_under, number_under};
 ghost use Rattle.tomex_layout.specs.RowColumns.{row_columns};
 
-use std::alloc::{AllocError, Global};
 use crate::column::Column;
+use std::alloc::{AllocError, Global};
 use tomex_pareto::FrontRow;
 
 /// A property of a row.

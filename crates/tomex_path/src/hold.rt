@@ -14,8 +14,8 @@ ghost use Rattle.tomex_path.specs.Seen.{seen_of};
 use crate::event::{Access, Event, Holder};
 use crate::note::{IssueWait, Seen, StartWait};
 use crate::reason::Reason;
-use tomex_timing::Tag;
 use tomex_config::Part;
+use tomex_timing::Tag;
 
 /// Why an event comes no earlier.
 #[derive(Clone, Copy)]

@@ -11,11 +11,11 @@ ghost use Rattle.tomex_run_views.specs.Tally.{IsTally};
 use crate::shares::cycles_of;
 use csv::ByteRecord;
 use std::alloc::{AllocError, Allocator};
+use tomex_config::Part;
 use tomex_path::{Link, Reason};
 use tomex_run_views::{Sum, Tally, push_decimals};
 use tomex_rvexec::Step;
 use tomex_timing::Waits;
-use tomex_config::Part;
 
 /// The names of the columns of sums.
 pub const CHARGE_COLUMNS: [&str; 11] = [

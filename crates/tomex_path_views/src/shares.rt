@@ -7,9 +7,9 @@ ghost use Rattle.tomex_path.specs.Laws.{cycles_of, is_part, is_reason};
 ghost use Rattle.tomex_path_views.specs.ByReason.{links_with};
 ghost use Rattle.tomex_path_views.specs.Shares.{AreShort, IsShort, share_after, share_of};
 
+use tomex_config::Part;
 use tomex_path::{Link, Reason};
 use tomex_rvdec::UnitId;
-use tomex_config::Part;
 
 /// How many links there are, how long their steps had waited, and how many cycles are theirs.
 #[derive(Clone, Copy)]

@@ -7,10 +7,10 @@ ghost use Rattle.tomex_plateaus.specs.Knowledge.{AreLearnt, AreTotals, IsLearntA
 ghost use Rattle.tomex_plateaus.specs.Knowledge.{nothing_known};
 ghost use Rattle.tomex_study.specs.Program.{IsProgram, Workload};
 
+use crate::plateaus::Plateaus;
 use std::alloc::{AllocError, Allocator};
 use std::marker::Model;
 use tomex_config::Config;
-use crate::plateaus::Plateaus;
 use tomex_study::Program;
 
 /// For each of a study's programs, plateaus on which its total is known, each learnt from an
