@@ -5,23 +5,12 @@ use Rattle.tomex_command_line.specs.declared.line.Line.TheVariants.{Run, Times, 
 use Rattle.tomex_command_line.specs.declared.line.Line.TheVariants.{Animate, All, Explore, Front, Plot, Rows}
 use Rattle.tomex_command_line.specs.declared.line.Line.TheVariants.{Worth, Choices, Prices, Weights}
 use Rattle.tomex_command_line.specs.declared.line.Line.TheVariants.{Compare, Functions, Page, Find, Explain}
-use Rattle.tomex_command_line.specs.declared.line.explore.ExploreLine.{ExploreLine}
+use Rattle.tomex_command_line.specs.declared.line.page.PageLine.{PageLine}
 use Rattle.tomex_streams.specs.Files.{Known}
 use Rattle.tomex_streams.specs.Sinks.{Seen}
 use Rattle.tomex_command.specs.Commands.{IsFailure, IsLeft}
-use Rattle.tomex_command.specs.PageLines.{IsPageFailure}
-use Rattle.tomex_command.specs.SurveyLines.{IsPlotFailure}
 use Rattle.tomex_command.specs.declared.failure.Failure.{Failure}
 use Rattle.tomex_command.specs.declared.failure.Failure.TheVariants as failures
-
-not_drawn : (file : List ℕ → Known) (all : Bool) (name : List ℕ) → IsPlotFailure all file name failures.CannotWrite → ⊥
-not_drawn file true name is = is
-not_drawn file false name is = is
-
-not_printed : (file : List ℕ → Known) (asked : Bool) (line : ExploreLine)
-    → IsPageFailure asked file line failures.CannotWrite → ⊥
-not_printed file true line is = is
-not_printed file false line is = is
 
 not_written : (file : List ℕ → Known) (line : Line) → IsFailure file line failures.CannotWrite → ⊥
 not_written file (Run line) is = is
@@ -34,7 +23,7 @@ not_written file (Animate line) is = is
 not_written file (All line) is = is
 not_written file (Explore line) is = is
 not_written file (Front line) is = is
-not_written file (Plot line) is = not_drawn file line.all line.explore.study.now is
+not_written file (Plot line) is = is
 not_written file (Rows line) is = is
 not_written file (Worth line) is = is
 not_written file (Choices line) is = is
@@ -42,7 +31,7 @@ not_written file (Prices line) is = is
 not_written file (Weights line) is = is
 not_written file (Compare line) is = is
 not_written file (Functions line) is = is
-not_written file (Page line) is = not_printed file line.choices line.explore is
+not_written file (Page line) is = is
 not_written file (Find line) is = is
 not_written file (Explain line) is = is
 

@@ -3,7 +3,7 @@ mod Built
 mod Drawn
 mod Found
 mod Fronts
-mod Surveys
+mod Views
 mod Left
 mod Placed
 mod Reached

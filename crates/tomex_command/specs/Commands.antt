@@ -9,22 +9,20 @@ use Rattle.tomex_command_line.specs.declared.line.Line.TheVariants.{Worth, Choic
 use Rattle.tomex_command_line.specs.declared.line.Line.TheVariants.{Functions, Page, Find, Explain}
 use Rattle.tomex_arguments.specs.declared.fault.LineFault.{LineFault}
 use Rattle.tomex_command_line.specs.Asked.{IsAsked, IsNoCommand}
-use Rattle.tomex_report.specs.declared.choosing.ChoicesView.TheVariants.{Table}
-use Rattle.tomex_report.specs.declared.front_view.FrontView.TheVariants.{Report}
-use Rattle.tomex_report.specs.declared.surveying.SurveyView.TheVariants as views
+use Rattle.tomex_views.specs.declared.study_view.ChoicesView.TheVariants as choices
+use Rattle.tomex_views.specs.declared.study_view.StudyView.TheVariants as views
+use Rattle.tomex_views.specs.declared.study_view.SurveyView.TheVariants as surveys
 use Rattle.tomex_streams.specs.Files.{Known}
 use Rattle.tomex_command.specs.AnimateLines.{IsAnimateOf, IsAnimateFailure}
-use Rattle.tomex_command.specs.ChoicesLines.{IsChoicesFailure, IsChoicesOf}
 use Rattle.tomex_command.specs.ExplainLines.{IsExplanation, IsExplainFailure}
 use Rattle.tomex_command.specs.FindLines.{IsFindOf, IsFindFailure}
 use Rattle.tomex_command.specs.FunctionsLines.{IsFunctionsFailure, IsFunctionsOf}
-use Rattle.tomex_command.specs.FrontLines.{IsFrontOf, IsAllFailure, IsExploreFailure, table_view}
+use Rattle.tomex_command.specs.FrontLines.{IsAllFailure, IsExploreFailure, IsReportOf}
 use Rattle.tomex_streams.specs.Sinks.{Seen, IsWhole, IsCut}
-use Rattle.tomex_command.specs.PageLines.{IsPageFailure, IsPageOf}
 use Rattle.tomex_command.specs.PathLines.{IsPathOf, IsPathFailure}
 use Rattle.tomex_command.specs.PipelineLines.{IsPipelineOf, IsPipelineFailure}
 use Rattle.tomex_command.specs.RunLines.{IsRunOf, IsRunFailure}
-use Rattle.tomex_command.specs.SurveyLines.{IsPlotFailure, IsPlotOf, IsSurveyFailure, IsSurveyTextOf}
+use Rattle.tomex_command.specs.ViewLines.{IsViewFailure, IsViewOf, page_view, plot_view, table_view}
 use Rattle.tomex_command.specs.StallsLines.{IsStallsOf, IsStallsFailure}
 use Rattle.tomex_command.specs.TablesLines.{IsTablesOf, IsTablesFailure}
 use Rattle.tomex_command.specs.Reporting.{IsFailureReported, IsSaid, IsFaultReported}
@@ -39,19 +37,19 @@ IsDone file (Path line) text = IsPathOf file line text
 IsDone file (Pipeline line) text = IsPipelineOf file line text
 IsDone file (Tables line) text = IsTablesOf file line text
 IsDone file (Animate line) text = IsAnimateOf file line text
-IsDone file (All line) text = IsFrontOf Report file line.study.now text
-IsDone file (Explore line) text = IsFrontOf Report file line.study.now text
-IsDone file (Front line) text = IsFrontOf (table_view line.hull) file line.explore.study.now text
-IsDone file (Plot line) text = IsPlotOf line.all file line.explore.study.now text
-IsDone file (Rows line) text = IsSurveyTextOf views.Rows file line.study.now text
-IsDone file (Worth line) text = IsSurveyTextOf (views.Worth line.config) file line.explore.study.now text
-IsDone file (Choices line) text = IsChoicesOf Table file line.study.now text
-IsDone file (Prices line) text = IsSurveyTextOf views.Prices file line.study.now text
-IsDone file (Weights line) text = IsSurveyTextOf views.Weights file line.study.now text
+IsDone file (All line) text = IsReportOf file line.study.now text
+IsDone file (Explore line) text = IsReportOf file line.study.now text
+IsDone file (Front line) text = IsViewOf (views.Survey (table_view line.hull)) file line.explore.study.now text
+IsDone file (Plot line) text = IsViewOf (views.Survey (plot_view line.all)) file line.explore.study.now text
+IsDone file (Rows line) text = IsViewOf (views.Survey surveys.Rows) file line.study.now text
+IsDone file (Worth line) text = IsViewOf (views.Survey (surveys.Worth line.config)) file line.explore.study.now text
+IsDone file (Choices line) text = IsViewOf (views.Choices choices.Table) file line.study.now text
+IsDone file (Prices line) text = IsViewOf (views.Survey surveys.Prices) file line.study.now text
+IsDone file (Weights line) text = IsViewOf (views.Survey surveys.Weights) file line.study.now text
 IsDone file (Compare line) text =
-    IsSurveyTextOf (views.Compare line.builds.old line.builds.new) file line.explore.study.now text
+    IsViewOf (views.Survey (surveys.Compare line.builds.old line.builds.new)) file line.explore.study.now text
 IsDone file (Functions line) text = IsFunctionsOf file line text
-IsDone file (Page line) text = IsPageOf line.choices file line.explore text
+IsDone file (Page line) text = IsViewOf (page_view line) file line.explore.study.now text
 IsDone file (Find line) text = IsFindOf file line text
 IsDone file (Explain line) text = IsExplanation (option_map string_bytes line.refusal) text
 
@@ -66,17 +64,20 @@ IsFailure file (Tables line) failure = IsTablesFailure file line failure
 IsFailure file (Animate line) failure = IsAnimateFailure file line failure
 IsFailure file (All line) failure = IsAllFailure file line.study.now failure
 IsFailure file (Explore line) failure = IsExploreFailure file line.study.now failure
-IsFailure file (Front line) failure = IsExploreFailure file line.explore.study.now failure
-IsFailure file (Plot line) failure = IsPlotFailure line.all file line.explore.study.now failure
-IsFailure file (Rows line) failure = IsSurveyFailure views.Rows file line.study.now failure
-IsFailure file (Worth line) failure = IsSurveyFailure (views.Worth line.config) file line.explore.study.now failure
-IsFailure file (Choices line) failure = IsChoicesFailure file line.study.now failure
-IsFailure file (Prices line) failure = IsSurveyFailure views.Prices file line.study.now failure
-IsFailure file (Weights line) failure = IsSurveyFailure views.Weights file line.study.now failure
+IsFailure file (Front line) failure =
+    IsViewFailure (views.Survey (table_view line.hull)) file line.explore.study.now failure
+IsFailure file (Plot line) failure =
+    IsViewFailure (views.Survey (plot_view line.all)) file line.explore.study.now failure
+IsFailure file (Rows line) failure = IsViewFailure (views.Survey surveys.Rows) file line.study.now failure
+IsFailure file (Worth line) failure =
+    IsViewFailure (views.Survey (surveys.Worth line.config)) file line.explore.study.now failure
+IsFailure file (Choices line) failure = IsViewFailure (views.Choices choices.Table) file line.study.now failure
+IsFailure file (Prices line) failure = IsViewFailure (views.Survey surveys.Prices) file line.study.now failure
+IsFailure file (Weights line) failure = IsViewFailure (views.Survey surveys.Weights) file line.study.now failure
 IsFailure file (Compare line) failure =
-    IsSurveyFailure (views.Compare line.builds.old line.builds.new) file line.explore.study.now failure
+    IsViewFailure (views.Survey (surveys.Compare line.builds.old line.builds.new)) file line.explore.study.now failure
 IsFailure file (Functions line) failure = IsFunctionsFailure file line failure
-IsFailure file (Page line) failure = IsPageFailure line.choices file line.explore failure
+IsFailure file (Page line) failure = IsViewFailure (page_view line) file line.explore.study.now failure
 IsFailure file (Find line) failure = IsFindFailure file line failure
 IsFailure file (Explain line) failure = IsExplainFailure (option_map string_bytes line.refusal) failure
 

@@ -3,8 +3,8 @@ use Rattle.std.specs.Prelude.{ℕ}
 use Rattle.tomex_sweep.specs.declared.outcome.SweepError.TheVariants as sweeps
 use Rattle.tomex_report.specs.declared.answer_error.AnswerError.{AnswerError}
 use Rattle.tomex_report.specs.declared.answer_error.AnswerError.TheVariants as answers
-use Rattle.tomex_report.specs.declared.survey_error.SurveyError.{SurveyError}
-use Rattle.tomex_report.specs.declared.survey_error.SurveyError.TheVariants as surveys
+use Rattle.tomex_views.specs.declared.view_error.ViewError.{ViewError}
+use Rattle.tomex_views.specs.declared.view_error.ViewError.TheVariants as views
 use Rattle.tomex_animate.specs.declared.animation_error.AnimationError.{AnimationError}
 use Rattle.tomex_animate.specs.declared.animation_error.AnimationError.TheVariants as animations
 use Rattle.tomex_find.specs.declared.finding.FindError.{FindError}
@@ -53,13 +53,13 @@ failure_of_answer (answers.Study error) = Study error
 failure_of_answer (answers.Sweep sweeps.Memory) = Memory
 failure_of_answer (answers.Sweep sweeps.Worker) = Worker
 
--- the failure that a refused survey becomes
-abbrev pub failure_of_survey : SurveyError → Failure
-failure_of_survey (surveys.Study error) = Study error
-failure_of_survey surveys.NoSuchRow = NoSuchRow
-failure_of_survey surveys.NoSuchProgram = NoSuchProgram
-failure_of_survey surveys.TooLarge = TableTooLarge
-failure_of_survey surveys.Memory = Memory
+-- the failure that a refused view becomes
+abbrev pub failure_of_view : ViewError → Failure
+failure_of_view (views.Study error) = Study error
+failure_of_view views.NoSuchRow = NoSuchRow
+failure_of_view views.NoSuchProgram = NoSuchProgram
+failure_of_view views.TooLarge = TableTooLarge
+failure_of_view views.Memory = Memory
 
 -- the failure that a refused picture becomes
 abbrev pub failure_of_picture : PictureError → Failure

@@ -7,49 +7,43 @@ ghost use Rattle.tomex_command.specs.Commands.{IsDone, IsFailure, IsCarriedOut, 
 
 pub mod all;
 pub mod animate;
-pub mod choices;
 pub mod chosen;
 pub mod explain;
 pub mod explore;
 pub mod find;
 pub mod functions;
-pub mod page;
 pub mod path;
 pub mod pipeline;
-pub mod plot;
 pub mod reading;
 pub mod run;
 pub mod stalls;
 pub mod study;
-pub mod survey;
 pub mod tables;
 pub mod times;
+pub mod view;
 
 use crate::failure::Failure;
 use crate::heaps::Heaps;
 use crate::reporting::{report_failure, report_line_fault};
 use all::text_of_all;
 use animate::text_of_animate;
-use choices::text_of_choices;
 use explain::text_of_explain;
-use explore::{table_view, text_of_front};
+use explore::text_of_explore;
 use find::text_of_find;
 use functions::text_of_functions;
-use page::text_of_page;
 use path::text_of_path;
 use pipeline::text_of_pipeline;
-use plot::text_of_plot;
 use run::text_of_run;
 use stalls::text_of_stalls;
 use std::alloc::{Allocator, Global};
 use std::sync::Wait;
 use std::thread::Threads;
-use survey::text_of_survey;
 use tables::text_of_tables;
 use times::text_of_times;
 use tomex_command_line::{Line, read_line};
-use tomex_report::{ChoicesView, FrontView, SurveyView};
 use tomex_streams::{Files, Meter, Sink, write_all_of};
+use tomex_views::{ChoicesView, StudyView, SurveyView};
+use view::{page_view, plot_view, table_view, text_of_view};
 
 /// The text that a line asks for.
 fn text_of<
@@ -77,58 +71,44 @@ fn text_of<
         Line::Tables(line) => text_of_tables(alloc, heap, line, files),
         Line::Animate(line) => text_of_animate(alloc, heap, line, files),
         Line::All(line) => text_of_all(rt, alloc, heap, line, files, meter),
-        Line::Explore(line) => text_of_front(
-            rt,
-            alloc,
-            heap,
-            line,
-            files,
-            meter,
-            FrontView::Report,
-        ),
+        Line::Explore(line) => text_of_explore(rt, alloc, heap, line, files, meter),
         Line::Front(line) => {
-            let view = table_view(line.hull);
-            text_of_front(rt, alloc, heap, line.explore, files, meter, view)
+            let view = StudyView::Survey(table_view(line.hull));
+            text_of_view(rt, alloc, heap, line.explore, files, meter, view)
         }
-        Line::Plot(line) => text_of_plot(rt, alloc, heap, line, files, meter),
-        Line::Rows(line) => text_of_survey(rt, alloc, heap, line, files, meter, SurveyView::Rows),
+        Line::Plot(line) => {
+            let view = StudyView::Survey(plot_view(line.all));
+            text_of_view(rt, alloc, heap, line.explore, files, meter, view)
+        }
+        Line::Rows(line) => {
+            let view = StudyView::Survey(SurveyView::Rows);
+            text_of_view(rt, alloc, heap, line, files, meter, view)
+        }
         Line::Worth(line) => {
-            let view = SurveyView::Worth(line.config as usize);
-            text_of_survey(rt, alloc, heap, line.explore, files, meter, view)
+            let view = StudyView::Survey(SurveyView::Worth(line.config as usize));
+            text_of_view(rt, alloc, heap, line.explore, files, meter, view)
         }
-        Line::Choices(line) => text_of_choices(
-            rt,
-            alloc,
-            heap,
-            line,
-            files,
-            meter,
-            ChoicesView::Table,
-        ),
-        Line::Prices(line) => text_of_survey(
-            rt,
-            alloc,
-            heap,
-            line,
-            files,
-            meter,
-            SurveyView::Prices,
-        ),
-        Line::Weights(line) => text_of_survey(
-            rt,
-            alloc,
-            heap,
-            line,
-            files,
-            meter,
-            SurveyView::Weights,
-        ),
+        Line::Choices(line) => {
+            let view = StudyView::Choices(ChoicesView::Table);
+            text_of_view(rt, alloc, heap, line, files, meter, view)
+        }
+        Line::Prices(line) => {
+            let view = StudyView::Survey(SurveyView::Prices);
+            text_of_view(rt, alloc, heap, line, files, meter, view)
+        }
+        Line::Weights(line) => {
+            let view = StudyView::Survey(SurveyView::Weights);
+            text_of_view(rt, alloc, heap, line, files, meter, view)
+        }
         Line::Compare(line) => {
-            let view = SurveyView::Compare(line.builds.old, line.builds.new);
-            text_of_survey(rt, alloc, heap, line.explore, files, meter, view)
+            let view = StudyView::Survey(SurveyView::Compare(line.builds.old, line.builds.new));
+            text_of_view(rt, alloc, heap, line.explore, files, meter, view)
         }
         Line::Functions(line) => text_of_functions(alloc, heap, line, files),
-        Line::Page(line) => text_of_page(rt, alloc, heap, line, files, meter),
+        Line::Page(line) => {
+            let view = page_view(line);
+            text_of_view(rt, alloc, heap, line.explore, files, meter, view)
+        }
         Line::Find(line) => text_of_find(alloc, heap, line, files),
         Line::Explain(line) => text_of_explain(alloc, heap, &line),
     }

@@ -3,7 +3,7 @@ ghost use Rattle.std.specs.Prelude.{◌≡◌};
 ghost use Rattle.tomex_command.specs.declared.failure.Failure.TheVariants as failures;
 ghost use Rattle.tomex_command.specs.Statuses.{failure_of_animation, failure_of_answer, failure_of_explanation};
 ghost use Rattle.tomex_command.specs.Statuses.{failure_of_excerpt, failure_of_functions, failure_of_picture};
-ghost use Rattle.tomex_command.specs.Statuses.{failure_of_search, failure_of_survey};
+ghost use Rattle.tomex_command.specs.Statuses.{failure_of_search, failure_of_view};
 ghost use Rattle.tomex_command.specs.Statuses.{status_of_failure};
 
 use crate::run::RunRefusal;
@@ -12,9 +12,10 @@ use tomex_animate::AnimationError;
 use tomex_find::FindError;
 use tomex_functions::FunctionsError;
 use tomex_refusals::ExplainError;
-use tomex_report::{AnswerError, StudyError, SurveyError};
+use tomex_report::{AnswerError, StudyError};
 use tomex_run_views::{ExcerptError, PictureError};
 use tomex_sweep::SweepError;
+use tomex_views::ViewError;
 
 /// Why a command was not done. Reported after `tomex: ` on the standard error.
 #[derive(Debug, Drop)]
@@ -117,16 +118,16 @@ impl From<AnswerError> for Failure {
     }
 }
 
-impl From<SurveyError> for Failure {
-    ghost from_gives = { λ error failure. failure ≡ failure_of_survey error };
+impl From<ViewError> for Failure {
+    ghost from_gives = { λ error failure. failure ≡ failure_of_view error };
 
-    fn from(error: SurveyError) -> Failure {
+    fn from(error: ViewError) -> Failure {
         match error {
-            SurveyError::Study(error) => Failure::Study(error),
-            SurveyError::NoSuchRow => Failure::NoSuchRow,
-            SurveyError::NoSuchProgram => Failure::NoSuchProgram,
-            SurveyError::TooLarge => Failure::TableTooLarge,
-            SurveyError::Memory => Failure::Memory,
+            ViewError::Study(error) => Failure::Study(error),
+            ViewError::NoSuchRow => Failure::NoSuchRow,
+            ViewError::NoSuchProgram => Failure::NoSuchProgram,
+            ViewError::TooLarge => Failure::TableTooLarge,
+            ViewError::Memory => Failure::Memory,
         }
     }
 }

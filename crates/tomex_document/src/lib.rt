@@ -11,4 +11,4 @@ mod study;
 pub use document::{Entry, Outline, document_of, documents_have_a_grid};
 pub use error::StudyError;
 pub use names::file_names;
-pub use study::read_study;
+pub use study::{read_study, study_in};

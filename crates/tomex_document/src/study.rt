@@ -159,3 +159,20 @@ pub fn read_study<A: Allocator + Clone>(
     let outline = document_of(alloc.clone()?, heap, study)?;
     study_from(alloc, heap, &outline, files)
 }
+
+/// [`read_study`] for a caller that keeps its allocator.
+pub fn study_in<A: Allocator + Clone>(
+    alloc: &A,
+    heap: Global,
+    study: &[u8],
+    files: &[Vec<u8, A>],
+) -> Result<Study<A>, StudyError>
+    ensures ok { IfOk result (λ s. IsStudyOf study.now (map (λ f. f.items) files.now) s) }
+    ensures err { IfErr result
+        (λ error. IsStudyRefusal study.now (map (λ f. f.items) files.now) error) }
+{
+    let Ok(own) = alloc.clone() else {
+        return Err(StudyError::Memory);
+    };
+    read_study(own, heap, study, files)
+}

@@ -1,4 +1,1 @@
-pub mod Placed
-pub mod Cycles
 pub mod Machines
-mod Surveyed

@@ -1,3 +1,1 @@
 pub mod Answer
-pub mod Chosen
-pub mod Surveyed

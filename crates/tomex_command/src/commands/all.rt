@@ -1,7 +1,6 @@
 //! The command `all`.
 ghost use Rattle.std.specs.Prelude.{IfOk, IfErr};
-ghost use Rattle.tomex_command.specs.FrontLines.{IsFrontOf, IsAllFailure};
-ghost use Rattle.tomex_report.specs.declared.front_view.FrontView.TheVariants.{Report};
+ghost use Rattle.tomex_command.specs.FrontLines.{IsAllFailure, IsReportOf};
 
 use super::study::sources_in;
 use crate::failure::Failure;
@@ -26,8 +25,7 @@ pub fn text_of_all<
     files: &F,
     meter: &M,
 ) -> Result<Vec<u8, A>, Failure>
-    ensures text { IfOk result
-        (λ text. IsFrontOf Report (F.file files.now) line.entry.study.now text.items) }
+    ensures text { IfOk result (λ text. IsReportOf (F.file files.now) line.entry.study.now text.items) }
     ensures failure { IfErr result
         (λ failure. IsAllFailure (F.file files.now) line.entry.study.now failure) }
 {

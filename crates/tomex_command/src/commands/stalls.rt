@@ -11,7 +11,7 @@ use crate::failure::Failure;
 use std::alloc::{Allocator, Global};
 use tomex_command_line::StallsLine;
 use tomex_functions::{stalls_by_function, stalls_by_pc_and_function};
-use tomex_report::{stalls_by_pc, stalls_report};
+use tomex_run_views::{stalls_by_pc, stalls_report};
 use tomex_streams::Files;
 
 /// The report of a run: by part, by place in the program, by function, or by place with its function.
