@@ -20,7 +20,8 @@ pub fn steps_repeat_themselves()
 
 /// After histories that look alike, blocks of the same steps leave histories that look alike. The first cycles in which
 /// the next step may issue, and the totals, are as far after the first cycles in which the blocks might issue. As many
-/// stalls of each part are added, and a part that was taken no more by the first block is taken no more by the second.
+/// stalls of each part are added. If no more of a part is taken up to the end of one block than before the other, the
+/// other takes no more of it.
 pub fn blocks_repeat_themselves()
     ensures { BlocksRepeat }
 {}
