@@ -6,7 +6,7 @@ use Rattle.tomex_timing.specs.Ahead.{one}
 use Rattle.tomex_config.specs.declared.part.Part.{Part}
 use Rattle.tomex_timing.specs.declared.times.Done.{Done}
 use Rattle.tomex_timing.specs.History.{is_memory}
-use Rattle.tomex_timing.specs.Needs.{peak, stalls}
+use Rattle.tomex_timing.specs.Needs.{peak}
 use Rattle.tomex_timing.specs.Search.{times_of}
 use Rattle.tomex_timing.proofs.Search.{times_are}
 use Rattle.tomex_alike.specs.Laws.{next, after}
@@ -25,16 +25,11 @@ steps_repeat config w g h x y a b good in_g in_h like same p q = record {
   waits = waits_alike config w g h good in_g in_h like x y same a b p q;
 }
 
--- more steps take no less and wait no less
-peak_rises : (config : Configuration) (part : Part) (h : List Done) (steps : List Step)
+-- more steps take no less
+peak_no_less : (config : Configuration) (part : Part) (h : List Done) (steps : List Step)
     → peak part h ≤ peak part (after config h steps)
-peak_rises config part h [] = omega arith
-peak_rises config part h (s ∷ steps) = omega (arith, peak_rises config part (next config h s) steps)
-
-stalls_rise : (config : Configuration) (part : Part) (h : List Done) (steps : List Step)
-    → stalls config part h ≤ stalls config part (after config h steps)
-stalls_rise config part h [] = omega arith
-stalls_rise config part h (s ∷ steps) = omega (arith, stalls_rise config part (next config h s) steps)
+peak_no_less config part h [] = omega arith
+peak_no_less config part h (s ∷ steps) = omega (arith, peak_no_less config part (next config h s) steps)
 
 pub blocks_repeat : BlocksRepeat
 blocks_repeat config w g h [] [] good in_g in_h like same = record {
@@ -59,7 +54,7 @@ blocks_repeat config w g h (x ∷ xs) (y ∷ ys) good in_g in_h like same =
       total = far_far _ _ _ _ _ _ one_step.first rest.total;
       stalls = λ part. omega (arith, rest.stalls part, one_step.waits part);
       peak = λ part l.
-          let up = peak_rises config part (next config g x) xs in
+          let up = peak_no_less config part (next config g x) xs in
           let same_take = one_step.taken part in
           let e : peak part (next config h y) ≡ peak part h = omega (arith, up, same_take) in
           rest.peak part (omega (arith, e)) ∙ e;

@@ -24,7 +24,7 @@ use Rattle.tomex_alike.proofs.Issue.{free_alike, slot_low}
 use Rattle.tomex_alike.proofs.Shift.{count_far, eq_far, le_far, later_far, rest_far}
 use Rattle.tomex_alike.proofs.Start.{address_far, address_is, times_alike}
 
--- the slots of issues that are as far, with as many beside them
+-- if two issues are as far, so are the next slots, whether or not these are in the same cycle
 slot_case : (n m i j : ℕ) → IsAsFar n m i j → (b : Bool)
     → IsAsFar n m (cond b i (i + 1)) (cond b j (j + 1))
 slot_case n m i j far true = far
@@ -194,22 +194,22 @@ module _ (config : Configuration) (w : ℕ) (g h : List Done) (good : IsWithinLi
         (rw (same.dest, eq_far _ _ a.end b.end _ _ far.end (from_far t)) refl)
         (shifted (results_in g) (results_in h) like.results _ _ (omega (arith, first_far.first)) (from_far t))
 
-    -- the first access rises
-    address_rises : last_address g ≤ last_address (done x a ∷ g)
-    address_rises = elim (cases_Bool (is_memory x)) [
+    -- the next access starts no earlier
+    address_no_earlier : last_address g ≤ last_address (done x a ∷ g)
+    address_no_earlier = elim (cases_Bool (is_memory x)) [
       | inl e ↦ let k = address_is g x a.issue a.address e p.address in rw e (omega (arith, k))
       | inr e ↦ rw e (omega arith)
     ]
 
-    address_rises' : last_address h ≤ last_address (done y b ∷ h)
-    address_rises' = elim (cases_Bool (is_memory y)) [
+    address_no_earlier' : last_address h ≤ last_address (done y b ∷ h)
+    address_no_earlier' = elim (cases_Bool (is_memory y)) [
       | inl e ↦ let k = address_is h y b.issue b.address e q.address in rw e (omega (arith, k))
       | inr e ↦ rw e (omega arith)
     ]
 
     access_far : IsAsFar (first_access config g) (first_access config h) (first_access config (done x a ∷ g))
         (first_access config (done y b ∷ h))
-    access_far = access_parts _ _ _ _ _ _ _ _ first_far like.address address_more address_rises address_rises'
+    access_far = access_parts _ _ _ _ _ _ _ _ first_far like.address address_more address_no_earlier address_no_earlier'
       where
         access_parts : (n m s t u v i j : ℕ) → IsAsFar n m s t → u - n ≡ v - m → i - n ≡ j - m → u ≤ i → v ≤ j
             → IsAsFar (max n u + 2) (max m v + 2) (max s i + 2) (max t j + 2)
@@ -287,7 +287,7 @@ module _ (config : Configuration) (w : ℕ) (g h : List Done) (good : IsWithinLi
     pub looks_again : LooksLike config (w + one (is_memory x)) (done x a ∷ g) (done y b ∷ h)
     looks_again = record {
       issued = issued_again;
-      width = width_again;
+      width = omega (arith, width_again);
       end = end_again;
       address = rest_far _ _ _ _ _ _ address_more first_far;
       ends = λ r. rest_far _ _ _ _ _ _ (ends_more r) first_far;

@@ -1,4 +1,4 @@
--- Steps that are the same take as much of each part, after histories that look alike, and wait for it as long.
+-- After histories that look alike, steps that are the same take as much of each part and wait for it as long.
 use Rattle.std.proofs.Common.{ℕ, zero, suc, ◌+◌, ◌-◌, ◌<◌, ◌≡◌, ◌∙◌, Bool, true, false, arith, refl, sym, ap, inl, inr}
 use Rattle.std.proofs.Common.{List, nat_lt, ◌&&◌, max, is_some, count_by, cond}
 use Rattle.std.specs.List.{range_with_len}
@@ -28,7 +28,7 @@ use Rattle.tomex_alike.proofs.Next.{far, issued_far, shifted}
 use Rattle.tomex_alike.proofs.Shift.{lt_shift}
 use Rattle.tomex_alike.proofs.Start.{address_far, clear_far, ready_far, j_far, k_far}
 
--- a test that passes as another does so many cycles later counts as many
+-- two tests that pass in the same places of two ranges count as many
 range_far : (p q : ℕ → Bool) (n a b : ℕ) → ((t : ℕ) → p (a + t) ≡ q (b + t))
     → count_by p (range_with_len a n) ≡ count_by q (range_with_len b n)
 range_far p q zero a b same = refl

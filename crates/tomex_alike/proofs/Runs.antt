@@ -32,7 +32,7 @@ use Rattle.tomex_alike.proofs.Totals.{total_far}
 any : Step
 any = addi 0 0 0 0 0
 
--- times that are as far are the same, so much later
+-- what is as far is the same, as much later as the cycles from which it is seen
 cycle_later : (n m a b : ℕ) → n ≤ m → IsAsFar n m a b → b ≡ a + (m - n)
 cycle_later n m a b l f = omega (arith, f.first, f.second, f.far)
 
@@ -65,9 +65,9 @@ window_more w [] x = refl
 window_more w (y ∷ xs) x = window_more (w + one (is_memory y)) xs x
 
 -- the next step may issue no earlier than the one before it might
-first_rises : (config : Configuration) (h : List Done) (s : Step) → IsWithinLimits config → AreTimed config h
+first_no_earlier : (config : Configuration) (h : List Done) (s : Step) → IsWithinLimits config → AreTimed config h
     → first_issue config h ≤ first_issue config (next config h s)
-first_rises config h s good timed =
+first_no_earlier config h s good timed =
     issue_first config h s (times_of config h s) good timed (times_are config h s good timed)
 
 module _ (config : Configuration) (steps : List Step) (good : IsWithinLimits config) where
@@ -102,20 +102,20 @@ module _ (config : Configuration) (steps : List Step) (good : IsWithinLimits con
       (rw count at here)
 
   -- later steps issue no earlier, take no less and wait no less
-  record Rises (g h : List Done) : Type 0 where
+  record IsNoLess (g h : List Done) : Type 0 where
     first : first_issue config g ≤ first_issue config h
     taken : (part : Part) → peak part g ≤ peak part h
     stalled : (part : Part) → stalls config part g ≤ stalls config part h
 
-  rises : (i n : ℕ) → i + n ≤ length steps
-      → Rises (history_to config steps i) (history_to config steps (i + n))
-  rises i zero l =
+  no_less_after : (i n : ℕ) → i + n ≤ length steps
+      → IsNoLess (history_to config steps i) (history_to config steps (i + n))
+  no_less_after i zero l =
       let e : i + 0 ≡ i = omega arith in
       rw e (record { first = omega arith; taken = λ part. omega arith; stalled = λ part. omega arith })
-  rises i (suc n) l =
+  no_less_after i (suc n) l =
       let e : i + suc n ≡ (i + n) + 1 = omega arith in
-      let before = rises i n (omega arith) in
-      let up = first_rises config (history_to config steps (i + n)) (slice_index_or steps (i + n) any) good
+      let before = no_less_after i n (omega arith) in
+      let up = first_no_earlier config (history_to config steps (i + n)) (slice_index_or steps (i + n) any) good
       (timed_to (i + n)) in
       rw (e, history_next (i + n) any (omega arith)) (record {
         first = omega (arith, before.first, up);
@@ -123,10 +123,10 @@ module _ (config : Configuration) (steps : List Step) (good : IsWithinLimits con
         stalled = λ part. omega (arith, before.stalled part);
       })
 
-  risen : (a b : ℕ) → a ≤ b → b ≤ length steps → Rises (history_to config steps a) (history_to config steps b)
-  risen a b l k =
+  no_less : (a b : ℕ) → a ≤ b → b ≤ length steps → IsNoLess (history_to config steps a) (history_to config steps b)
+  no_less a b l k =
       let e : a + (b - a) ≡ b = omega arith in
-      rw e at (rises a (b - a) (omega arith))
+      rw e at (no_less_after a (b - a) (omega arith))
 
   module _ (w p i n : ℕ) (back : ComesBack config w steps p i n) where
     -- the first k steps have been repeated
@@ -196,9 +196,9 @@ module _ (config : Configuration) (steps : List Step) (good : IsWithinLimits con
     apart =
         let a = back.earlier in
         let b = back.there in
-        (risen p i (omega (arith, a)) (omega (arith, b))).first
+        (no_less p i (omega (arith, a)) (omega (arith, b))).first
 
-    -- each step comes so much later
+    -- each step has the times of its like, as much later
     time_repeated : (k : ℕ) (z : Times) → k < n
         → slice_index_or (times_in config steps) (i + k) z
         ≡ later (first_issue_at config steps i - first_issue_at config steps p)
@@ -228,12 +228,12 @@ module _ (config : Configuration) (steps : List Step) (good : IsWithinLimits con
           total = end_later _ _ _ _ apart so.total;
         }
 
-    -- what a step takes and waits for its like has taken and waited for before it
-    before_it : (k : ℕ) → k < n → Rises (history_to config steps (p + k + 1)) (history_to config steps (i + k))
+    -- what a step takes and waits for, its like has taken and waited for before it
+    before_it : (k : ℕ) → k < n → IsNoLess (history_to config steps (p + k + 1)) (history_to config steps (i + k))
     before_it k l =
         let a = back.earlier in
         let b = back.there in
-        risen (p + k + 1) (i + k) (omega (arith, a)) (omega (arith, b))
+        no_less (p + k + 1) (i + k) (omega (arith, a)) (omega (arith, b))
 
     taken_to : (part : Part) (k : ℕ) → k ≤ n
         → peak part (history_to config steps (i + k)) ≡ peak part (history_to config steps i)

@@ -1,4 +1,4 @@
--- Tests that pass so many cycles later have their least numbers so many cycles later.
+-- Cycles that are as far after two given ones: the first that pass two tests, and what follows for others.
 use Rattle.std.proofs.Common.{ℕ, ◌+◌, ◌-◌, ◌<◌, ◌≤◌, ◌≡◌, ◌∙◌, ◌==◌, Bool, true, false, arith, refl, sym, inl, inr}
 use Rattle.std.proofs.Common.{nat_lt, nat_le, List, ◌∷◌, count_by}
 use Rattle.std.proofs.lemmas.Bool.{cases_lt, cases_eq, cases_order, both_ways, lt-ltb, le-ltb, lt-leb, le-leb, eq-eqb}
@@ -8,7 +8,7 @@ use Rattle.tomex_timing.specs.Ahead.{one}
 use Rattle.tomex_timing.specs.Recurrence.{IsLeast}
 use Rattle.tomex_alike.specs.Alike.{IsAsFar}
 
--- what passes is no earlier than where all fail
+-- what passes is no earlier than those that fail
 pub at_or_after : (p : ℕ → Bool) (n a : ℕ) → ((t : ℕ) → t < n → p t ≡ false) → p a ≡ true → n ≤ a
 at_or_after p n a none here = elim (cases_lt a n) [
   | inl l ↦ absurd (both_ways _ (none a l) here)
@@ -72,7 +72,7 @@ le_far n m x y s t e f = elim (cases_lt x s) [
   | inr l ↦ rw (le-leb s x l, le-leb t y (omega (arith, e.first, e.second, e.far, f.first, f.second, f.far))) refl
 ]
 
--- and so many cycles later they are too
+-- and they are as far t cycles later
 pub later_far : (n m x y t : ℕ) → IsAsFar n m x y → IsAsFar n m (x + t) (y + t)
 later_far n m x y t e = record {
   first = omega (arith, e.first);

@@ -1,9 +1,9 @@
 -- When two histories look alike to the next step: it sees the same of both, relative to the first cycle in which it may
 -- issue. What is over by then counts as nothing: `a - b` is 0 if b is greater.
 --
--- FastSim compares the states of its pipeline in this way, and does not simulate again what follows a state that it has
--- met before: E. Schnarr and J. Larus, "Fast Out-Of-Order Processor Simulation Using Memoization", ASPLOS 1998. Here a
--- state is what the recurrence of tomex_timing reads of a history.
+-- The idea is FastSim's, which remembers the states of its pipeline, and what followed each of them: E. Schnarr and
+-- J. Larus, "Fast Out-Of-Order Processor Simulation Using Memoization", ASPLOS 1998. Here a state is what the
+-- recurrence of tomex_timing reads of a history.
 use Rattle.std.specs.Prelude.{ℕ, zero, suc, ◌+◌, ◌-◌, ◌<◌, ◌≤◌, ◌≡◌, ◌==◌, Bool, false, ◌&&◌, if◌then◌else◌}
 use Rattle.std.specs.Prelude.{List, [], ◌∷◌, Option, Some, None, count_by, is_some, max}
 use Rattle.tomex_rvdec.specs.declared.pool.PoolId.{PoolId}
@@ -52,27 +52,27 @@ first_access config h = max (first_issue config h) (last_address h) + 2
 
 -- What the next step sees, relative to the first cycle in which it may issue.
 
--- the steps that have issued in this cycle
+-- the steps that have issued in it
 abbrev pub issued_now : Configuration → List Done → ℕ
 issued_now config h = issued_in h (first_issue config h)
 
--- the cycles that it waits for the width
+-- how long the next step waits for the width
 abbrev pub width_wait : Configuration → List Done → ℕ
 width_wait config h = first_issue config h - first_after_branches h
 
--- the cycles from this one on in which something is under way
+-- the cycles from it on up to the greatest end
 abbrev pub ahead : Configuration → List Done → ℕ
 ahead config h = greatest_end h + 1 - first_issue config h
 
--- the last address
+-- how long after it the last address is computed
 abbrev pub address_ahead : Configuration → List Done → ℕ
 address_ahead config h = last_address h - first_issue config h
 
--- the end of a register's producer
+-- how long after it the producer of a register ends
 abbrev pub end_ahead : Configuration → List Done → ℕ → ℕ
 end_ahead config h r = writer_end h r - first_issue config h
 
--- a station is free, t cycles later
+-- a station is free t cycles later
 abbrev pub is_free_ahead : Configuration → PoolId → List Done → ℕ → ℕ → Bool
 is_free_ahead config pool h t k = is_free pool h (first_issue config h + t) k
 

@@ -12,7 +12,23 @@ use Rattle.tomex_timing.specs.Issue.{first_issue}
 use Rattle.tomex_timing.specs.Needs.{peak, stalls, taken_by, waits_for, waits_of}
 use Rattle.tomex_timing.specs.Recurrence.{AreTimed, IsTimed}
 use Rattle.tomex_timing.specs.Search.{history, times_in, times_of}
-use Rattle.tomex_alike.specs.Alike.{AreAsFar, IsAsFar, IsSameStep, LooksLike}
+use Rattle.tomex_alike.specs.Alike.{AreAsFar, IsAsFar, IsSameStep, LooksLike, lateness}
+
+-- To look alike is an equivalence.
+
+-- a history looks like itself, if no later access can meet one that isn't compared
+abbrev pub LooksLikeItself : Type 0
+LooksLikeItself = (config : Configuration) (w : ℕ) (g : List Done) → ((i : ℕ) → w ≤ i → lateness config g i ≡ 0)
+    → LooksLike config w g g
+
+-- if it looks like another, that one looks like it
+abbrev pub LooksLikeBothWays : Type 0
+LooksLikeBothWays = (config : Configuration) (w : ℕ) (g h : List Done) → LooksLike config w g h → LooksLike config w h g
+
+-- and it looks like each that the other one looks like
+abbrev pub LooksLikeFurther : Type 0
+LooksLikeFurther = (config : Configuration) (w : ℕ) (f g h : List Done) → LooksLike config w f g
+    → LooksLike config w g h → LooksLike config w f h
 
 -- One step.
 
