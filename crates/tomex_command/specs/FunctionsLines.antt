@@ -4,7 +4,7 @@ use Rattle.tomex_config.specs.Configuration.{Configuration}
 use Rattle.tomex_study.specs.Program.{Workload}
 use Rattle.tomex_study.specs.Study.{DesignSpace}
 use Rattle.tomex_symbols.specs.Symbols.{symbols_of}
-use Rattle.tomex_function_changes.specs.Changes.{Build, IsFunctionChanges, build_of}
+use Rattle.tomex_functions.specs.Changes.{Build, IsFunctionChanges, build_of}
 use Rattle.tomex_command.specs.declared.failure.Failure.{Failure}
 use Rattle.tomex_command.specs.declared.failure.Failure.TheVariants.{NoSuchRow, NoSuchProgram, NoSymbols, Memory}
 use Rattle.tomex_command_line.specs.declared.line.functions.FunctionsLine.{FunctionsLine}

@@ -7,8 +7,8 @@ use Rattle.tomex_views.specs.declared.view_error.ViewError.{ViewError}
 use Rattle.tomex_views.specs.declared.view_error.ViewError.TheVariants as views
 use Rattle.tomex_animate.specs.declared.animation_error.AnimationError.{AnimationError}
 use Rattle.tomex_animate.specs.declared.animation_error.AnimationError.TheVariants as animations
-use Rattle.tomex_find.specs.declared.finding.FindError.{FindError}
-use Rattle.tomex_find.specs.declared.finding.FindError.TheVariants as searches
+use Rattle.tomex_front_views.specs.declared.finding.FindError.{FindError}
+use Rattle.tomex_front_views.specs.declared.finding.FindError.TheVariants as searches
 use Rattle.tomex_functions.specs.declared.functions_error.FunctionsError.{FunctionsError}
 use Rattle.tomex_functions.specs.declared.functions_error.FunctionsError.TheVariants as functions
 use Rattle.tomex_refusals.specs.declared.explaining.ExplainError.{ExplainError}

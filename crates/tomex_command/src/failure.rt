@@ -9,7 +9,7 @@ ghost use Rattle.tomex_command.specs.Statuses.{status_of_failure};
 use crate::run::RunRefusal;
 use std::alloc::{AllocError, AllocFailed};
 use tomex_animate::AnimationError;
-use tomex_find::FindError;
+use tomex_front_views::FindError;
 use tomex_functions::FunctionsError;
 use tomex_refusals::ExplainError;
 use tomex_report::{AnswerError, StudyError};

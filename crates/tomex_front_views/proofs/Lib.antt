@@ -5,3 +5,5 @@ mod Rows
 mod Strokes
 mod Dotted
 mod Hulls
+mod FoundColumns
+mod FoundLoops

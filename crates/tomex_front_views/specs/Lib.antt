@@ -4,3 +4,4 @@ pub mod FrontTable
 pub mod Dots
 pub mod RowsPlot
 pub mod LinkedPlot
+pub mod Find

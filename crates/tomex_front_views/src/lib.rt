@@ -1,10 +1,16 @@
-//! The front of a study for people: as a table, and as one picture.
+//! The front of a study for people: as a table, and as one picture. And the configurations of a study that have some
+//! choices, as a table.
 //! Tests: tomex_cases, tomex_tests_surveys.
 #![tactic(auto)]
 
+mod choices;
+mod finding;
+mod found_table;
 mod plot;
+mod property;
 mod table;
 
+pub use finding::{FindError, find_table};
 pub use plot::front_picture;
 pub use plot::linked::{push_link_start, push_linked_picture};
 pub use plot::over_rows::rows_picture;

@@ -7,3 +7,16 @@ pub mod Listings
 pub mod Texts
 pub mod RowSums
 pub mod CallSums
+pub mod ChangesOrder
+pub mod Adding
+pub mod Names
+pub mod Rows
+pub mod Columns
+pub mod Listed
+pub mod Reports
+pub mod AddUp
+pub mod OfSteps
+pub mod CallsOf
+pub mod ByName
+pub mod Once
+mod Worked

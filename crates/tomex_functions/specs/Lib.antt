@@ -7,3 +7,8 @@ pub mod ByPlace
 pub mod WithFunctions
 pub mod Kept
 pub mod Laws
+pub mod Shares
+pub mod Changes
+pub mod WithSymbols
+pub mod ChangesKept
+pub mod ChangeLaws

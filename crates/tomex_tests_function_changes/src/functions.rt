@@ -4,7 +4,7 @@
 use std::alloc::Global;
 use std::test::Fail;
 use tomex_config::Config;
-use tomex_function_changes::{BuildRun, function_changes};
+use tomex_functions::{BuildRun, function_changes};
 use tomex_tests_fixtures::Random;
 use tomex_tests_fixtures::machines::{config_of, unit};
 

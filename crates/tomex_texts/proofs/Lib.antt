@@ -3,3 +3,5 @@ pub mod Watched
 pub mod Records
 pub mod Rows
 pub mod Loops
+mod Flagged
+mod Lines

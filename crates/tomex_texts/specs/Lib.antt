@@ -3,3 +3,4 @@ pub mod TablesText
 pub mod Ends
 pub mod RowEnds
 pub mod FrontReport
+pub mod RowsReport

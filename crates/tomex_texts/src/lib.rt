@@ -1,14 +1,18 @@
 //! The texts of reports: the ends of programs on a configuration, the columns and fields of the
-//! front report, the times report of a program, and the text of a machine's tables.
+//! front report, the times report of a program, the text of a machine's tables, and all rows of a study as CSV.
 //! Tests: tomex_tests_reports, tomex_tests_memory.
 #![tactic(auto)]
 
 mod end_texts;
 mod ends;
+mod flags;
 mod front_fields;
 mod front_header;
 mod laws;
 mod row_ends;
+mod rows_fields;
+mod rows_header;
+mod rows_text;
 mod tables;
 mod times;
 
@@ -17,5 +21,6 @@ pub use front_fields::{fill_record, push_row};
 pub use front_header::{columns, push_row_columns};
 pub use laws::limit_changes_no_end;
 pub use row_ends::RowEnds;
+pub use rows_text::rows_report;
 pub use tables::tables_text;
 pub use times::times_report;

@@ -7,7 +7,7 @@ use Rattle.tomex_document.specs.Study.{IsStudyOf, IsStudyRefusal}
 use Rattle.tomex_front_views.specs.FrontTable.{front_table_of, hull_table_of}
 use Rattle.tomex_front_views.specs.Plot.{front_picture_of}
 use Rattle.tomex_front_views.specs.RowsPlot.{rows_picture_of}
-use Rattle.tomex_rows.specs.RowsReport.{rows_text_of}
+use Rattle.tomex_texts.specs.RowsReport.{rows_text_of}
 use Rattle.tomex_worth.specs.Worth.{worth_table_of}
 use Rattle.tomex_prices.specs.PricesTable.{is_too_large, prices_table_of}
 use Rattle.tomex_prices.specs.declared.prices_error.PricesError.{PricesError}

@@ -14,8 +14,8 @@ use tomex_compare::compare_table;
 use tomex_front_views::{front_picture, front_table, hull_table, rows_picture};
 use tomex_page::{page_with_choices, study_page};
 use tomex_prices::prices_table;
-use tomex_rows::rows_report;
 use tomex_study::{Study, Surveyed};
+use tomex_texts::rows_report;
 use tomex_weights::weights_table;
 use tomex_worth::worth_table;
 

@@ -1,6 +1,6 @@
 //! What `functions` prints.
 ghost use Rattle.std.specs.Prelude.{◌≡◌, IfOk, IfErr};
-ghost use Rattle.tomex_function_changes.specs.Changes.{build_of};
+ghost use Rattle.tomex_functions.specs.Changes.{build_of};
 ghost use Rattle.tomex_command.specs.FunctionsLines.{AreReported, AreUnreported, IsFunctionsFailure, IsFunctionsOf};
 
 use super::chosen::{ChosenFile, choose_with_file};
@@ -8,7 +8,7 @@ use super::study::study_with_files;
 use crate::failure::Failure;
 use std::alloc::{Allocator, Global};
 use tomex_command_line::{FunctionsLine, OneRun};
-use tomex_function_changes::{BuildRun, function_changes};
+use tomex_functions::{BuildRun, function_changes};
 use tomex_streams::Files;
 
 /// The run of a build that a line names.

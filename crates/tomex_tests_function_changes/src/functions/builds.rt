@@ -2,7 +2,7 @@
 
 use std::alloc::{Allocator, Global};
 use std::test::Fail;
-use tomex_function_changes::BuildRun;
+use tomex_functions::BuildRun;
 use tomex_image::{Window, load};
 use tomex_study::Program;
 use tomex_tests_fixtures::programs::CALLS;

@@ -5,8 +5,7 @@ use super::by_hand;
 use std::alloc::{AllocError, Global};
 use std::test::Fail;
 use tomex_config::Config;
-use tomex_function_changes::{BuildRun, function_changes};
-use tomex_functions::FunctionsError;
+use tomex_functions::{BuildRun, function_changes, FunctionsError};
 use tomex_tests_fixtures::machines::one_unit_each;
 use tomex_tests_fixtures::{Attempt, Heap, Try, ample, refusals};
 

@@ -1,2 +1,0 @@
--- What contracts cite: choices, and the rows that have them.
-pub mod Find

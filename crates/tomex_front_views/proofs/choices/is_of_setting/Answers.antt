@@ -1,0 +1,11 @@
+-- A setting whose choice it isn't.
+use Rattle.std.proofs.Common.{◌∙◌, add-one, refl, sym}
+use Rattle.tomex_config.specs.Settings.{all_settings}
+use Rattle.tomex_front_views.proofs.FoundLoops.{any_later}
+use Rattle.tomex_front_views.proofs.choices.is_of_setting.Goals as goal
+
+pub loop-setting-preserved : goal.loop-setting-preserved
+loop-setting-preserved g c =
+    let fails = sym c.in_ok-is_choice.ensures ∙ c.if-branch.false in
+    rw add-one (sym (any_later _ all_settings c.loop-setting.setting-index _ _ c.loop-setting-test.true refl fails)
+    ∙ c.loop-setting.invariant)

@@ -1,3 +1,0 @@
--- Lemmas of this crate.
-mod Flagged
-mod Lines

@@ -1,2 +1,0 @@
--- Definitions that contracts cite: the text of all rows of a study.
-pub mod RowsReport
