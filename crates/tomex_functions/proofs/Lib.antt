@@ -10,7 +10,7 @@ pub mod CallSums
 pub mod ChangesOrder
 pub mod Adding
 pub mod Names
-pub mod Rows
+pub mod ChangesRows
 pub mod Columns
 pub mod Listed
 pub mod Reports

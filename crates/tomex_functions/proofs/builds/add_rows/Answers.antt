@@ -1,5 +1,5 @@
 -- One row more is added up.
-use Rattle.tomex_functions.proofs.Rows.{none_more, row_fits, row_more}
+use Rattle.tomex_functions.proofs.ChangesRows.{none_more, row_fits, row_more}
 use Rattle.tomex_functions.proofs.builds.add_rows.Goals as goal
 
 pub loop-row-init : goal.loop-row-init
