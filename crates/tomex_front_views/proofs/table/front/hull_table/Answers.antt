@@ -7,7 +7,7 @@ use Rattle.tomex_front_views.proofs.table.front.hull_table.Goals as goal
 pub rows_table-requires : goal.rows_table-requires
 rows_table-requires g c =
     let made = c.as_slice.ensures.value ∙ c.in_ok-rows.ensures in
-    rw (made, c.front.ensures.value) (λ κs within. hull_rows c.args.surveyed.now c.keeps_limits.ensures)
+    rw (made, c.front.ensures.value) (hull_rows c.args.surveyed.now c.keeps_limits.ensures)
 
 pub returns : goal.returns
 returns g c =
