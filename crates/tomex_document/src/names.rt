@@ -25,7 +25,7 @@ fn files_of<A: Allocator>(
 /// The names of the programs' files, in the order of the programs, or the first test of the
 /// document that the bytes of the study fail. The names are made in `alloc`; the document is read
 /// in `heap`, and again by `read_study`, whose contract is about the study's bytes.
-#[tactic(auto, unfolding(tomex_document::specs::Document::file_names_of))]
+#[tactic(auto, unfolding(crate::specs::Document::file_names_of))]
 pub fn file_names<A: Allocator + Clone>(
     alloc: A,
     heap: Global,

@@ -8,4 +8,4 @@ pub returns : goal.returns
 unfolding column_head
 returns g c =
     on_ok_weaker c.write.result (λ last.
-    (c.in_ok-push_str.ensures.bytes ▸ c.in_ok-push_name.ensures ▸ last_piece last).is) c.write.ensures.bytes
+    (c.in_ok-push_str.ensures.bytes ▸ c.in_ok-push_name_of_setting.ensures ▸ last_piece last).is) c.write.ensures.bytes
