@@ -1,1 +1,2 @@
 pub mod Machines
+mod Zips

@@ -4,11 +4,11 @@ use std::alloc::Global;
 use std::test::Fail;
 use tomex_config::{Config, Prices};
 use tomex_front_views::rows_picture;
-use tomex_texts::rows_report;
 use tomex_study::Study;
 use tomex_tests_fixtures::machines::{PLAIN, config_of, priced};
 use tomex_tests_fixtures::programs::PRODUCT_WORDS;
 use tomex_tests_random::{program_of, study_on, surveyed};
+use tomex_texts::rows_report;
 
 mod evaluated;
 mod hulls;

@@ -5,7 +5,7 @@ use super::by_hand;
 use std::alloc::{AllocError, Global};
 use std::test::Fail;
 use tomex_config::Config;
-use tomex_functions::{BuildRun, function_changes, FunctionsError};
+use tomex_functions::{BuildRun, FunctionsError, function_changes};
 use tomex_tests_fixtures::machines::one_unit_each;
 use tomex_tests_fixtures::{Attempt, Heap, Try, ample, refusals};
 

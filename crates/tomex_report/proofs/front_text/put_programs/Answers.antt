@@ -2,7 +2,7 @@
 use Rattle.std.proofs.Common.{◌∙◌, arith, refl, sym}
 use Rattle.std.proofs.lemmas.List.{append-nil, drop_all}
 use Rattle.std.proofs.lemmas.Slice.Zip.{AllZip-long}
-use Rattle.tomex_front_views.proofs.Zips.{at_both}
+use Rattle.tomex_report.proofs.Zips.{at_both}
 use Rattle.tomex_report.proofs.front_text.put_programs.Goals as goal
 
 pub offset_bounds-ends-place : goal.offset_bounds-ends-place
