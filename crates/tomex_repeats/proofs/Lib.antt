@@ -4,3 +4,4 @@ pub mod Alike
 pub mod Noted
 pub mod Made
 pub mod SameBlocks
+mod Rows

@@ -1,9 +1,12 @@
 -- The blocks so far: they stand in a row, and each is the same as the first one of its number.
 use Rattle.std.proofs.Common.{ℕ, ◌+◌, ◌-◌, ◌<◌, ◌≤◌, ◌≡◌, ◌∙◌, arith, refl, sym, inl, inr, Option, Some, None, IfSome}
-use Rattle.std.proofs.Common.{List, [], ◌∷◌, ◌++◌, All, get_or, length, set, take, ap}
+use Rattle.std.proofs.Common.{List, [], ◌∷◌, ◌++◌, All, get_or, length, map, set, take, ap}
 use Rattle.std.proofs.lemmas.List.{get_or-take, get_or_append_left, length-set}
 use Rattle.std.proofs.lemmas.List.{length_push}
-use Rattle.std.proofs.lemmas.List.Elements.{All-get_or, All-nil, All-push, All-set, All-weaker}
+use Rattle.std.proofs.lemmas.List.Elements.{All-get_or, Contains-append_left, Contains-push, All-nil, All-push, All-set, All-weaker}
+use Rattle.std.specs.List.{Contains}
+use Rattle.std.proofs.lemmas.Bool.{cases_lt}
+use Rattle.std.proofs.lemmas.List.{map_push}
 use Rattle.tomex_timing.specs.declared.recent.Facts.{Facts}
 use Rattle.tomex_repeats.specs.declared.blocks.Block.{Block}
 use Rattle.tomex_repeats.specs.Blocks.{AreBlocks, AreInARow, AreSameBlocks}
@@ -58,7 +61,7 @@ firsts_kept facts old new slots firsts e l so = record {
 numbered_kept : (facts : List Facts) (old new : List Block) (b : Block) → AreFirstsAfter b old new → (n : ℕ) (a : Block)
     → IsNumbered facts old n a → IsNumbered facts new n a
 numbered_kept facts old new b (inl e) n a so = rw e so
-numbered_kept facts old new b (inr e) n a so =
+numbered_kept facts old new b (inr (e, _)) n a so =
     let long = length_push old b in
     rw e (omega (arith, so.0), λ z. rw (get_or_append_left old (b ∷ []) z n so.0) (so.1 z))
 
@@ -74,6 +77,7 @@ pub record AreMade (facts : List Facts) (firsts blocks : List Block) (first : �
   pub within : All (λ b. (b.first < b.end) × (b.end ≤ length facts)) blocks
   pub numbered : All (λ b. IsNumbered facts firsts b.number b) blocks
   pub few : length firsts ≤ first
+  pub used : (n : ℕ) → n < length firsts → Contains (map (λ b. b.number) blocks) n
 
 pub made_none : (facts : List Facts) → AreMade facts [] [] 0
 made_none facts = record {
@@ -81,6 +85,7 @@ made_none facts = record {
   within = All-nil (λ b. (b.first < b.end) × (b.end ≤ length facts));
   numbered = All-nil (λ b. IsNumbered facts [] b.number b);
   few = omega arith;
+  used = λ n l. absurd (omega arith);
 }
 
 pub made_more : (facts : List Facts) (old new blocks : List Block) (first : ℕ) (b : Block) → AreMade facts old blocks first
@@ -93,11 +98,26 @@ made_more facts old new blocks first b so after is at some few within = record {
       (All-weaker (λ a. IsNumbered facts old a.number a) (λ a. IsNumbered facts new a.number a)
       (λ a. numbered_kept facts old new b after a.number a) blocks so.numbered) is;
   few = counted after;
+  used = λ n l. rw (map_push (λ b. b.number) blocks b) (all_used n after l);
 }
   where
+    all_used : (n : ℕ) → AreFirstsAfter b old new → n < length new
+        → Contains (map (λ b. b.number) blocks ++ (b.number ∷ [])) n
+    all_used n (inl e) l =
+        Contains-append_left (map (λ b. b.number) blocks) (b.number ∷ []) n (so.used n (rw e at l))
+    all_used n (inr (e, at_end)) l =
+        let long = length_push old b in
+        let k : n < length (old ++ (b ∷ [])) = rw e at l in
+        elim (cases_lt n (length old)) [
+          | inl m ↦ Contains-append_left (map (λ b. b.number) blocks) (b.number ∷ []) n (so.used n m)
+          | inr m ↦
+              let i : n ≡ b.number = omega arith in
+              rw i (Contains-push (map (λ b. b.number) blocks) b.number)
+        ]
+
     counted : AreFirstsAfter b old new → length new ≤ b.end
     counted (inl e) = rw e (omega (arith, so.few))
-    counted (inr e) = let long = length_push old b in rw e (omega (arith, so.few))
+    counted (inr (e, _)) = let long = length_push old b in rw e (omega (arith, so.few))
 
 -- two blocks that are the same as a third one
 same_both : (facts : List Facts) (d a b : Block) → (d.first < d.end) × (d.end ≤ length facts)
@@ -119,6 +139,7 @@ blocks_made facts masks slots firsts blocks first n known so e m = record {
   row = rw (sym e) so.row;
   numbers = λ k z l. let is = All-get_or (λ b. IsNumbered facts firsts b.number b) blocks k z l so.numbered in
       rw m is.0;
+  used = λ k l. so.used k (rw m at l);
   same = λ i x j k y l same.
       let a = get_or blocks i x in
       let b = get_or blocks k y in

@@ -1,8 +1,7 @@
 -- Blocks of one number are the same to the recurrence, after any histories of the steps before them.
 use Rattle.std.proofs.Common.{ℕ, zero, suc, ◌+◌, ◌-◌, ◌<◌, ◌≤◌, ◌≡◌, ◌∙◌, arith, refl, sym, ap, Bool, true, false}
 use Rattle.std.proofs.Common.{List, [], ◌∷◌, ◌++◌, All, drop, get_or, length, map, reverse, take}
-use Rattle.std.specs.List.{Contains, filter}
-use Rattle.std.specs.Prelude.{slice_range}
+use Rattle.std.specs.List.{filter}
 use Rattle.std.proofs.lemmas.List.{append-nil, drop_more, get_or-map, length-map, map-append, reverse-append, take-map, take_more}
 use Rattle.std.proofs.lemmas.List.Elements.{All-cons, All-contains, All-nil, filter-append}
 use Rattle.tomex_rvexec.proofs.Fields.{bytes_of_memory}
@@ -18,13 +17,10 @@ use Rattle.tomex_alike.proofs.Same.{step_from}
 use Rattle.tomex_alike.specs.Alike.{conflicts_with}
 use Rattle.tomex_alike.specs.Laws.{AreSameSteps, next}
 use Rattle.tomex_repeats.specs.declared.blocks.Block.{Block}
-use Rattle.tomex_repeats.specs.Blocks.{AreBlocks, AreInARow, AreLike, AreSame, AreSameBlocks, Blocks, conflicts_back}
+use Rattle.tomex_repeats.specs.Blocks.{AreInARow, AreLike, AreSame, AreSameBlocks, conflicts_back}
 use Rattle.tomex_repeats.specs.Blocks.{do_conflict, is_access, window_at}
+use Rattle.tomex_repeats.specs.Laws.{BlocksAreTheSame, LeadsTo}
 use Rattle.tomex_repeats.proofs.Alike.{window_more, window_none}
-
--- The steps of a history, which has the youngest first, are those before a place.
-pub record LeadsTo (steps : List Step) (p : ℕ) (h : List Done) : Type 0 where
-  pub are : map (λ d. d.step) h ≡ reverse (take p steps)
 
 -- a load or store touches bytes, and nothing else does
 is_access_is : (s : Step) → is_access (facts_of s) ≡ is_memory s
@@ -133,10 +129,7 @@ row_within from (b ∷ blocks) to row =
     (omega arith, All-cons (λ b. (b.first < b.end) × (b.end ≤ to)) b blocks (row.1, rest.0) rest.1)
 
 -- blocks of one number, after any histories that lead to them
-pub blocks_same : (config : Configuration) (steps : List Step) (facts : List Facts) (run : Blocks) (g h : List Done)
-    (a b : Block) → AreFacts steps facts → AreBlocks facts run → Contains run.blocks a → Contains run.blocks b
-    → a.number ≡ b.number → LeadsTo steps a.first g → LeadsTo steps b.first h
-    → AreSameSteps config 4 g h (slice_range steps a.first a.end) (slice_range steps b.first b.end)
+pub blocks_same : BlocksAreTheSame
 blocks_same config steps facts run g h a b are blocks in_a in_b e to_a to_b =
     let long : length facts ≡ length steps = ap length are.are ∙ length-map steps facts_of in
     let within = (row_within 0 run.blocks (length facts) blocks.row).1 in

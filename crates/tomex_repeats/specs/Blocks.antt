@@ -2,7 +2,7 @@
 -- that they touch, and conflict alike.
 use Rattle.std.specs.Prelude.{ℕ, ◌+◌, ◌-◌, ◌<◌, ◌≤◌, ◌≡◌, Bool, false, ◌&&◌, ◌||◌, List, [], ◌∷◌, None}
 use Rattle.std.specs.Prelude.{count_by, is_some, length, map, reverse, slice_index_or, slice_range, take, All}
-use Rattle.std.specs.List.{filter}
+use Rattle.std.specs.List.{Contains, filter}
 use Rattle.tomex_rvexec.specs.Steps.{shares_byte}
 use Rattle.tomex_timing.specs.declared.recent.Facts.{Facts}
 use Rattle.tomex_repeats.specs.declared.blocks.Block.{Block}
@@ -55,8 +55,10 @@ pub record Blocks : Type 0 where
   pub blocks : List Block
   pub different : ℕ
 
--- they cover a run's steps, and blocks of one number are the same
+-- They cover a run's steps, their numbers are those below the number of different ones, and blocks of one number are the
+-- same.
 pub record AreBlocks (facts : List Facts) (run : Blocks) : Type 0 where
   pub row : AreInARow 0 run.blocks (length facts)
   pub numbers : All (λ b. b.number < run.different) run.blocks
+  pub used : (n : ℕ) → n < run.different → Contains (map (λ b. b.number) run.blocks) n
   pub same : All (λ a. All (λ b. a.number ≡ b.number → AreSameBlocks facts a b) run.blocks) run.blocks

@@ -64,6 +64,6 @@ pub record AreFirsts (facts : List Facts) (masks : List ℕ) (slots : List (Opti
   pub table : IsTable slots firsts
   pub noted : All (IsNoted facts masks) firsts
 
--- the first blocks after one more block: the same, or with this one
+-- the first blocks after one more block: the same, or with this one, which has the next number
 abbrev pub AreFirstsAfter : Block → (old new : List Block) → Type 0
-AreFirstsAfter b old new = (new ≡ old) ⊎ (new ≡ old ++ (b ∷ []))
+AreFirstsAfter b old new = (new ≡ old) ⊎ ((new ≡ old ++ (b ∷ [])) × (b.number ≡ length old))
