@@ -4,4 +4,5 @@ pub mod Alike
 pub mod Noted
 pub mod Made
 pub mod SameBlocks
+pub mod ComesBack
 mod Rows

@@ -1,7 +1,7 @@
 -- Blocks of one number are the same to the recurrence, after any histories of the steps before them.
 use Rattle.std.proofs.Common.{ℕ, zero, suc, ◌+◌, ◌-◌, ◌<◌, ◌≤◌, ◌≡◌, ◌∙◌, arith, refl, sym, ap, Bool, true, false}
 use Rattle.std.proofs.Common.{List, [], ◌∷◌, ◌++◌, All, drop, get_or, length, map, reverse, take}
-use Rattle.std.specs.List.{filter}
+use Rattle.std.specs.List.{Contains, filter}
 use Rattle.std.proofs.lemmas.List.{append-nil, drop_more, get_or-map, length-map, map-append, reverse-append, take-map, take_more}
 use Rattle.std.proofs.lemmas.List.Elements.{All-cons, All-contains, All-nil, filter-append}
 use Rattle.tomex_rvexec.proofs.Fields.{bytes_of_memory}
@@ -14,16 +14,16 @@ use Rattle.tomex_timing.specs.Recent.{AreFacts, facts_of}
 use Rattle.tomex_timing.specs.declared.recent.Facts.{Facts}
 use Rattle.tomex_timing.specs.declared.times.Done.{Done}
 use Rattle.tomex_alike.proofs.Same.{step_from}
-use Rattle.tomex_alike.specs.Alike.{conflicts_with}
+use Rattle.tomex_alike.specs.Alike.{IsSameStep, conflicts_with}
 use Rattle.tomex_alike.specs.Laws.{AreSameSteps, next}
 use Rattle.tomex_repeats.specs.declared.blocks.Block.{Block}
-use Rattle.tomex_repeats.specs.Blocks.{AreInARow, AreLike, AreSame, AreSameBlocks, conflicts_back}
+use Rattle.tomex_repeats.specs.Blocks.{AreBlocks, AreInARow, AreLike, AreSame, AreSameBlocks, Blocks, conflicts_back}
 use Rattle.tomex_repeats.specs.Blocks.{do_conflict, is_access, window_at}
 use Rattle.tomex_repeats.specs.Laws.{BlocksAreTheSame, LeadsTo}
 use Rattle.tomex_repeats.proofs.Alike.{window_more, window_none}
 
 -- a load or store touches bytes, and nothing else does
-is_access_is : (s : Step) → is_access (facts_of s) ≡ is_memory s
+pub is_access_is : (s : Step) → is_access (facts_of s) ≡ is_memory s
 is_access_is s = bytes_of_memory s
 
 -- which access of a history is i accesses back
@@ -88,30 +88,40 @@ module _ (steps : List Step) (facts : List Facts) (are : AreFacts steps facts) w
 
   module _ (config : Configuration) (p q n : ℕ) (same : AreSame facts p q n) (l : p + n ≤ length steps)
       (l' : q + n ≤ length steps) where
+    -- a step of the blocks, after any histories that lead to it
+    pub step_same : (k w i j : ℕ) (g h : List Done) (z : Step) → k < n → i ≡ p + k → j ≡ q + k
+        → w ≡ window_at facts p (p + k) → LeadsTo steps i g → LeadsTo steps j h
+        → IsSameStep w g h (get_or steps i z) (get_or steps j z)
+    step_same k w i j g h z m at_i at_j at_w to_i to_j =
+        let x = get_or steps i z in
+        let y = get_or steps j z in
+        let f = facts_of z in
+        let fx : get_or facts (p + k) f ≡ facts_of x = rw (sym at_i) (facts_there i z f (omega arith)) in
+        let fy : get_or facts (q + k) f ≡ facts_of y = rw (sym at_j) (facts_there j z f (omega arith)) in
+        let like : AreLike (facts_of x) (facts_of y) = rw (fx, fy) at (same.steps k f m) in
+        let conflict = λ (a : ℕ) (b : a < w). let c : conflicts_back facts (p + k) (facts_of x) a
+        ≡ conflicts_back facts (q + k) (facts_of y) a = rw (fx, fy) at (same.conflicts k a f m (omega arith)) in
+        ap (λ t. conflicts_back facts t (facts_of x) a) at_i ∙ c
+        ∙ sym (ap (λ t. conflicts_back facts t (facts_of y) a) at_j) in
+        step_from w g h x y like.rest
+        (λ a b. conflict_back i g x a to_i ∙ conflict a b ∙ sym (conflict_back j h y a to_j))
+
     same_from : (m k w i j : ℕ) (g h : List Done) → k + m ≡ n → i ≡ p + k → j ≡ q + k → w ≡ window_at facts p (p + k)
         → LeadsTo steps i g → LeadsTo steps j h
         → AreSameSteps config w g h (take m (drop i steps)) (take m (drop j steps))
     same_from zero k w i j g h e at_i at_j at_w to_i to_j = tt
     same_from (suc m) k w i j g h e at_i at_j at_w to_i to_j =
         let x = get_or steps i any in
-        let y = get_or steps j any in
         let z = facts_of any in
         let fx : get_or facts (p + k) z ≡ facts_of x = rw (sym at_i) (facts_there i any z (omega arith)) in
-        let fy : get_or facts (q + k) z ≡ facts_of y = rw (sym at_j) (facts_there j any z (omega arith)) in
-        let like : AreLike (facts_of x) (facts_of y) = rw (fx, fy) at (same.steps k z (omega arith)) in
         let long : length facts ≡ length steps = ap length are.are ∙ length-map steps facts_of in
-        let conflict = λ (a : ℕ) (b : a < w). let c : conflicts_back facts (p + k) (facts_of x) a
-        ≡ conflicts_back facts (q + k) (facts_of y) a =
-        rw (fx, fy) at (same.conflicts k a z (omega arith) (omega arith)) in
-        ap (λ t. conflicts_back facts t (facts_of x) a) at_i ∙ c
-        ∙ sym (ap (λ t. conflicts_back facts t (facts_of y) a) at_j) in
         let wider : w + one (is_memory x) ≡ window_at facts p (p + (k + 1)) =
         rw (window_more facts p k z (omega arith), fx, is_access_is x, at_w) refl in
         rw (drop_more steps i any (omega arith), drop_more steps j any (omega arith)) (
-          step_from w g h x y like.rest (λ a b. conflict_back i g x a to_i ∙ conflict a b ∙ sym (conflict_back j h y a to_j)),
-          same_from m (k + 1) (w + one (is_memory x)) (i + 1) (j + 1) (next config g x) (next config h y) (omega arith)
-              (omega arith) (omega arith) wider (leads_on config i g any (omega arith) to_i)
-              (leads_on config j h any (omega arith) to_j),
+          step_same k w i j g h any (omega arith) at_i at_j at_w to_i to_j,
+          same_from m (k + 1) (w + one (is_memory x)) (i + 1) (j + 1) (next config g x)
+              (next config h (get_or steps j any)) (omega arith) (omega arith) (omega arith) wider
+              (leads_on config i g any (omega arith) to_i) (leads_on config j h any (omega arith) to_j),
         )
 
     pub same_steps : (g h : List Done) → LeadsTo steps p g → LeadsTo steps q h
@@ -128,9 +138,16 @@ row_within from (b ∷ blocks) to row =
     let rest = row_within b.end blocks to row.3 in
     (omega arith, All-cons (λ b. (b.first < b.end) × (b.end ≤ to)) b blocks (row.1, rest.0) rest.1)
 
--- blocks of one number, after any histories that lead to them
-pub blocks_same : BlocksAreTheSame
-blocks_same config steps facts run g h a b are blocks in_a in_b e to_a to_b =
+-- what is known of two blocks of one number
+pub record ArePair (steps : List Step) (facts : List Facts) (a b : Block) : Type 0 where
+  pub same : AreSameBlocks facts a b
+  pub first : a.first + (a.end - a.first) ≤ length steps
+  pub second : b.first + (a.end - a.first) ≤ length steps
+
+pub pair_of : (steps : List Step) (facts : List Facts) (run : Blocks) (a b : Block) → AreFacts steps facts
+    → AreBlocks facts run → Contains run.blocks a → Contains run.blocks b → a.number ≡ b.number
+    → ArePair steps facts a b
+pair_of steps facts run a b are blocks in_a in_b e =
     let long : length facts ≡ length steps = ap length are.are ∙ length-map steps facts_of in
     let within = (row_within 0 run.blocks (length facts) blocks.row).1 in
     let P : Block → Type 0 = λ b. (b.first < b.end) × (b.end ≤ length facts) in
@@ -139,5 +156,15 @@ blocks_same config steps facts run g h a b are blocks in_a in_b e to_a to_b =
     let all = All-contains (λ c. All (λ d. c.number ≡ d.number → AreSameBlocks facts c d) run.blocks) run.blocks a
     blocks.same in_a in
     let same = All-contains (λ d. a.number ≡ d.number → AreSameBlocks facts a d) run.blocks b all in_b e in
-    rw (sym same.long) (same_steps steps facts are config a.first b.first (a.end - a.first) same.same
-    (omega (arith, at_a.0, at_a.1, long)) (omega (arith, same.long, at_b.0, at_b.1, long)) g h to_a to_b)
+    record {
+      same = same;
+      first = omega (arith, at_a.0, at_a.1, long);
+      second = omega (arith, same.long, at_b.0, at_b.1, long);
+    }
+
+-- blocks of one number, after any histories that lead to them
+pub blocks_same : BlocksAreTheSame
+blocks_same config steps facts run g h a b are blocks in_a in_b e to_a to_b =
+    let pair = pair_of steps facts run a b are blocks in_a in_b e in
+    rw (sym pair.same.long) (same_steps steps facts are config a.first b.first (a.end - a.first) pair.same.same pair.first
+    pair.second g h to_a to_b)

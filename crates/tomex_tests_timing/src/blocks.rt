@@ -72,7 +72,7 @@ fn are_same(facts: &[Facts], a: &Block, b: &Block) -> bool {
     }
     for step in 0..length as usize {
         let p = a.first as usize + step;
-        let window = 4 + accesses_in(facts, a.first as usize, p);
+        let window = accesses_in(facts, a.first as usize, p).saturating_add(4);
         if !steps_are_same(facts, p, b.first as usize + step, window) {
             return false;
         }
