@@ -38,7 +38,14 @@ window_more facts first k z l =
     let here = get_or-drop first facts k z in
     let e : (first + (k + 1)) - first ≡ k + 1 = omega arith in
     let d : (first + k) - first ≡ k = omega arith in
-    rw (e, d, more, sum_by_push (λ f. cond (is_access f) 1 0) (take k (drop first facts)) (get_or (drop first facts) k z), here)
+    rw (
+      e,
+      d,
+      more,
+      sum_by_push (λ f. cond (is_access f) 1 0) (take k (drop first facts))
+          (get_or (drop first facts) k z),
+      here,
+    )
     (omega arith)
 
 pub window_none : (facts : List Facts) (first : ℕ) → window_at facts first first ≡ 4

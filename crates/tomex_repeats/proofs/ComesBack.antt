@@ -38,7 +38,8 @@ window_there : (steps : List Step) (facts : List Facts) (p k : ℕ) → AreFacts
 window_there steps facts p k are =
     let d : (p + k) - p ≡ k = omega arith in
     let e : map facts_of (take k (drop p steps)) ≡ take k (drop p facts) =
-    sym (take-map facts_of k (drop p steps)) ∙ ap (take k) (sym (drop-map facts_of p steps) ∙ ap (drop p) (sym are.are)) in
+    sym (take-map facts_of k (drop p steps))
+    ∙ ap (take k) (sym (drop-map facts_of p steps) ∙ ap (drop p) (sym are.are)) in
     window_counts 4 (take k (drop p steps)) ∙ rw (d, e) refl
 
 pub blocks_come_back : BlocksComeBack
@@ -48,8 +49,9 @@ blocks_come_back config steps facts run a b are blocks in_a in_b e earlier alike
       earlier = earlier;
       there = pair.second;
       state = alike;
-      same = λ k z l. step_same steps facts are config a.first b.first (a.end - a.first) pair.same.same pair.first pair.second
-          k (window_to 4 steps a.first k) (a.first + k) (b.first + k) (history_to config steps (a.first + k))
-          (history_to config steps (b.first + k)) z l refl refl (window_there steps facts a.first k are)
+      same = λ k z l. step_same steps facts are config a.first b.first (a.end - a.first) pair.same.same pair.first
+          pair.second k (window_to 4 steps a.first k) (a.first + k) (b.first + k)
+          (history_to config steps (a.first + k)) (history_to config steps (b.first + k)) z l refl refl
+          (window_there steps facts a.first k are)
           (leads_there config steps (a.first + k)) (leads_there config steps (b.first + k));
     }

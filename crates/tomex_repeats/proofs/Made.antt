@@ -3,7 +3,8 @@ use Rattle.std.proofs.Common.{ℕ, ◌+◌, ◌-◌, ◌<◌, ◌≤◌, ◌≡�
 use Rattle.std.proofs.Common.{List, [], ◌∷◌, ◌++◌, All, get_or, length, map, set, take, ap}
 use Rattle.std.proofs.lemmas.List.{get_or-take, get_or_append_left, length-set}
 use Rattle.std.proofs.lemmas.List.{length_push}
-use Rattle.std.proofs.lemmas.List.Elements.{All-get_or, Contains-append_left, Contains-push, All-nil, All-push, All-set, All-weaker}
+use Rattle.std.proofs.lemmas.List.Elements.{All-get_or, All-nil, All-push, All-set, All-weaker}
+use Rattle.std.proofs.lemmas.List.Elements.{Contains-append_left, Contains-push}
 use Rattle.std.specs.List.{Contains}
 use Rattle.std.proofs.lemmas.Bool.{cases_lt}
 use Rattle.std.proofs.lemmas.List.{map_push}
@@ -88,9 +89,9 @@ made_none facts = record {
   used = λ n l. absurd (omega arith);
 }
 
-pub made_more : (facts : List Facts) (old new blocks : List Block) (first : ℕ) (b : Block) → AreMade facts old blocks first
-    → AreFirstsAfter b old new → IsNumbered facts new b.number b → b.first ≡ first → b.first < b.end
-    → b.end ≤ b.first + 60 → b.end ≤ length facts → AreMade facts new (blocks ++ (b ∷ [])) b.end
+pub made_more : (facts : List Facts) (old new blocks : List Block) (first : ℕ) (b : Block)
+    → AreMade facts old blocks first → AreFirstsAfter b old new → IsNumbered facts new b.number b → b.first ≡ first
+    → b.first < b.end → b.end ≤ b.first + 60 → b.end ≤ length facts → AreMade facts new (blocks ++ (b ∷ [])) b.end
 made_more facts old new blocks first b so after is at some few within = record {
   row = row_more 0 blocks first b so.row at some few;
   within = All-push (λ b. (b.first < b.end) × (b.end ≤ length facts)) blocks b so.within (some, within);
@@ -128,12 +129,13 @@ same_both facts d a b i j k x y =
     let back = same_sym facts d.first a.first n (omega arith) (omega (arith, x.long)) x.same in
     record {
       long = sym x.long ∙ y.long;
-      same = rw (sym x.long) (same_trans facts a.first d.first b.first n (omega (arith, x.long)) (omega arith) back y.same);
+      same = rw (sym x.long)
+          (same_trans facts a.first d.first b.first n (omega (arith, x.long)) (omega arith) back y.same);
     }
 
 -- all blocks
-pub blocks_made : (facts : List Facts) (masks : List ℕ) (slots : List (Option ℕ)) (firsts blocks : List Block) (first n : ℕ)
-    → AreFirsts facts masks slots firsts → AreMade facts firsts blocks first → first ≡ length facts
+pub blocks_made : (facts : List Facts) (masks : List ℕ) (slots : List (Option ℕ)) (firsts blocks : List Block)
+    (first n : ℕ) → AreFirsts facts masks slots firsts → AreMade facts firsts blocks first → first ≡ length facts
     → n ≡ length firsts → AreBlocks facts (record { blocks = blocks; different = n })
 blocks_made facts masks slots firsts blocks first n known so e m = record {
   row = rw (sym e) so.row;

@@ -1,7 +1,8 @@
 -- The numbers whose bits say which accesses a step conflicts with.
 use Rattle.std.proofs.Common.{ℕ, zero, suc, ◌+◌, ◌-◌, ◌*◌, ◌^◌, ◌<◌, ◌≤◌, ◌≡◌, ◌∙◌, arith, refl, sym, Bool, true, false}
-use Rattle.std.proofs.Common.{List, [], ◌∷◌, get_or, length, map, reverse, take, None, Some, Option}
-use Rattle.std.proofs.lemmas.List.{length-map, length-reverse, map_more, reverse-append, take-map, length-take-le, get_or-take}
+use Rattle.std.proofs.Common.{List, [], ◌∷◌, get_or, length, map, reverse, take, None, Some, Option, is_some}
+use Rattle.std.proofs.lemmas.List.{get_or-take, length-map, length-reverse, length-take-le, map_more, reverse-append}
+use Rattle.std.proofs.lemmas.List.{take-map}
 use Rattle.std.proofs.Math.Nat.{pow-suc, pow-le-pow_right}
 use mir.Val.{bool_byte}
 use Rattle.tomex_rvexec.specs.Steps.{shares_byte}
@@ -9,7 +10,7 @@ use Rattle.tomex_rvexec.specs.declared.step.ByteRange.{ByteRange}
 use Rattle.tomex_timing.specs.Ahead.{one}
 use Rattle.tomex_timing.specs.declared.recent.Facts.{Facts}
 use Rattle.tomex_repeats.specs.declared.blocks.Block.{Block}
-use Rattle.tomex_repeats.specs.Blocks.{AreLike, AreSameBlocks, accesses_before, do_conflict, window_at}
+use Rattle.tomex_repeats.specs.Blocks.{AreLike, AreSameBlocks, accesses_before, do_conflict, is_access, window_at}
 use Rattle.tomex_repeats.specs.Masks.{IsNoted, facts_at, mask_of, number_of}
 use Rattle.tomex_repeats.proofs.Alike.{windows_same}
 
@@ -41,14 +42,15 @@ number_same (x ∷ xs) (y ∷ ys) e zero = (bits x y (number_of xs) (number_of y
 number_same (x ∷ xs) (y ∷ ys) e (suc i) = number_same xs ys (bits x y (number_of xs) (number_of ys) e).1 i
 
 -- a step without bytes conflicts with none
-shared_by_none : (b : Option ByteRange) → shares_byte b None ≡ false
-shared_by_none None = refl
-shared_by_none (Some b) = refl
+shared_by_none : (a b : Option ByteRange) → is_some b ≡ false → shares_byte a b ≡ false
+shared_by_none None None e = refl
+shared_by_none (Some a) None e = refl
+shared_by_none a (Some b) e = cc
 
-none_shared : (a f : Facts) → f.bytes ≡ None → one (do_conflict a f) ≡ 0
-none_shared a f e = rw (e, shared_by_none a.bytes) refl
+none_shared : (a f : Facts) → is_access f ≡ false → one (do_conflict a f) ≡ 0
+none_shared a f e = rw (shared_by_none a.bytes f.bytes e) refl
 
-pub mask_none : (accesses : List Facts) (f : Facts) → f.bytes ≡ None → mask_of accesses f ≡ 0
+pub mask_none : (accesses : List Facts) (f : Facts) → is_access f ≡ false → mask_of accesses f ≡ 0
 mask_none [] f e = refl
 mask_none (a ∷ accesses) f e = omega (arith, none_shared a f e, mask_none accesses f e)
 
@@ -87,7 +89,8 @@ bit_is false = (refl, omega arith)
 -- blocks whose steps are the same and have the same masks conflict alike
 pub same_noted : (facts : List Facts) (masks : List ℕ) (a b : Block) → IsNoted facts masks a → IsNoted facts masks b
     → a.end - a.first ≡ b.end - b.first
-    → ((k : ℕ) (z : Facts) → k < a.end - a.first → AreLike (get_or facts (a.first + k) z) (get_or facts (b.first + k) z))
+    → ((k : ℕ) (z : Facts) → k < a.end - a.first
+    → AreLike (get_or facts (a.first + k) z) (get_or facts (b.first + k) z))
     → ((k : ℕ) → k < a.end - a.first → get_or masks (a.first + k) 0 ≡ get_or masks (b.first + k) 0)
     → AreSameBlocks facts a b
 same_noted facts masks a b x y long like equal = record {
@@ -110,6 +113,8 @@ same_noted facts masks a b x y long like equal = record {
 }
   where
     bit_at : (f : Facts) (accesses : List Facts) (w i : ℕ) → i < w
-        → get_or (map (λ h. do_conflict h f) (take w accesses)) i false ≡ get_or (map (λ h. do_conflict h f) accesses) i false
+        → get_or (map (λ h. do_conflict h f) (take w accesses)) i false
+        ≡ get_or (map (λ h. do_conflict h f) accesses) i false
     bit_at f accesses w i n =
-        rw (sym (take-map (λ h. do_conflict h f) w accesses)) (get_or-take w (map (λ h. do_conflict h f) accesses) i false n)
+        rw (sym (take-map (λ h. do_conflict h f) w accesses))
+        (get_or-take w (map (λ h. do_conflict h f) accesses) i false n)

@@ -1,9 +1,11 @@
 -- What is noted of the steps up to a place: the places of the accesses, and the masks of a block's steps.
-use Rattle.std.proofs.Common.{ℕ, ◌+◌, ◌-◌, ◌<◌, ◌≤◌, ◌≡◌, ◌∙◌, arith, add-one, add-zero, refl, sym, ap, Bool, true, false, cond}
+use Rattle.std.proofs.Common.{ℕ, ◌+◌, ◌-◌, ◌<◌, ◌≤◌, ◌≡◌, ◌∙◌, arith, add-one, add-zero, refl, sym, ap}
+use Rattle.std.proofs.Common.{Bool, true, false, cond}
 use Rattle.std.proofs.Common.{List, [], ◌∷◌, ◌++◌, drop, get_or, inl, inr, length, reverse, take}
 use Rattle.std.specs.List.{filter}
 use Rattle.std.proofs.lemmas.Bool.{cases_lt}
-use Rattle.std.proofs.lemmas.List.{append-nil, drop-append-le, drop-map, get_or_append_left, get_or_default, take_rest, get_or_push}
+use Rattle.std.proofs.lemmas.List.{append-nil, drop-append-le, drop-map, get_or_append_left, get_or_default}
+use Rattle.std.proofs.lemmas.List.{get_or_push, take_rest}
 use Rattle.std.proofs.lemmas.List.{length-drop, length-map, length-reverse, length_push, map_push, reverse-append}
 use Rattle.std.proofs.lemmas.List.{take-append-drop, take-append-le, take_all, take_at}
 use Rattle.std.proofs.lemmas.List.Elements.{All-push, All-weaker, filter_more}
@@ -13,8 +15,8 @@ use Rattle.tomex_repeats.specs.Blocks.{accesses_before, is_access, window_at}
 use Rattle.tomex_repeats.specs.Masks.{AreMasks, ArePlaces, facts_at, mask_at, mask_of}
 use Rattle.tomex_repeats.proofs.Alike.{window_more, window_none}
 
--- The steps before a place are noted, of a block those from its first one on. Before it the masks were the old ones. The
--- accesses from number `from` on are those in the window.
+-- The steps before a place are noted, and of a block those from its first one on. The masks before it are the old
+-- ones. The accesses from number `from` on are those in the window.
 pub record AreNotedTo
     (facts : List Facts) (old : List ℕ) (from first place : ℕ) (places masks : List ℕ) : Type 0 where
   pub accesses : ArePlaces facts places place
@@ -146,7 +148,8 @@ noted_more facts old from first place places masks m f true so l n at here acces
   some = let long = length_push places place in omega arith;
   few = let long = length_push places place in omega (arith, so.few);
   window = λ z. window_push facts from first place places f z so.some l n (at z) access (so.window z);
-  are = masks_more facts masks first place m so.are so.known (λ z. rw (at z) (here z ∙ ap (λ xs. mask_of xs f) (so.window z)));
+  are = masks_more facts masks first place m so.are so.known
+      (λ z. rw (at z) (here z ∙ ap (λ xs. mask_of xs f) (so.window z)));
   known = let long = length_push masks m in omega (arith, so.known);
   kept = take-append-le first masks (m ∷ []) (omega (arith, so.known)) ∙ so.kept;
 }
@@ -160,7 +163,8 @@ noted_more facts old from first place places masks m f false so l n at here acce
   some = so.some;
   few = omega (arith, so.few);
   window = λ z. so.window z ∙ sym (window_kept facts first place f z l n (at z) access);
-  are = masks_more facts masks first place m so.are so.known (λ z. rw (at z) (here z ∙ ap (λ xs. mask_of xs f) (so.window z)));
+  are = masks_more facts masks first place m so.are so.known
+      (λ z. rw (at z) (here z ∙ ap (λ xs. mask_of xs f) (so.window z)));
   known = let long = length_push masks m in omega (arith, so.known);
   kept = take-append-le first masks (m ∷ []) (omega (arith, so.known)) ∙ so.kept;
 }

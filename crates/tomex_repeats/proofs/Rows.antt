@@ -29,8 +29,8 @@ seen w p = map (conflicts_back facts p (at p)) (range_with_len 0 w)
 windows : map (window_at facts 6) (6 ∷ 7 ∷ 8 ∷ 9 ∷ []) ≡ 4 ∷ 5 ∷ 6 ∷ 6 ∷ []
 windows = refl
 
--- the load of the second round conflicts with the store of the first one; those of the third and the fourth round with two
--- stores
+-- the load of the second round conflicts with the store of the first one; those of the third and the fourth round with
+-- two stores
 loads : map (seen 4) (0 ∷ 3 ∷ 6 ∷ 9 ∷ []) ≡ (false ∷ false ∷ false ∷ false ∷ []) ∷ (true ∷ false ∷ false ∷ false ∷ [])
     ∷ (true ∷ false ∷ true ∷ false ∷ []) ∷ (true ∷ false ∷ true ∷ false ∷ []) ∷ []
 loads = refl

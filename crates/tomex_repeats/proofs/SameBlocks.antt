@@ -2,7 +2,8 @@
 use Rattle.std.proofs.Common.{ℕ, zero, suc, ◌+◌, ◌-◌, ◌<◌, ◌≤◌, ◌≡◌, ◌∙◌, arith, refl, sym, ap, Bool, true, false}
 use Rattle.std.proofs.Common.{List, [], ◌∷◌, ◌++◌, All, drop, get_or, length, map, reverse, take}
 use Rattle.std.specs.List.{Contains, filter}
-use Rattle.std.proofs.lemmas.List.{append-nil, drop_more, get_or-map, length-map, map-append, reverse-append, take-map, take_more}
+use Rattle.std.proofs.lemmas.List.{append-nil, drop_more, get_or-map, length-map, map-append, reverse-append}
+use Rattle.std.proofs.lemmas.List.{take-map, take_more}
 use Rattle.std.proofs.lemmas.List.Elements.{All-cons, All-contains, All-nil, filter-append}
 use Rattle.tomex_rvexec.proofs.Fields.{bytes_of_memory}
 use Rattle.tomex_rvexec.specs.declared.step.Step.{Step}
@@ -50,7 +51,8 @@ conflict_seen (d ∷ older) s (suc i) =
 map_reverse : {X Y : Type 0} (f : X → Y) (xs : List X) → map f (reverse xs) ≡ reverse (map f xs)
 map_reverse f [] = refl
 map_reverse f (x ∷ xs) =
-    ap (map f) (reverse-append (x ∷ []) xs) ∙ map-append f (reverse xs) (x ∷ []) ∙ ap (λ ys. ys ++ (f x ∷ [])) (map_reverse f xs)
+    ap (map f) (reverse-append (x ∷ []) xs) ∙ map-append f (reverse xs) (x ∷ [])
+    ∙ ap (λ ys. ys ++ (f x ∷ [])) (map_reverse f xs)
     ∙ sym (reverse-append (f x ∷ []) (map f xs))
 
 filter_reverse : {X : Type 0} (p : X → Bool) (xs : List X) → filter p (reverse xs) ≡ reverse (filter p xs)
@@ -166,5 +168,5 @@ pair_of steps facts run a b are blocks in_a in_b e =
 pub blocks_same : BlocksAreTheSame
 blocks_same config steps facts run g h a b are blocks in_a in_b e to_a to_b =
     let pair = pair_of steps facts run a b are blocks in_a in_b e in
-    rw (sym pair.same.long) (same_steps steps facts are config a.first b.first (a.end - a.first) pair.same.same pair.first
-    pair.second g h to_a to_b)
+    rw (sym pair.same.long) (same_steps steps facts are config a.first b.first (a.end - a.first) pair.same.same
+    pair.first pair.second g h to_a to_b)

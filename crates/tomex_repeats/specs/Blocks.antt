@@ -1,5 +1,5 @@
--- The blocks of a run's steps, and when two of them are the same to the recurrence: their steps are, except for the bytes
--- that they touch, and conflict alike.
+-- The blocks of a run's steps, and when two of them are the same to the recurrence: their steps are, except for the
+-- bytes that they touch, and conflict alike.
 use Rattle.std.specs.Prelude.{ℕ, ◌+◌, ◌-◌, ◌<◌, ◌≤◌, ◌≡◌, Bool, false, ◌&&◌, ◌||◌, List, [], ◌∷◌, None}
 use Rattle.std.specs.Prelude.{count_by, is_some, length, map, reverse, slice_index_or, slice_range, take, All}
 use Rattle.std.specs.List.{Contains, filter}
@@ -55,8 +55,8 @@ pub record Blocks : Type 0 where
   pub blocks : List Block
   pub different : ℕ
 
--- They cover a run's steps, their numbers are those below the number of different ones, and blocks of one number are the
--- same.
+-- They cover a run's steps, their numbers are those below the number of different ones, and blocks of one number are
+-- the same.
 pub record AreBlocks (facts : List Facts) (run : Blocks) : Type 0 where
   pub row : AreInARow 0 run.blocks (length facts)
   pub numbers : All (λ b. b.number < run.different) run.blocks

@@ -15,8 +15,8 @@ use Rattle.tomex_repeats.specs.Blocks.{AreBlocks, Blocks}
 pub record LeadsTo (steps : List Step) (p : ℕ) (h : List Done) : Type 0 where
   pub are : map (λ d. d.step) h ≡ reverse (take p steps)
 
--- Blocks of one number have the same steps to the recurrence, after any histories of the steps before them: equal pools,
--- destinations and operands, and the same conflicts with the accesses since the fourth before the block.
+-- Blocks of one number have the same steps to the recurrence, after any histories of the steps before them: equal
+-- pools, destinations and operands, and the same conflicts with the accesses since the fourth before the block.
 abbrev pub BlocksAreTheSame : Type 0
 BlocksAreTheSame = (config : Configuration) (steps : List Step) (facts : List Facts) (run : Blocks) (g h : List Done)
     (a b : Block) → AreFacts steps facts → AreBlocks facts run → Contains run.blocks a → Contains run.blocks b

@@ -1,4 +1,5 @@
--- The code's own words: a number whose bits say which accesses a step conflicts with, and the first blocks of each number.
+-- The code's own words: a number whose bits say which accesses a step conflicts with, and the first block of each
+-- number.
 use Rattle.std.specs.Prelude.{ℕ, ◌+◌, ◌*◌, ◌^◌, ◌<◌, ◌≤◌, ◌≡◌, ◌⊎◌, Bool, List, [], ◌∷◌, ◌++◌, Option, IfSome, All}
 use Rattle.std.specs.Prelude.{length, map, slice_index, slice_index_or, take}
 use Rattle.std.specs.List.{filter}
@@ -58,7 +59,8 @@ IsFound facts slots firsts b (Known n) = IsNumbered facts firsts n b
 IsFound facts slots firsts b (Free place) = place < length slots
 
 -- the first blocks of all numbers, in the order of these, and the table in which they are looked for
-pub record AreFirsts (facts : List Facts) (masks : List ℕ) (slots : List (Option ℕ)) (firsts : List Block) : Type 0 where
+pub record AreFirsts
+    (facts : List Facts) (masks : List ℕ) (slots : List (Option ℕ)) (firsts : List Block) : Type 0 where
   pub some : 0 < length slots
   pub few : length slots < 2 ^ 32
   pub table : IsTable slots firsts

@@ -40,7 +40,8 @@ impl<A: Allocator> Model for Blocks<A> {
 impl<A: Allocator + Clone> Blocks<A> {
     /// The blocks of the run whose steps have these facts.
     ///
-    /// The work is linear in the steps. Up to 12 bytes a step are kept, and up to 60 more are used until it ends.
+    /// The work is linear in the steps. Each block takes 12 bytes. While blocks are made, 12 bytes a step and up to 28
+    /// bytes a block are used besides.
     pub fn of(alloc: A, facts: &[Facts]) -> Result<Blocks<A>, AllocError>
         requires few { length facts.now < 2 ^ 28 }
         ensures { IfOk result (λ r. AreBlocks facts.now r) }

@@ -39,6 +39,9 @@ fn mask_of(facts: &[Facts], accesses: &[u32], step: &Facts) -> u64
     requires few { length accesses.now < 64 }
     ensures { (z : Facts) → result ≡ mask_of (reverse (facts_at facts.now accesses.now z)) step.now }
 {
+    if step.bytes.is_none() {
+        return 0;
+    }
     let mut mask = 0;
     for place in accesses {
         mask = 2 * mask + u64::from(do_conflict(&facts[*place as usize], step));

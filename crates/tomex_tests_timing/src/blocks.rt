@@ -50,7 +50,7 @@ fn are_like(a: &Facts, b: &Facts) -> bool {
     registers && kinds && flags && a.bytes.is_some() == b.bytes.is_some()
 }
 
-/// True if two steps are like one another, and conflict with the same ones of so many accesses before them.
+/// True if two steps are like one another, and conflict with the same ones of the last `window` accesses before them.
 fn steps_are_same(facts: &[Facts], p: usize, q: usize, window: usize) -> bool {
     let (Some(a), Some(b)) = (facts.get(p), facts.get(q)) else {
         return false;
@@ -272,9 +272,9 @@ fn ten_rounds(alloc: Global, from: u64, step: u64) -> Result<Vec<Facts>, AllocEr
     Ok(facts)
 }
 
-/// Runs that differ in addresses alone have the same blocks. Conflicts with the round before make others.
+/// Runs that differ only in addresses have the same blocks. Conflicts with the rounds before make others.
 #[test]
-fn only_conflicts_count_of_addresses(rt: HostRuntime) -> Result<(), Fail> {
+fn addresses_count_only_by_conflicts(rt: HostRuntime) -> Result<(), Fail> {
     let alloc = rt.alloc();
     let apart = blocks_of(alloc, &ten_rounds(alloc, 0, 4)?)?;
     let elsewhere = blocks_of(alloc, &ten_rounds(alloc, 96, 2)?)?;
@@ -319,7 +319,7 @@ fn a_loop_has_few_different_blocks(rt: HostRuntime) -> Result<(), Fail> {
     Ok(())
 }
 
-/// The blocks of some facts, of which there are so many different ones.
+/// The blocks of some facts, and how many different ones there are.
 #[derive(Drop)]
 struct Making<'a> {
     facts: &'a [Facts],

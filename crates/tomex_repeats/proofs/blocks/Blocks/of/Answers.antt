@@ -10,7 +10,8 @@ numbered-requires-clause-state g c =
     let known = c.loop-first.invariant.known in
     let kept : take (length old) new ≡ old = rw known c.in_ok-note.ensures.kept in
     rw c.deref.ensures.value (firsts_kept c.args.facts.now old new c.loop-first.numbers.slots.items
-    c.loop-first.numbers.firsts.items kept (omega (arith, known, c.in_ok-note.ensures.known, c.end_of_block-end.ensures.some))
+    c.loop-first.numbers.firsts.items kept
+    (omega (arith, known, c.in_ok-note.ensures.known, c.end_of_block-end.ensures.some))
     c.loop-first.invariant.firsts)
 
 pub loop-first-preserved : goal.loop-first-preserved
@@ -32,5 +33,5 @@ loop-first-preserved g c =
 pub returns : goal.returns
 returns g c =
     let l = c.loop-first in
-    blocks_made c.args.facts.now l.conflicts.masks.items l.numbers.slots.items l.numbers.firsts.items l.made.items l.first
-    c.count-different.result l.invariant.firsts l.invariant.made (omega arith) c.count-different.ensures
+    blocks_made c.args.facts.now l.conflicts.masks.items l.numbers.slots.items l.numbers.firsts.items l.made.items
+    l.first c.count-different.result l.invariant.firsts l.invariant.made (omega arith) c.count-different.ensures
