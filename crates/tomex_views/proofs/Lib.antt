@@ -1,3 +1,3 @@
 -- Lemmas of this crate.
-mod Placed
+pub mod Placed
 mod Unviewed

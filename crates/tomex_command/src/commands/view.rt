@@ -36,7 +36,7 @@ pub fn plot_view(all: bool) -> SurveyView<'static>
 /// The view that `page` prints, with or without what choices that the lists lack would bring. The page has the study's
 /// name as it stands in the line.
 pub fn page_view(line: PageLine<'_>) -> StudyView<'_>
-    ensures { result.entry ≡ page_view line.entry }
+    ensures { result ≡ page_view line.entry }
 {
     let name = line.explore.study;
     if line.choices {
