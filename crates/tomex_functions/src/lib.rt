@@ -1,5 +1,5 @@
-//! The functions of a program, as texts show them, and where in them the cycles of a run go. And what each function takes
-//! in two builds of a program.
+//! The functions of a program, as texts show them, where in them the cycles of a run go, and how many cycles each
+//! function takes in two builds of a program.
 //! Tests: tomex_cases, tomex_tests_symbols.
 #![tactic(auto)]
 

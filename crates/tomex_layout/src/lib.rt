@@ -1,6 +1,6 @@
 //! The elements of what is printed: CSV records, by the crate `csv` with its defaults; aligned texts, and tables of
-//! them, a line of names and lines of texts; names of lists, settings and programs, and the entries of lists; numbers of
-//! hundredths, signed differences, percentages and rates.
+//! them, a line of names and lines of texts; names of lists, settings and programs, and the entries of lists; numbers
+//! of hundredths, signed differences, percentages and rates.
 //! Tests: tomex_cases, tomex_tests_reports, tomex_tests_surveys.
 #![tactic(auto)]
 

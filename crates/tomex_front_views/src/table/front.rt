@@ -155,8 +155,8 @@ fn push_programs<A: Allocator>(
 }
 
 /// Rows of a study as a table: a line of names, and then a line for each row, with its number, cost and cycles, the
-/// cycles that it saves over the row before for 1 of cost, the settings in which rows of the study differ, and, if there
-/// are several programs, the cycles of each.
+/// cycles that it saves over the row before for 1 of cost, the settings in which rows of the study differ, and, if
+/// there are several programs, the cycles of each.
 fn rows_table<A: Allocator>(
     alloc: A,
     heap: Global,
