@@ -10,7 +10,7 @@ use Rattle.std.proofs.lemmas.Bool.{cases_lt}
 use Rattle.std.proofs.lemmas.List.{map_push}
 use Rattle.tomex_timing.specs.declared.recent.Facts.{Facts}
 use Rattle.tomex_repeats.specs.declared.blocks.Block.{Block}
-use Rattle.tomex_repeats.specs.Blocks.{AreBlocks, AreInARow, AreSameBlocks}
+use Rattle.tomex_repeats.specs.Blocks.{AreBlocks, AreInARow, AreSameBlocks, EndsABlock}
 use Rattle.tomex_repeats.specs.Masks.{AreFirsts, AreFirstsAfter, IsNoted, IsNumbered}
 use Rattle.tomex_repeats.proofs.Alike.{same_sym, same_trans}
 
@@ -76,6 +76,7 @@ row_more from (a ∷ blocks) to b row first some few =
 pub record AreMade (facts : List Facts) (firsts blocks : List Block) (first : ℕ) : Type 0 where
   pub row : AreInARow 0 blocks first
   pub within : All (λ b. (b.first < b.end) × (b.end ≤ length facts)) blocks
+  pub ends : All (λ b. EndsABlock facts b.first b.end) blocks
   pub numbered : All (λ b. IsNumbered facts firsts b.number b) blocks
   pub few : length firsts ≤ first
   pub used : (n : ℕ) → n < length firsts → Contains (map (λ b. b.number) blocks) n
@@ -84,6 +85,7 @@ pub made_none : (facts : List Facts) → AreMade facts [] [] 0
 made_none facts = record {
   row = refl;
   within = All-nil (λ b. (b.first < b.end) × (b.end ≤ length facts));
+  ends = All-nil (λ b. EndsABlock facts b.first b.end);
   numbered = All-nil (λ b. IsNumbered facts [] b.number b);
   few = omega arith;
   used = λ n l. absurd (omega arith);
@@ -91,10 +93,12 @@ made_none facts = record {
 
 pub made_more : (facts : List Facts) (old new blocks : List Block) (first : ℕ) (b : Block)
     → AreMade facts old blocks first → AreFirstsAfter b old new → IsNumbered facts new b.number b → b.first ≡ first
-    → b.first < b.end → b.end ≤ b.first + 60 → b.end ≤ length facts → AreMade facts new (blocks ++ (b ∷ [])) b.end
-made_more facts old new blocks first b so after is at some few within = record {
+    → b.first < b.end → b.end ≤ b.first + 60 → b.end ≤ length facts → EndsABlock facts b.first b.end
+    → AreMade facts new (blocks ++ (b ∷ [])) b.end
+made_more facts old new blocks first b so after is at some few within ends = record {
   row = row_more 0 blocks first b so.row at some few;
   within = All-push (λ b. (b.first < b.end) × (b.end ≤ length facts)) blocks b so.within (some, within);
+  ends = All-push (λ b. EndsABlock facts b.first b.end) blocks b so.ends ends;
   numbered = All-push (λ a. IsNumbered facts new a.number a) blocks b
       (All-weaker (λ a. IsNumbered facts old a.number a) (λ a. IsNumbered facts new a.number a)
       (λ a. numbered_kept facts old new b after a.number a) blocks so.numbered) is;
@@ -139,6 +143,7 @@ pub blocks_made : (facts : List Facts) (masks : List ℕ) (slots : List (Option 
     → n ≡ length firsts → AreBlocks facts (record { blocks = blocks; different = n })
 blocks_made facts masks slots firsts blocks first n known so e m = record {
   row = rw (sym e) so.row;
+  ends = so.ends;
   numbers = λ k z l. let is = All-get_or (λ b. IsNumbered facts firsts b.number b) blocks k z l so.numbered in
       rw m is.0;
   used = λ k l. so.used k (rw m at l);

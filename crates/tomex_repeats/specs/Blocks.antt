@@ -1,6 +1,6 @@
 -- The blocks of a run's steps, and when two of them are the same to the recurrence: their steps are, except for the
 -- bytes that they touch, and conflict alike.
-use Rattle.std.specs.Prelude.{ℕ, ◌+◌, ◌-◌, ◌<◌, ◌≤◌, ◌≡◌, Bool, false, ◌&&◌, ◌||◌, List, [], ◌∷◌, None}
+use Rattle.std.specs.Prelude.{ℕ, ◌+◌, ◌-◌, ◌<◌, ◌≤◌, ◌≡◌, ◌⊎◌, Bool, true, false, ◌&&◌, ◌||◌, List, [], ◌∷◌, None}
 use Rattle.std.specs.Prelude.{count_by, is_some, length, map, reverse, slice_index_or, slice_range, take, All}
 use Rattle.std.specs.List.{Contains, filter}
 use Rattle.tomex_rvexec.specs.Steps.{shares_byte}
@@ -44,6 +44,13 @@ pub record AreSameBlocks (facts : List Facts) (a b : Block) : Type 0 where
   pub long : a.end - a.first ≡ b.end - b.first
   pub same : AreSame facts a.first b.first (a.end - a.first)
 
+-- The steps from a place up to another one end with the first conditional branch or JALR, after 60 steps, or at the
+-- run's end.
+pub record EndsABlock (facts : List Facts) (first end : ℕ) : Type 0 where
+  pub before : (p : ℕ) (z : Facts) → first ≤ p → p + 1 < end → (slice_index_or facts p z).is_branch ≡ false
+  pub last : ((z : Facts) → (slice_index_or facts (end - 1) z).is_branch ≡ true)
+      ⊎ ((end ≡ first + 60) ⊎ (end ≡ length facts))
+
 -- Blocks stand one after another from a place to another one. None is empty, or longer than 60 steps.
 abbrev pub AreInARow : ℕ → List Block → ℕ → Type 0
 AreInARow from [] to = from ≡ to
@@ -55,10 +62,11 @@ pub record Blocks : Type 0 where
   pub blocks : List Block
   pub different : ℕ
 
--- They cover a run's steps, their numbers are those below the number of different ones, and blocks of one number are
+-- They cover a run's steps, each ends as early as it has to, their numbers are those below the number of different ones, and blocks of one number are
 -- the same.
 pub record AreBlocks (facts : List Facts) (run : Blocks) : Type 0 where
   pub row : AreInARow 0 run.blocks (length facts)
+  pub ends : All (λ b. EndsABlock facts b.first b.end) run.blocks
   pub numbers : All (λ b. b.number < run.different) run.blocks
   pub used : (n : ℕ) → n < run.different → Contains (map (λ b. b.number) run.blocks) n
   pub same : All (λ a. All (λ b. a.number ≡ b.number → AreSameBlocks facts a b) run.blocks) run.blocks

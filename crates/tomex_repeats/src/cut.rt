@@ -1,6 +1,7 @@
 //! Where a block ends.
 
 ghost use Rattle.std.specs.Prelude.{◌+◌, ◌^◌, ◌<◌, ◌≤◌, length};
+ghost use Rattle.tomex_repeats.specs.Blocks.{EndsABlock};
 
 use tomex_timing::Facts;
 
@@ -15,6 +16,7 @@ pub(crate) fn end_of_block(facts: &[Facts], first: usize) -> usize
     ensures some { first < result }
     ensures few { result ≤ first + 60 }
     ensures within { result ≤ length facts.now }
+    ensures ends { EndsABlock facts.now first result }
 {
     let last = facts.len().min(first + LONGEST);
     for place in first..last {

@@ -27,7 +27,8 @@ loop-first-preserved g c =
       made = rw (c.in_ok-push.ensures.items, sym made.place.1) (made_more c.args.facts.now
           c.loop-first.numbers.firsts.items c.numbered.new.self.firsts.items c.loop-first.made.items c.loop-first.first
           b c.loop-first.invariant.made made.firsts made.number made.place.0 (omega (arith, made.place.0, made.place.1))
-          (omega (arith, made.place.0, made.place.1)) (omega (arith, made.place.1)));
+          (omega (arith, made.place.0, made.place.1)) (omega (arith, made.place.1))
+          (rw (made.place.0, made.place.1) end.ends));
     }
 
 pub returns : goal.returns
