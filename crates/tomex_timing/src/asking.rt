@@ -229,7 +229,7 @@ fn run_issued<A: Allocator>(
 
 /// Times, notes and keeps a next step that takes a station and a unit.
 #[inline(always)]
-pub(crate) fn ask_operation<A: Allocator>(
+pub fn ask_operation<A: Allocator>(
     recent: &mut Recent<A>,
     demands: &mut Demands,
     config: &Config,
@@ -281,7 +281,7 @@ pub(crate) fn ask_operation<A: Allocator>(
 /// Times, notes and keeps any other next step. There are few.
 #[cold]
 #[inline(never)]
-pub(crate) fn ask_rest<A: Allocator>(
+pub fn ask_rest<A: Allocator>(
     recent: &mut Recent<A>,
     demands: &mut Demands,
     config: &Config,
