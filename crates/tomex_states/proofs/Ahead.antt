@@ -1,5 +1,5 @@
--- What is held and shows a history gives a next step the times that an exact record of it gives: these depend on no cycle
--- that is over.
+-- What is held and shows a history gives a next step the times that an exact record of it gives: these depend on no
+-- cycle that is over.
 use Rattle.std.proofs.Common.{ℕ, ◌+◌, ◌-◌, ◌<◌, ◌≤◌, ◌≡◌, ◌∙◌, Bool, true, false, arith, refl, sym, ap, List, Option}
 use Rattle.std.proofs.Common.{Some, None, cond, max}
 use Rattle.std.specs.Prelude.{IfSome, MatchOption}

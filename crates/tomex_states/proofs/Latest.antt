@@ -1,6 +1,6 @@
 -- One step more: the latest cycles then show the longer history.
-use Rattle.std.proofs.Common.{ℕ, ◌+◌, ◌-◌, ◌^◌, ◌<◌, ◌≤◌, ◌≡◌, ◌≢◌, ◌∙◌, Bool, true, false, arith, refl, sym, ap, inl, inr}
-use Rattle.std.proofs.Common.{List, ◌∷◌, Option, Some, None, cond, length, max, nat_lt, ◌==◌, slice_index}
+use Rattle.std.proofs.Common.{ℕ, ◌+◌, ◌-◌, ◌^◌, ◌<◌, ◌≤◌, ◌≡◌, ◌≢◌, ◌∙◌, Bool, true, false, arith, refl, sym, ap}
+use Rattle.std.proofs.Common.{List, ◌∷◌, Option, Some, None, cond, inl, inr, length, max, nat_lt, ◌==◌, slice_index}
 use Rattle.std.specs.Prelude.{IfSome}
 use Rattle.std.proofs.lemmas.Bool.{and_parts, cases_eq, cases_order, eq-eqb, leb-true, ne_eqb}
 use Rattle.std.proofs.lemmas.Bool.{MatchBool-at_false, MatchBool-at_true}
@@ -46,7 +46,8 @@ from_parts false issue branch n e = (omega arith, omega arith)
 
 module _ {config : Configuration} {h : List Done} {latest : Latest} (shown : ShowsLatest config h latest) where
   pub last_low : (latest.issue ≤ first_issue config h) × (latest.branch < first_issue config h)
-  last_low = from_parts (nat_lt latest.issued config.width) latest.issue latest.branch (first_issue config h) shown.first
+  last_low =
+      from_parts (nat_lt latest.issued config.width) latest.issue latest.branch (first_issue config h) shown.first
 
   -- the steps that issue in a cycle are counted
   pub counted : (t : ℕ) → AreTimed config h → first_issue config h ≤ t → count_with_next latest t ≡ issued_in h t + 1
@@ -55,9 +56,7 @@ module _ {config : Configuration} {h : List Done} {latest : Latest} (shown : Sho
     | inr n ↦
         let low = last_low in
         let issued = issue_first config h in
-        let later : first_issue config h < t =
-        elim (cases_order (first_issue config h) t)
-        [ inl f ↦ absurd (n (sym f)) | inr (inl k) ↦ k | inr (inr k) ↦ absurd (omega arith) ] in
+        let later : first_issue config h < t = omega (arith, n) in
         one_more_of (issued_in h) t latest.issue latest.issued (λ (e : t ≡ latest.issue). absurd (omega (arith, low.0)))
         (λ k. none_later config h t timed (omega (arith, issued)))
   ]
@@ -67,7 +66,8 @@ slot_with : (b : Bool) (issue x y : ℕ) → max issue (x + 1) ≡ max issue (y 
 slot_with true issue x y e = e
 slot_with false issue x y e = omega arith
 
-past_with : (issue x y : ℕ) → max issue (x + 1) ≡ max issue (y + 1) → max (max 1 issue) (x + 1) ≡ max (max 1 issue) (y + 1)
+past_with : (issue x y : ℕ) → max issue (x + 1) ≡ max issue (y + 1)
+    → max (max 1 issue) (x + 1) ≡ max (max 1 issue) (y + 1)
 past_with issue x y e = omega arith
 
 branch_with : (b : Bool) (n issue finish x y : ℕ) → n ≤ issue → issue ≤ finish → x < n → y < n
@@ -126,7 +126,8 @@ module _ {config : Configuration} {h : List Done} {latest : Latest} {s : Step} {
   first_after : issue_from config after ≡ first_issue config more
   first_after =
       ap (λ k. max (cond (nat_lt k config.width) at.issue (at.issue + 1)) (after.branch + 1)) issued_after
-      ∙ slot_with (nat_lt (issued_in more at.issue) config.width) at.issue after.branch (branch_finish more) branch_after
+      ∙ slot_with (nat_lt (issued_in more at.issue) config.width) at.issue after.branch (branch_finish more)
+      branch_after
 
   past_after : past_branches after ≡ first_after_branches more
   past_after = past_with at.issue after.branch (branch_finish more) branch_after
@@ -150,7 +151,8 @@ module _ {config : Configuration} {h : List Done} {latest : Latest} {s : Step} {
     first = first_after;
     issued = one_more_of (issued_in more) (first_issue config more) at.issue after.issued
         (λ e. issued_after ∙ ap (issued_in more) (sym e))
-        (λ n. none_later config more (first_issue config more) (is, timed) (above n));
+        (λ n. none_later config more (first_issue config more) (is, timed)
+        (omega (arith, n, issue_first config more)));
     width = ap (λ p. first_issue config more - p) past_after;
     end = ap (max at.end) shown.end;
     address = address_after;
@@ -159,10 +161,3 @@ module _ {config : Configuration} {h : List Done} {latest : Latest} {s : Step} {
     count = length-written_by (step_dest s) at.end latest.ends ∙ shown.count;
     few = few_after few;
   }
-    where
-      above : first_issue config more ≢ at.issue → at.issue < first_issue config more
-      above n = let l = issue_first config more in elim (cases_order at.issue (first_issue config more)) [
-        | inl f ↦ absurd (n (sym f))
-        | inr (inl k) ↦ k
-        | inr (inr k) ↦ absurd (omega arith)
-      ]

@@ -42,7 +42,8 @@ written_zero None end ends e zero = zero
 written_zero (Some q) end ends e zero =
     get_or-set_other ends q 0 end 0 (λ (y : 0 ≡ q). eqb-false q 0 e (sym y)) ∙ zero
 
-branch_low : (b : Bool) (finish before end g : ℕ) → finish ≤ end → before ≤ g → cond b (max finish before) before ≤ max end g
+branch_low : (b : Bool) (finish before end g : ℕ) → finish ≤ end → before ≤ g
+    → cond b (max finish before) before ≤ max end g
 branch_low true finish before end g l k = omega arith
 branch_low false finish before end g l k = omega arith
 

@@ -1,5 +1,5 @@
--- One step more of a run, by what shows the steps before it: then what is held shows the longer history, and the demands
--- that are noted are those of it.
+-- One step more of a run, by what shows the steps before it: then what is held shows the longer history, and the
+-- demands that are noted are those of it.
 use Rattle.std.proofs.Common.{ℕ, ◌+◌, ◌-◌, ◌^◌, ◌<◌, ◌≤◌, ◌≡◌, ◌∙◌, arith, refl, sym, ap, List, ◌∷◌, length, take, max}
 use Rattle.std.proofs.Common.{◌==◌, count_by, inl, inr, true, false}
 use Rattle.std.specs.Prelude.{is_some}
@@ -114,18 +114,7 @@ module _ {config : Configuration} {steps : List Step} {i : ℕ} {x : Step} {f : 
         counted shown.latest next.at.issue timed late
         ∙ sym (one_more_of (issued_in before) next.at.issue (last_issue before)
         (count_by (λ d. d.at.issue == last_issue before) before) (λ e. ap (issued_in before) (sym e))
-        (λ n. none_later config before next.at.issue timed (after_last n late)))
-      where
-        after_last : (next.at.issue ≡ last_issue before → ⊥) → first_issue config before ≤ next.at.issue
-            → last_issue before < next.at.issue
-        after_last n late = let l = issue_first config before in lt_of (last_issue before) next.at.issue (omega (arith, l)) n
-          where
-            lt_of : (a b : ℕ) → a ≤ b → (b ≡ a → ⊥) → a < b
-            lt_of a b l n = elim (cases_order a b) [
-              | inl e ↦ absurd (n (sym e))
-              | inr (inl k) ↦ k
-              | inr (inr k) ↦ absurd (omega arith)
-            ]
+        (λ n. none_later config before next.at.issue timed (omega (arith, n, late, issue_first config before))))
 
     asked_same : (total : ℕ) (demands : Demands)
         → demands_after f (waits_by held.latest next.marks next.at) (taken_from held.latest next) total demands

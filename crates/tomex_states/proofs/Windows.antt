@@ -46,7 +46,8 @@ module _ (config : Configuration) (h : List Done) (s : Step) (at : Times) (windo
   pub window_stays : is_memory s ≡ false → IsWindow config more window
   window_stays m = record {
     finishes = λ i l.
-        ap (λ f. f + 1 - first_access config more) (skip_access (λ d. d.at.finish) 0 (record { step = s; at = at }) h i m)
+        ap (λ f. f + 1 - first_access config more)
+        (skip_access (λ d. d.at.finish) 0 (record { step = s; at = at }) h i m)
         ∙ late_still (finish_of h i) (slice_index window.finishes i) (is.finishes i l);
     older = λ i l. rw (skip_access (λ d. d.at.finish) 0 (record { step = s; at = at }) h i m)
         (low_still (finish_of h i) window.older (is.older i l));

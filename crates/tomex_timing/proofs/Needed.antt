@@ -115,7 +115,8 @@ module _ {config : Configuration} {h : List Done} {held : Held} {s : Step} {next
       let reaches : InReach (greatest_end h) next.at =
       reach config (record { step = s; at = next.at }) h c.good (next_timed c, c.timed) in
       let after = (operation of (next_timed c)).can.after_issue in
-      rw (end.1, c.shown.holds.results next.at.end (omega (arith, c.soon, first_issued c, after, reaches.issue, reaches.start))) refl
+      let later : c.from < next.at.end = omega (arith, c.soon, first_issued c, after, reaches.start) in
+      rw (end.1, c.shown.holds.results next.at.end later) refl
 
   -- what is counted as taken is what is taken
   pub taken_is : (part : Part) → taken_for part (record { step = s; at = next.at }) (taken_from held.latest next)

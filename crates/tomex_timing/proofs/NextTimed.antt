@@ -109,8 +109,8 @@ module _ {config : Configuration} {h : List Done} {held : Held} {s : Step} {next
       let holds = first.none (least (is_free p h t) (stations_of config p)) t low l m in
       omega arith)
 
-  has_issue : (pool : Option PoolId) (from issue : ℕ) (station : Option ℕ) → c.from ≤ from → last_issue h ≤ from → 0 < from
-      → TakesStation config held.ends pool from issue station → HasIssue config h pool from issue station
+  has_issue : (pool : Option PoolId) (from issue : ℕ) (station : Option ℕ) → c.from ≤ from → last_issue h ≤ from
+      → 0 < from → TakesStation config held.ends pool from issue station → HasIssue config h pool from issue station
   has_issue None from issue station late after pos takes =
       record { first = rw takes.0 (first_here (λ t. true) from refl); takes = takes.1 }
   has_issue (Some p) from issue station late after pos takes =
@@ -120,7 +120,8 @@ module _ {config : Configuration} {h : List Done} {held : Held} {s : Step} {next
       let there : takes.0 < stations_of config p = first.there in
       record {
         first = (
-          and_from (nat_le from issue) _ (le-leb from issue begun) (some_left p from issue takes.0 late after pos first),
+          and_from (nat_le from issue) _ (le-leb from issue begun)
+              (some_left p from issue takes.0 late after pos first),
           λ t l. elim (cases_Bool (nat_le from t)) [
             | inl e ↦ rw e (none_left p from issue takes.0 t late pos first (leb-true from t e) l)
             | inr e ↦ rw e refl

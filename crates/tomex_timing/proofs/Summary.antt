@@ -173,7 +173,8 @@ settled_by config h held good timed shown =
     let kept : IsKept h held.latest = shown.kept in
     record {
       base = rw shown.kept.issue shown.holds.base;
-      starts = λ unit t l. shown.holds.starts unit t (omega arith) ∙ starts_none h unit (greatest_end h) t by (omega arith);
+      starts = λ unit t l.
+          shown.holds.starts unit t (omega arith) ∙ starts_none h unit (greatest_end h) t by (omega arith);
       results = λ t l. shown.holds.results t (omega arith) ∙ results_none h (greatest_end h) t by (omega arith);
       stations = λ pool n l.
           let free : nat_lt (end_at held.ends pool n) (greatest_end h + 1) ≡ true =

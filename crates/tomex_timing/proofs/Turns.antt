@@ -43,8 +43,9 @@ use Rattle.tomex_timing.proofs.SummaryTurns.{shown_turn}
 use Rattle.tomex_timing.proofs.WaitLists.{needs_within, waits_within, waits_more}
 
 -- what is held before a step is small
-pub small : (config : Configuration) (steps : List Step) (i : ℕ) (held : Held) → IsWithinLimits config → i ≤ length steps
-    → IsKept (history config (take i steps)) held.latest → (held.latest.end ≤ 67 * i) × (held.latest.issued ≤ i)
+pub small : (config : Configuration) (steps : List Step) (i : ℕ) (held : Held) → IsWithinLimits config
+    → i ≤ length steps → IsKept (history config (take i steps)) held.latest
+    → (held.latest.end ≤ 67 * i) × (held.latest.issued ≤ i)
 small config steps i held good l kept =
     let h = history config (take i steps) in
     let b : greatest_end h ≤ 67 * length (take i steps) = history_bound config (take i steps) good in
