@@ -1,10 +1,13 @@
 -- The state in which a history leaves the evaluator: what is held shows the history to a next step, except for cycles
 -- that are over by the first one in which that may issue. So a state may show several histories of one run.
-use Rattle.std.specs.Prelude.{ℕ, ◌+◌, ◌-◌, ◌^◌, ◌<◌, ◌≤◌, ◌≡◌, ◌==◌, if◌then◌else◌, List, length, slice_index}
+use Rattle.std.specs.Prelude.{ℕ, ◌+◌, ◌-◌, ◌^◌, ◌<◌, ◌≤◌, ◌≡◌, ◌==◌, if◌then◌else◌, List, length, replicate}
+use Rattle.std.specs.Prelude.{slice_index}
 use Rattle.tomex_config.specs.Configuration.{Configuration}
+use Rattle.tomex_timing.specs.declared.demands.Demands.{Demands}
 use Rattle.tomex_timing.specs.declared.times.Done.{Done}
 use Rattle.tomex_timing.specs.declared.recent.Latest.{Latest}
 use Rattle.tomex_timing.specs.Ahead.{Held, IsSettledBy, held_by}
+use Rattle.tomex_timing.specs.Demands.{AreDemands, with_total}
 use Rattle.tomex_timing.specs.History.{greatest_end}
 use Rattle.tomex_timing.specs.Issue.{first_issue}
 use Rattle.tomex_timing.specs.Recent.{issue_from}
@@ -46,3 +49,11 @@ pub record IsWindow (config : Configuration) (h : List Done) (window : Window) :
 pub record ShowsState {A : Type 0} (config : Configuration) (h : List Done) (state : State A) : Type 0 where
   pub held : Shows config h (held_by state.recent)
   pub window : IsWindow config h state.window
+
+-- the demands of a history are noted, all but its total
+abbrev pub AreNoted : Configuration → List Done → Demands → Type 0
+AreNoted config h demands = AreDemands config h (with_total (greatest_end h) demands)
+
+-- before the first access
+abbrev pub no_accesses : Window
+no_accesses = record { finishes = replicate 4 0; older = 0 }

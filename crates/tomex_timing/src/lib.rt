@@ -23,7 +23,7 @@ mod turn;
 mod waiting;
 
 pub use accesses::Access;
-pub use asking::{ask_operation, ask_rest};
+pub use asking::ask_next;
 pub use demands::{Demand, Demands};
 pub use laws::{
     accesses_of_one_byte_wait, all_parts_stand_in_order, cycles_are_accounted_for,
@@ -40,4 +40,3 @@ pub use run::Run;
 pub use tables::{Busy, Field, Tables, Tag};
 pub use times::{Done, Times};
 pub use turn::{Turn, next_turn};
-pub use waiting::Taken;
