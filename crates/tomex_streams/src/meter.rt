@@ -3,12 +3,21 @@
 
 ghost use Rattle.std.specs.Prelude.{◌≡◌, IfSome};
 
+use std::io;
 use std::io::{IsTerminal, Stderr, Write};
 use std::sync::atomic::{AtomicU64, Ordering};
 use std::time::Clock;
 
 /// The least time between two lines, in milliseconds.
 const PAUSE: u64 = 100;
+
+/// The line on a terminal after a refusal.
+pub const HINT: &str = "tomex: `tomex explain` and these words say what it means\n";
+
+/// Writes how many configurations are finished, in place of the line before.
+pub fn write_progress(writer: &mut impl Write, done: u64, of: u64) -> io::Result<()> {
+    write!(writer, "\r\x1b[K{done} of {of} configurations")
+}
 
 /// Shows progress. Several threads may call it at once.
 pub trait Meter {
@@ -94,7 +103,7 @@ impl<'a, R: Clock> Meter for TerminalMeter<'a, R> {
         if let Some(terminal) = &self.terminal {
             if self.is_due() {
                 let mut writer = terminal;
-                let _ = write!(writer, "\r\x1b[K{done} of {of} configurations");
+                let _ = write_progress(&mut writer, done, of);
                 self.lines.fetch_add(1, Ordering::SeqCst);
             }
         }
@@ -112,10 +121,7 @@ impl<'a, R: Clock> Meter for TerminalMeter<'a, R> {
     fn hint(&self) {
         if let Some(terminal) = &self.terminal {
             let mut writer = terminal;
-            let _ = write!(
-                writer,
-                "tomex: `tomex explain` and these words say what it means\n"
-            );
+            let _ = write!(writer, "{HINT}");
         }
     }
 }

@@ -37,14 +37,25 @@ const ALIKE: &str = "[[program]]\nname = \"loop\"\nfile = \"loop.bin\"\n[axes]\n
     div = [1, 2, 3, 4, 5, 6, 7, 8, 9, 10, 11, 12, 13, 14, 15, 16]\nload = [1, 2, 3, 4]\n\
     store = [1, 2, 3, 4, 5, 6, 7, 8, 9, 10, 11, 12, 13, 14, 15, 16]\n";
 
+/// The same with up to nine load stations: 2,304 configurations.
+fn longer_front(alloc: Global) -> Result<String, AllocError> {
+    ALIKE.replace(
+        alloc,
+        "load = [1, 2, 3, 4]",
+        "load = [1, 2, 3, 4, 5, 6, 7, 8, 9]",
+    )
+}
+
 /// The outcome of a line over these studies and programs.
 fn outcome_on<R: AllocGlobal + Threads + Wait + Sync>(
     rt: &R,
     line: &str,
 ) -> Result<Outcome, AllocError> {
     let study = eight_programs(rt.alloc())?;
+    let longer = longer_front(rt.alloc())?;
     let files = [
         ("one", ONE.as_bytes()),
+        ("longer", longer.as_bytes()),
         ("eight", study.as_bytes()),
         ("alike", ALIKE.as_bytes()),
         ("long.bin", LONG.as_slice()),
@@ -82,13 +93,16 @@ fn is_done<R: AllocGlobal + Threads + Wait + Sync>(
 /// A line, with the beginning and the end of its output.
 type Done = (&'static str, &'static str, &'static str);
 
-static REPORTS: [Done; 2] = [
+static REPORTS: [Done; 5] = [
     (
         "tomex run long.bin",
         "x0=00000000\n",
         "ebreak at 00000014 after 262144\n",
     ),
     ("tomex times one 0 long", "step,", "\n"),
+    ("tomex path one 0 long", "part,", "\n"),
+    ("tomex path one 0 long --by-pc", "pc,", "\n"),
+    ("tomex path one 0 long --links", "step,", "\n"),
 ];
 
 static STALLS: [Done; 2] = [
@@ -119,7 +133,7 @@ static RUN_BY_CYCLES: [Done; 2] = [
     ("tomex all one", "row,cost,", ",ebreak,x2=00010000,-\n"),
 ];
 
-static EXPLORED: [Done; 4] = [
+static EXPLORED: [Done; 6] = [
     (
         "tomex explore one --workers 2",
         "row,cost,",
@@ -128,7 +142,12 @@ static EXPLORED: [Done; 4] = [
     ("tomex front one", "row  cost  ", "\n"),
     ("tomex plot one", "<svg ", "</svg>\n"),
     ("tomex rows one", "row,cost,", ",1\n"),
+    ("tomex weights one", "row  cost  ", "\n"),
+    ("tomex page one", "<!DOCTYPE html>\n", "</html>\n"),
 ];
+
+/// Each entry of each list is asked for again, up to the greatest.
+static WEIGHED: [Done; 1] = [("tomex choices one", " ", "\n")];
 
 /// Fails unless each of these lines succeeds.
 fn are_done<R: Abort + AllocGlobal + Threads + Wait + Sync>(
@@ -162,6 +181,11 @@ fn long_runs_are_made_cycle_by_cycle(rt: HostRuntime) -> Result<(), Fail> {
 }
 
 #[test]
+fn long_runs_have_choices(rt: HostRuntime) -> Result<(), Fail> {
+    are_done(&rt, &WEIGHED)
+}
+
+#[test]
 fn long_runs_are_explored(rt: HostRuntime) -> Result<(), Fail> {
     are_done(&rt, &EXPLORED)
 }
@@ -182,6 +206,19 @@ static ROWS_OF_A_LONG_FRONT: [(&str, usize); 3] = [
     ("tomex worth alike 0 --workers 2", 35),
     ("tomex prices alike", 1026),
 ];
+
+/// 2,304 of these: `find` and `front --hull` print the names and each row, `weights` and `prices` the stated ones too;
+/// `compare` two tables, `choices` a line a list.
+static ROWS_OF_A_LONGER_FRONT: [(&str, usize); 5] = [
+    ("tomex find longer", 2305),
+    ("tomex front longer --hull", 2305),
+    ("tomex weights longer", 2306),
+    ("tomex compare longer loop loop", 51),
+    ("tomex choices longer", 15),
+];
+
+/// The same with all prices, each of which is asked for each of these rows.
+static PRICES_OF_A_LONGER_FRONT: [(&str, usize); 1] = [("tomex prices longer", 2306)];
 
 /// Fails unless each of these lines succeeds, with this number of lines in its output.
 fn are_counted<R: Abort + AllocGlobal + Threads + Wait + Sync>(
@@ -206,10 +243,25 @@ fn all_rows_of_long_fronts_are_not_refused(rt: HostRuntime) -> Result<(), Fail> 
     are_counted(&rt, &ROWS_OF_A_LONG_FRONT)
 }
 
-static DRAWN: [Done; 3] = [
+#[test]
+fn rows_of_longer_fronts_are_not_refused(rt: HostRuntime) -> Result<(), Fail> {
+    are_counted(&rt, &ROWS_OF_A_LONGER_FRONT)
+}
+
+#[test]
+fn prices_of_longer_fronts_are_not_refused(rt: HostRuntime) -> Result<(), Fail> {
+    are_counted(&rt, &PRICES_OF_A_LONGER_FRONT)
+}
+
+static DRAWN: [Done; 4] = [
     ("tomex plot alike", "<svg ", "</svg>\n"),
     ("tomex plot alike --rows", "<svg ", "</svg>\n"),
     ("tomex page alike", "<!DOCTYPE html>\n", "</html>\n"),
+    (
+        "tomex page longer --choices",
+        "<!DOCTYPE html>\n",
+        "</html>\n",
+    ),
 ];
 
 #[test]

@@ -6,7 +6,9 @@ use std::io::{IsTerminal, Read};
 use std::sync::atomic::{AtomicU64, Ordering};
 use std::test::Fail;
 use std::time::{Clock, Duration};
-use tomex_streams::{Files, HostFiles, Meter, ReadFault, TerminalMeter, bytes_within};
+use tomex_streams::{
+    Files, HINT, HostFiles, Meter, ReadFault, TerminalMeter, bytes_within, write_progress,
+};
 use tomex_tests_fixtures::heap_of;
 
 const TEXT: &[u8; 13] = b"0123456789abc";
@@ -94,5 +96,14 @@ fn a_pipe_gets_no_line(rt: HostRuntime) -> Result<(), Fail> {
     meter.hint();
     let after = written(&rt)?;
     assert!(rt; before.as_str() == after.as_str());
+    Ok(())
+}
+
+#[test]
+fn a_terminal_gets_these_lines(rt: HostRuntime) -> Result<(), Fail> {
+    let mut line = Vec::new(rt.alloc());
+    write_progress(&mut line, 3, 16_384)?;
+    assert!(rt; line.as_slice() == b"\r\x1b[K3 of 16384 configurations".as_slice());
+    assert!(rt; HINT == "tomex: `tomex explain` and these words say what it means\n");
     Ok(())
 }
