@@ -2,6 +2,8 @@
 #![tactic(auto)]
 
 #[cfg(test)]
+mod random_studies;
+#[cfg(test)]
 mod surveys;
 #[cfg(test)]
 mod weights;
