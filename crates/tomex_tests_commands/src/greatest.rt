@@ -93,17 +93,21 @@ fn is_done<R: AllocGlobal + Threads + Wait + Sync>(
 /// A line, with the beginning and the end of its output.
 type Done = (&'static str, &'static str, &'static str);
 
-static REPORTS: [Done; 5] = [
+static REPORTS: [Done; 2] = [
     (
         "tomex run long.bin",
         "x0=00000000\n",
         "ebreak at 00000014 after 262144\n",
     ),
     ("tomex times one 0 long", "step,", "\n"),
+];
+
+static PATHS: [Done; 2] = [
     ("tomex path one 0 long", "part,", "\n"),
     ("tomex path one 0 long --by-pc", "pc,", "\n"),
-    ("tomex path one 0 long --links", "step,", "\n"),
 ];
+
+static LINKS: [Done; 1] = [("tomex path one 0 long --links", "step,", "\n")];
 
 static STALLS: [Done; 2] = [
     ("tomex stalls one 0 long", "part,", "\n"),
@@ -133,7 +137,7 @@ static RUN_BY_CYCLES: [Done; 2] = [
     ("tomex all one", "row,cost,", ",ebreak,x2=00010000,-\n"),
 ];
 
-static EXPLORED: [Done; 6] = [
+static EXPLORED: [Done; 5] = [
     (
         "tomex explore one --workers 2",
         "row,cost,",
@@ -143,8 +147,9 @@ static EXPLORED: [Done; 6] = [
     ("tomex plot one", "<svg ", "</svg>\n"),
     ("tomex rows one", "row,cost,", ",1\n"),
     ("tomex weights one", "row  cost  ", "\n"),
-    ("tomex page one", "<!DOCTYPE html>\n", "</html>\n"),
 ];
+
+static PAGES: [Done; 1] = [("tomex page one", "<!DOCTYPE html>\n", "</html>\n")];
 
 /// Each entry of each list is asked for again, up to the greatest.
 static WEIGHED: [Done; 1] = [("tomex choices one", " ", "\n")];
@@ -178,6 +183,21 @@ fn long_runs_have_pictures(rt: HostRuntime) -> Result<(), Fail> {
 #[test]
 fn long_runs_are_made_cycle_by_cycle(rt: HostRuntime) -> Result<(), Fail> {
     are_done(&rt, &RUN_BY_CYCLES)
+}
+
+#[test]
+fn long_runs_have_paths(rt: HostRuntime) -> Result<(), Fail> {
+    are_done(&rt, &PATHS)
+}
+
+#[test]
+fn long_runs_have_links(rt: HostRuntime) -> Result<(), Fail> {
+    are_done(&rt, &LINKS)
+}
+
+#[test]
+fn long_runs_have_pages(rt: HostRuntime) -> Result<(), Fail> {
+    are_done(&rt, &PAGES)
 }
 
 #[test]
@@ -217,9 +237,6 @@ static ROWS_OF_A_LONGER_FRONT: [(&str, usize); 5] = [
     ("tomex choices longer", 15),
 ];
 
-/// The same with all prices, each of which is asked for each of these rows.
-static PRICES_OF_A_LONGER_FRONT: [(&str, usize); 1] = [("tomex prices longer", 2306)];
-
 /// Fails unless each of these lines succeeds, with this number of lines in its output.
 fn are_counted<R: Abort + AllocGlobal + Threads + Wait + Sync>(
     rt: &R,
@@ -248,23 +265,24 @@ fn rows_of_longer_fronts_are_not_refused(rt: HostRuntime) -> Result<(), Fail> {
     are_counted(&rt, &ROWS_OF_A_LONGER_FRONT)
 }
 
-#[test]
-fn prices_of_longer_fronts_are_not_refused(rt: HostRuntime) -> Result<(), Fail> {
-    are_counted(&rt, &PRICES_OF_A_LONGER_FRONT)
-}
-
-static DRAWN: [Done; 4] = [
+static DRAWN: [Done; 3] = [
     ("tomex plot alike", "<svg ", "</svg>\n"),
     ("tomex plot alike --rows", "<svg ", "</svg>\n"),
     ("tomex page alike", "<!DOCTYPE html>\n", "</html>\n"),
-    (
-        "tomex page longer --choices",
-        "<!DOCTYPE html>\n",
-        "</html>\n",
-    ),
 ];
+
+static DRAWN_WITH_CHOICES: [Done; 1] = [(
+    "tomex page longer --choices",
+    "<!DOCTYPE html>\n",
+    "</html>\n",
+)];
 
 #[test]
 fn long_fronts_are_drawn(rt: HostRuntime) -> Result<(), Fail> {
     are_done(&rt, &DRAWN)
+}
+
+#[test]
+fn longer_fronts_are_drawn_with_choices(rt: HostRuntime) -> Result<(), Fail> {
+    are_done(&rt, &DRAWN_WITH_CHOICES)
 }

@@ -81,7 +81,7 @@ fn prints<R: Abort + AllocGlobal + Threads + Wait + Sync>(
     Ok(())
 }
 
-/// The same without prices: all are on the front.
+/// As many configurations without prices: all are on the front.
 const FREE: &str = "[[program]]\nname = \"mul\"\nfile = \"mul.bin\"\nsize = 4096\n[axes]\n\
     div = [1, 2, 3, 4, 5, 6, 7, 8, 9, 10, 11, 12, 13, 14, 15, 16]\n\
     load = [1, 2, 3, 4, 5, 6, 7, 8, 9, 10, 11, 12, 13, 14, 15, 16]\n\
@@ -120,9 +120,21 @@ fn most_rows_are_counted(rt: HostRuntime) -> Result<(), Fail> {
     Ok(())
 }
 
+/// Half of them: what is asked of each pair takes its time.
+fn half(alloc: Global, study: &str) -> Result<String, AllocError> {
+    study.replace(alloc, "bru = [1, 2, 3, 4]", "bru = [1, 2]")
+}
+
 #[test]
-fn most_rows_have_choices(rt: HostRuntime) -> Result<(), Fail> {
-    counts(&rt, "tomex choices study", MOST, 15)
+fn many_rows_have_choices(rt: HostRuntime) -> Result<(), Fail> {
+    let study = half(rt.alloc(), MOST)?;
+    counts(&rt, "tomex choices study", study.as_str(), 15)
+}
+
+#[test]
+fn many_rows_are_all_on_a_hull(rt: HostRuntime) -> Result<(), Fail> {
+    let study = half(rt.alloc(), FREE)?;
+    counts(&rt, "tomex front study --hull", study.as_str(), 8193)
 }
 
 #[test]
