@@ -3,7 +3,7 @@
 
 ghost use Rattle.std.specs.Prelude.{◌≡◌, IfSome};
 
-use std::io;
+use std::fmt;
 use std::io::{IsTerminal, Stderr, Write};
 use std::sync::atomic::{AtomicU64, Ordering};
 use std::time::Clock;
@@ -14,9 +14,23 @@ const PAUSE: u64 = 100;
 /// The line on a terminal after a refusal.
 pub const HINT: &str = "tomex: `tomex explain` and these words say what it means\n";
 
-/// Writes how many configurations are finished, in place of the line before.
-pub fn write_progress(writer: &mut impl Write, done: u64, of: u64) -> io::Result<()> {
-    write!(writer, "\r\x1b[K{done} of {of} configurations")
+/// How many configurations are finished.
+#[derive(Clone, Copy, Debug)]
+pub struct Progress {
+    pub done: u64,
+    pub of: u64,
+}
+
+impl fmt::Display for Progress {
+    ghost use Rattle.std.specs.Fmt.{decimal};
+    ghost use Rattle.std.specs.Prelude.{◌++◌, Some, codes};
+
+    ghost output = { λ p. Some (decimal p.done ++ (codes " of " ++ (decimal p.of ++ codes " configurations"))) };
+
+    fn fmt<W: fmt::Write>(&self, f: &mut fmt::Formatter<W>) -> fmt::Result {
+        let Progress { done, of } = *self;
+        write!(f, "{done} of {of} configurations")
+    }
 }
 
 /// Shows progress. Several threads may call it at once.
@@ -102,8 +116,9 @@ impl<'a, R: Clock> Meter for TerminalMeter<'a, R> {
     fn show(&self, done: u64, of: u64) {
         if let Some(terminal) = &self.terminal {
             if self.is_due() {
+                let progress = Progress { done, of };
                 let mut writer = terminal;
-                let _ = write_progress(&mut writer, done, of);
+                let _ = write!(writer, "\r\x1b[K{progress}");
                 self.lines.fetch_add(1, Ordering::SeqCst);
             }
         }
