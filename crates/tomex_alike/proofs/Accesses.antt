@@ -1,50 +1,15 @@
 -- Older accesses that block a step have finished: seen by their numbers, back from the youngest.
 use Rattle.std.proofs.Common.{ℕ, zero, suc, ◌-◌, ◌<◌, ◌≤◌, ◌≡◌, ◌∙◌, true, false, arith, refl, sym, inl, inr}
-use Rattle.std.proofs.Common.{List, [], ◌∷◌, Option, Some, None, nat_lt, not, ◌||◌}
+use Rattle.std.proofs.Common.{List, [], ◌∷◌, nat_lt, not, ◌||◌}
 use Rattle.std.proofs.lemmas.Bool.{cases_Bool, cases_lt, and_parts, ltb-true, lt-ltb}
 use Rattle.std.proofs.lemmas.Bool.Decides.{same_from_decides}
-use Rattle.tomex_rvdec.specs.Operands.{pool_of}
-use Rattle.tomex_rvdec.specs.declared.op.Op.{Op}
-use Rattle.tomex_rvdec.specs.declared.op.Op.TheVariants.{Lb, Lh, Lw, Lbu, Lhu, Sb, Sh, Sw}
-use Rattle.tomex_rvdec.specs.declared.pool.PoolId.TheVariants.{Load, Store}
-use Rattle.tomex_rvexec.specs.Steps.{access_size, bytes_of, is_in, shares_byte}
-use Rattle.tomex_rvexec.specs.declared.step.ByteRange.{ByteRange}
 use Rattle.tomex_rvexec.specs.declared.step.Step.{Step}
 use Rattle.tomex_config.specs.Configuration.{Configuration}
 use Rattle.tomex_timing.specs.declared.times.Done.{Done}
 use Rattle.tomex_timing.specs.History.{is_memory}
 use Rattle.tomex_timing.specs.Recurrence.{are_conflicts_finished, conflicts}
+use Rattle.tomex_timing.proofs.Apart.{older_apart}
 use Rattle.tomex_alike.specs.Alike.{first_access, lateness, of_access, conflicts_with, LooksLike, IsSameStep}
-
--- what is neither a load nor a store touches no bytes, so it conflicts with nothing
-no_size : (op : Op) → (is_in Load (pool_of op) || is_in Store (pool_of op)) ≡ false → access_size op ≡ 0
-no_size Lb e = absurd (cc)
-no_size Lh e = absurd (cc)
-no_size Lw e = absurd (cc)
-no_size Lbu e = absurd (cc)
-no_size Lhu e = absurd (cc)
-no_size Sb e = absurd (cc)
-no_size Sh e = absurd (cc)
-no_size Sw e = absurd (cc)
-no_size _ e = refl
-
-no_bytes : (s : Step) → is_memory s ≡ false → bytes_of s ≡ None
-no_bytes s e = rw (no_size s.instr.op e) refl
-
-shares_none : (x : Option ByteRange) → shares_byte x None ≡ false
-shares_none None = refl
-shares_none (Some x) = refl
-
-older_apart : (a b : Step) → is_memory a ≡ false → conflicts a b ≡ false
-older_apart a b e = rw (no_bytes a e) refl
-
-pub later_apart : (a b : Step) → is_memory b ≡ false → conflicts a b ≡ false
-later_apart a b e = rw (no_bytes b e, shares_none (bytes_of a)) refl
-
--- a step that is no access waits for none
-pub no_access : (h : List Done) (s : Step) (t : ℕ) → is_memory s ≡ false → are_conflicts_finished h s t ≡ true
-no_access [] s t e = refl
-no_access (d ∷ h) s t e = rw (later_apart d.step s e) (no_access h s t e)
 
 pub skip_access : {A : Type 0} (f : Done → A) (none : A) (d : Done) (h : List Done) (i : ℕ) → is_memory d.step ≡ false
     → of_access f none (d ∷ h) i ≡ of_access f none h i

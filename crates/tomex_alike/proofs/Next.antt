@@ -16,13 +16,14 @@ use Rattle.tomex_timing.specs.Recurrence.{IsTimed, AreTimed}
 use Rattle.tomex_timing.specs.Station.{is_free, is_held}
 use Rattle.tomex_timing.proofs.Width.{none_later}
 use Rattle.tomex_timing.specs.Issue.{branch_finish, first_after_branches, first_issue, slot_from}
+use Rattle.tomex_timing.proofs.Orders.{last_address_rises}
 use Rattle.tomex_alike.specs.Alike.{first_access, lateness}
 use Rattle.tomex_alike.specs.Alike.{issued_in, starts_in, results_in, IsAsFar, AreAsFar, LooksLike, IsSameStep}
 use Rattle.tomex_alike.specs.Laws.{done}
 use Rattle.tomex_alike.proofs.Accesses.{skip_access, finish_of}
 use Rattle.tomex_alike.proofs.Issue.{free_alike, slot_low}
 use Rattle.tomex_alike.proofs.Shift.{count_far, eq_far, le_far, later_far, rest_far}
-use Rattle.tomex_alike.proofs.Start.{address_far, address_is, times_alike}
+use Rattle.tomex_alike.proofs.Start.{address_far, times_alike}
 
 -- if two issues are as far, so are the next slots, whether or not these are in the same cycle
 slot_case : (n m i j : ℕ) → IsAsFar n m i j → (b : Bool)
@@ -196,16 +197,10 @@ module _ (config : Configuration) (w : ℕ) (g h : List Done) (good : IsWithinLi
 
     -- the next access starts no earlier
     address_no_earlier : last_address g ≤ last_address (done x a ∷ g)
-    address_no_earlier = elim (cases_Bool (is_memory x)) [
-      | inl e ↦ let k = address_is g x a.issue a.address e p.address in rw e (omega (arith, k))
-      | inr e ↦ rw e (omega arith)
-    ]
+    address_no_earlier = last_address_rises config g x a p
 
     address_no_earlier' : last_address h ≤ last_address (done y b ∷ h)
-    address_no_earlier' = elim (cases_Bool (is_memory y)) [
-      | inl e ↦ let k = address_is h y b.issue b.address e q.address in rw e (omega (arith, k))
-      | inr e ↦ rw e (omega arith)
-    ]
+    address_no_earlier' = last_address_rises config h y b q
 
     access_far : IsAsFar (first_access config g) (first_access config h) (first_access config (done x a ∷ g))
         (first_access config (done y b ∷ h))

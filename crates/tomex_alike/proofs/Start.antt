@@ -22,7 +22,8 @@ use Rattle.tomex_timing.proofs.Splits.{address_agree}
 use Rattle.tomex_timing.proofs.Tests.{at_once, operation, cases_unit}
 use Rattle.tomex_timing.specs.Issue.{first_issue}
 use Rattle.tomex_alike.specs.Alike.{AreAsFar, IsAddressAsFar, IsAsFar, IsSameStep, LooksLike}
-use Rattle.tomex_alike.proofs.Accesses.{clear_alike, no_access}
+use Rattle.tomex_timing.proofs.Apart.{no_access}
+use Rattle.tomex_alike.proofs.Accesses.{clear_alike}
 use Rattle.tomex_alike.proofs.Issue.{issue_alike, station_alike}
 use Rattle.tomex_alike.proofs.Shift.{IsShifted, least_shift, lt_shift}
 

@@ -61,9 +61,12 @@ no_writer forms.Jump rd = not_zero rd
 no_writer forms.Fence rd = refl
 no_writer forms.Whole rd = refl
 
+pub never_zero : (s : Step) → is_number (step_dest s) 0 ≡ false
+never_zero s = no_writer (form_of s.instr.op) s.instr.rd
+
 pub writer_of_zero : (older : List Done) → writer_end older 0 ≡ 0
 writer_of_zero [] = refl
-writer_of_zero (d ∷ older) = rw (no_writer (form_of d.step.instr.op) d.step.instr.rd) (writer_of_zero older)
+writer_of_zero (d ∷ older) = rw (never_zero d.step) (writer_of_zero older)
 
 pub writer_end_by : (g : ℕ) (older : List Done) (r : ℕ) → AllBy g older → writer_end older r ≤ g
 writer_end_by g [] r h = omega arith

@@ -2,7 +2,7 @@
 -- width, a station; then for its operands, its address, older accesses, a unit.
 use Rattle.std.proofs.Common.{Bool, ℕ, ◌+◌, ◌-◌, ◌<◌, ◌≤◌, ◌≡◌, ◌∙◌, true, arith, refl, ap, sym, inl, inr, List, max}
 use Rattle.std.proofs.Common.{Option, Some, None, nat_lt, nat_le, not, ◌&&◌}
-use Rattle.std.proofs.lemmas.Bool.{cases_Bool, le-leb, lt-leb, leb-true, leb-false, lt-ltb, and_parts}
+use Rattle.std.proofs.lemmas.Bool.{cases_Bool, le-leb, lt-leb, leb-true, leb-false, lt-ltb}
 use Rattle.std.proofs.lemmas.Bool.Decides.{same_from_decides}
 use Rattle.tomex_config.specs.Configuration.{Configuration, IsWithinLimits}
 use Rattle.tomex_timing.specs.declared.need.Waits.{Waits}
@@ -14,7 +14,7 @@ use Rattle.tomex_timing.specs.Needs.{lacks_address, lacks_memory, lacks_unit, st
 use Rattle.tomex_timing.specs.Recurrence.{AreTimed, are_branches_finished, has_operands, are_conflicts_finished}
 use Rattle.tomex_timing.proofs.Bands.{band, is_in_band, none_of}
 use Rattle.tomex_timing.proofs.Splits.{slot_range, max_split, slot_split}
-use Rattle.tomex_timing.proofs.Splits.{branch_split, issue_split, after_split, ready_split}
+use Rattle.tomex_timing.proofs.Splits.{branch_split, after_split, ready_split}
 use Rattle.tomex_rvdec.specs.declared.pool.UnitId.{UnitId}
 use Rattle.tomex_rvexec.specs.Steps.{step_unit, j_of, k_of}
 use Rattle.tomex_rvexec.specs.declared.step.Step.{Step}
@@ -24,8 +24,7 @@ use Rattle.tomex_timing.specs.declared.next.Next.{Next}
 use Rattle.tomex_timing.specs.Waiting.{operands_from, waits_by}
 use Rattle.tomex_timing.specs.Recent.{ready_from}
 use Rattle.tomex_timing.proofs.Bools.{and_but, and_swap, and_true}
-use Rattle.tomex_timing.proofs.NextTimed.{ComesNext, HasMarks, Runs, from_is, has_marks, next_timed, start_marked}
-use Rattle.tomex_timing.proofs.Width.{issue_from as issue_after}
+use Rattle.tomex_timing.proofs.NextTimed.{ComesNext, HasMarks, Runs, first_issued, from_is, has_marks, start_marked}
 
 abbrev waits_made : (branch width station operand address memory unit bus : ℕ) → Waits
 waits_made b w s o a m u n =
@@ -159,11 +158,10 @@ module _ (h : List Done) (d : Done) where
 
 module _ {config : Configuration} {h : List Done} {held : Held} {s : Step} {next : Next}
     (c : ComesNext config h held s next) where
-  waits_unit : (unit : Option UnitId) → Runs c unit → last_issue h ≤ next.at.issue
-      → first_issue config h ≤ next.at.issue
+  waits_unit : (unit : Option UnitId) → Runs c unit → first_issue config h ≤ next.at.issue
       → waits_at h (record { step = s; at = next.at }) next.marks
       ≡ waits_of config h (record { step = s; at = next.at })
-  waits_unit None run late l =
+  waits_unit None run l =
       let d : Done = record { step = s; at = next.at } in
       let none = λ (p : ℕ → Bool). none_of p (next.at.issue + 1) next.at.start (omega (arith, run.start)) in
       same_waits _ _ (sym (branch_waits config h d l))
@@ -173,9 +171,9 @@ module _ {config : Configuration} {h : List Done} {held : Held} {s : Step} {next
       (omega (arith, run.operands, run.ready, none (lacks_address h d)))
       (omega (arith, run.ready, run.clear, none (lacks_memory h d)))
       (omega (arith, run.start, run.clear, none (lacks_unit h d))) (omega arith)
-  waits_unit (Some u) run late l =
+  waits_unit (Some u) run l =
       let d : Done = record { step = s; at = next.at } in
-      let marks : HasMarks h s next = has_marks c u run late in
+      let marks : HasMarks c.from h s next = has_marks c u run (omega (arith, c.soon)) in
       let clear : IsClear h d next.marks.clear = λ t. rw marks.ready at (marks.clear t) in
       let order : ready_at h d ≤ next.marks.clear = rw marks.ready at marks.order in
       let start : next.marks.clear ≤ next.at.start = start_marked c u run in
@@ -190,9 +188,4 @@ module _ {config : Configuration} {h : List Done} {held : Held} {s : Step} {next
   -- what is counted of the next step's waits is what the definition says
   pub waits_are : waits_by held.latest next.marks next.at ≡ waits_of config h (record { step = s; at = next.at })
   waits_are =
-      let is = next_timed c in
-      let late : last_issue h ≤ next.at.issue = issue_after config h s next.at.issue is.issue.0 in
-      let l : first_issue config h ≤ next.at.issue =
-      leb-true (first_issue config h) next.at.issue (issue_split config h next.at.issue c.good c.timed
-      ∙ (and_parts _ _ is.issue.0).0) in
-      rw (c.shown.kept.issue, c.shown.kept.branch) (waits_unit (step_unit s) c.by.run late l)
+      rw (c.shown.kept.issue, c.shown.kept.branch) (waits_unit (step_unit s) c.by.run (first_issued c))

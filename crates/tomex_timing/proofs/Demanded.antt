@@ -23,14 +23,14 @@ use Rattle.tomex_timing.specs.declared.waiting.Taken.{Taken}
 use Rattle.tomex_timing.specs.declared.recent.Facts.{Facts}
 use Rattle.tomex_timing.specs.Ahead.{Held, IsHeldAfter}
 use Rattle.tomex_timing.specs.Demands.{AreDemands, demand_after, demand_from, demand_of, demands_after, demands_of}
-use Rattle.tomex_timing.specs.Demands.{no_demand, nothing_asked, stations_asked, units_asked}
+use Rattle.tomex_timing.specs.Demands.{no_demand, nothing_asked, stations_asked, units_asked, with_total}
 use Rattle.tomex_timing.specs.Needs.{no_need, peak, stalls}
 use Rattle.tomex_timing.specs.History.{greatest_end}
 use Rattle.tomex_timing.specs.Search.{history}
 use Rattle.tomex_timing.specs.Waiting.{need_after, needs_after, nothing_needed, stations_after, units_after, taken_from}
 use Rattle.tomex_timing.specs.Waiting.{waits_by}
 use Rattle.tomex_timing.proofs.Needed.{needs_none}
-use Rattle.tomex_timing.proofs.Summary.{IsSummary}
+use Rattle.tomex_timing.proofs.Summary.{IsShown}
 use Rattle.tomex_timing.proofs.Turns.{IsTurn, held_turn, needs_turn}
 
 -- some wait if some waited before, or the step does
@@ -80,12 +80,9 @@ pub demands_none : (config : Configuration) → AreDemands config [] nothing_ask
 demands_none config = record { needs = nothing_needed; are = needs_none config; same = refl }
 
 -- the demands of a run's steps so far are those that are noted, with the greatest end so far as the total
-abbrev pub with_total : ℕ → Demands → Demands
-with_total total demands = record demands { total = total }
-
 module _ {config : Configuration} {steps : List Step} {i : ℕ} {x : Step} {f : Facts} {held : Held} {next : Next}
     (turn : IsTurn config steps i x f held next) where
-  held_demands : (demands : Demands)
+  pub held_demands : (demands : Demands)
       → AreDemands config (history config (take i steps)) (with_total held.latest.end demands)
       → AreDemands config (history config (take (i + 1) steps))
       (with_total (max next.at.end held.latest.end) (demands_after f (waits_by held.latest next.marks next.at)
@@ -106,7 +103,7 @@ module _ {config : Configuration} {steps : List Step} {i : ℕ} {x : Step} {f : 
   pub asked_turn : {demands : Demands} {after : Held} {noted : Demands}
       → AreDemands config (history config (take i steps)) (with_total held.latest.end demands)
       → IsHeldAfter f next.at held after → noted ≡ demands_after f (waits_by held.latest next.marks next.at)
-      (taken_from held.latest next) demands.total demands → IsSummary (history config (take (i + 1) steps)) after
+      (taken_from held.latest next) demands.total demands → IsShown (history config (take (i + 1) steps)) after
       × AreDemands config (history config (take (i + 1) steps)) (with_total after.latest.end noted)
   asked_turn {demands} are is_after noted =
       (held_turn turn is_after, rw (noted, is_after.latest) (held_demands demands are))

@@ -19,6 +19,7 @@ pub mod Bools
 pub mod Splits
 pub mod Bands
 pub mod Accounts
+pub mod Apart
 pub mod Summary
 pub mod NextTimed
 pub mod Charges

@@ -26,7 +26,7 @@ use Rattle.tomex_timing.specs.Recent.{facts_of}
 use Rattle.tomex_timing.proofs.Summary.{issued_kept}
 use Rattle.tomex_timing.proofs.Limits.{unit_is}
 use Rattle.tomex_rvdec.proofs.Places.{pool_low, unit_low}
-use Rattle.tomex_timing.proofs.NextTimed.{ComesNext, next_timed}
+use Rattle.tomex_timing.proofs.NextTimed.{ComesNext, first_issued, next_timed}
 use Rattle.tomex_timing.proofs.Orders.{dest_unit, reach}
 use Rattle.tomex_timing.proofs.Tests.{cases_unit, operation, unit_of}
 use Rattle.tomex_timing.proofs.Width.{issue_from}
@@ -98,7 +98,7 @@ module _ {config : Configuration} {h : List Done} {held : Held} {s : Step} {next
         let of : step_unit s ≡ Some unit = unit_is unit (step_unit s) e in
         let after = (operation of (next_timed c)).can.after_issue in
         let run = rw of at c.by.run in
-        rw (e, run.units, c.shown.starts unit next.at.start (omega (arith, late, after))) refl
+        rw (e, run.units, c.shown.holds.starts unit next.at.start (omega (arith, c.soon, first_issued c, after))) refl
     | inr e ↦ rw e refl
   ]
 
@@ -115,7 +115,8 @@ module _ {config : Configuration} {h : List Done} {held : Held} {s : Step} {next
       let reaches : InReach (greatest_end h) next.at =
       reach config (record { step = s; at = next.at }) h c.good (next_timed c, c.timed) in
       let after = (operation of (next_timed c)).can.after_issue in
-      rw (end.1, c.shown.results next.at.end (omega (arith, late, after))) refl
+      let later : c.from < next.at.end = omega (arith, c.soon, first_issued c, after, reaches.start) in
+      rw (end.1, c.shown.holds.results next.at.end later) refl
 
   -- what is counted as taken is what is taken
   pub taken_is : (part : Part) → taken_for part (record { step = s; at = next.at }) (taken_from held.latest next)

@@ -1,7 +1,7 @@
 -- The times of a step are in order.
 use Rattle.std.proofs.Common.{ℕ, ◌≤◌, ◌≡◌, ◌∙◌, true, arith, refl, inl, inr, List, [], ◌∷◌, ◌++◌, Option, Some, None}
 use Rattle.std.specs.Prelude.{is_some}
-use Rattle.std.proofs.lemmas.Bool.{and_parts, MatchBool-at_true}
+use Rattle.std.proofs.lemmas.Bool.{and_parts, cases_Bool, MatchBool-at_true}
 use Rattle.std.proofs.lemmas.Bool.Decides.{nat_tests}
 use Rattle.tomex_rvdec.specs.declared.pool.PoolId.{PoolId}
 use Rattle.tomex_rvexec.specs.declared.step.ByteRange.{ByteRange}
@@ -12,7 +12,7 @@ use Rattle.tomex_rvexec.proofs.Fields.{dest_needs_pool, unit_with_pool}
 use Rattle.tomex_config.specs.Configuration.{Configuration}
 use Rattle.tomex_timing.specs.declared.times.Done.{Done}
 use Rattle.tomex_timing.specs.declared.times.Times.{Times}
-use Rattle.tomex_timing.specs.History.{cycle_of, greatest_end}
+use Rattle.tomex_timing.specs.History.{cycle_of, greatest_end, is_memory, last_address}
 use Rattle.tomex_timing.specs.Laws.{AccessesConflict, AddressesRise, ConflictsAreFinished, ResultsComeLater}
 use Rattle.tomex_timing.specs.Laws.{StartsComeLater, TimesAreInReach}
 use Rattle.tomex_timing.specs.Recurrence.{AreTimed, IsLeast, IsTimed, are_conflicts_finished, can_address, can_end}
@@ -74,6 +74,14 @@ address_rises config d older timed memory =
     MatchBool-at_true _ _ memory timed.address in
     let can = can_address_is older d.step d.at.issue (cycle_of d.at.address) least.0 in
     (can.after_issue, can.in_order)
+
+-- so the last address comes no earlier after one more step
+pub last_address_rises : (config : Configuration) (h : List Done) (s : Step) (at : Times) → IsTimed config h s at
+    → last_address h ≤ last_address (record { step = s; at = at } ∷ h)
+last_address_rises config h s at timed = elim (cases_Bool (is_memory s)) [
+  | inl e ↦ rw e (omega (arith, (address_rises config (record { step = s; at = at }) h timed e).1))
+  | inr e ↦ rw e (omega arith)
+]
 
 share_from : (x y : Option ByteRange) (a : ℕ) → is_among x a ≡ true → is_among y a ≡ true → shares_byte x y ≡ true
 share_from None y a e f = absurd (cc)

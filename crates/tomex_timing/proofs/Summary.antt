@@ -1,48 +1,36 @@
--- What the evaluator holds shows a history: the latest cycles are those of the history, and each question about a cycle
--- after its last issue is answered as over all its steps.
+-- What the evaluator holds shows a history from a cycle on: before the first step, and when a step is kept.
 use Rattle.std.proofs.Common.{ℕ, suc, ◌+◌, ◌<◌, ◌≤◌, ◌≡◌, ◌∙◌, Bool, true, false, cond, arith, refl, List, [], ◌∷◌}
 use Rattle.std.proofs.Common.{Option, Some, None, ap, inl, inr, sym, length, IfSome}
-use Rattle.std.specs.Prelude.{◌==◌, count_by, slice_index, length, nat_lt, nat_le, not, ◌&&◌, is_some}
+use Rattle.std.specs.Prelude.{◌==◌, count_by, slice_index, length, nat_lt, nat_le, not, ◌&&◌}
 use Rattle.std.proofs.lemmas.List.{get_or-replicate, get_or-set_same, get_or-set_other, length-set}
 use Rattle.std.proofs.lemmas.List.Sums.{sum_by-cons}
 use Rattle.std.proofs.lemmas.Bool.{cases_Bool, cases_eq, cases_order, eq-eqb, ne_eqb, MatchBool-at_true}
 use Rattle.std.proofs.lemmas.Bool.{MatchBool-at_false, and_right, lt-ltb, lt-leb, ltb-true}
-use Rattle.tomex_rvexec.specs.Steps.{step_dest, is_branch, step_pool, step_unit, is_in, is_number}
+use Rattle.tomex_rvexec.specs.Steps.{step_dest, is_branch, step_pool, is_in, is_number}
 use Rattle.tomex_rvexec.specs.declared.step.Operand.{Operand}
 use Rattle.tomex_rvexec.specs.declared.step.Step.{Step}
 use Rattle.tomex_config.specs.Configuration.{Configuration, IsWithinLimits}
 use Rattle.tomex_timing.specs.declared.times.Done.{Done}
 use Rattle.tomex_timing.specs.declared.times.Times.{Times}
 use Rattle.tomex_timing.specs.declared.recent.Latest.{Latest}
-use Rattle.tomex_timing.specs.Ahead.{Held, IsSettledBy, end_in, is_past, nothing_held}
-use Rattle.tomex_timing.specs.History.{is_memory, cycle_of, writer_end, source_end, last_issue, last_address}
-use Rattle.tomex_timing.specs.History.{greatest_end, is_of}
+use Rattle.tomex_timing.specs.Ahead.{Held, IsSettledBy, end_in, nothing_held}
+use Rattle.tomex_timing.specs.History.{is_memory, cycle_of, writer_end, source_end, last_issue}
+use Rattle.tomex_timing.specs.History.{greatest_end}
 use Rattle.tomex_timing.specs.Issue.{branch_finish}
-use Rattle.tomex_timing.specs.Recurrence.{IsLeast, IsTimed, AreTimed, can_address, are_conflicts_finished}
+use Rattle.tomex_timing.specs.Recurrence.{IsLeast, IsTimed, AreTimed, can_address}
 use Rattle.tomex_timing.specs.Recent.{facts_of, register_of, written_by, addressed_by, latest_after}
+use Rattle.tomex_timing.specs.Summary.{HoldsFrom, IsKept, IsSummary}
 use Rattle.tomex_timing.proofs.Search.{address_pos}
 use Rattle.tomex_timing.proofs.AfterEnd.{AllBy, IsDoneBy, all_pass, starts_none, results_none, last_address_by}
 use Rattle.tomex_timing.proofs.AfterEnd.{last_issue_by, writer_end_by, writer_of_zero}
 use Rattle.tomex_timing.proofs.Width.{issue_from, none_later}
-use Rattle.std.specs.List.{list_all, All}
 use Rattle.std.proofs.lemmas.List.Elements.{All-nil}
 use Rattle.tomex_rvdec.specs.Parts.{place_of_unit}
 use Rattle.tomex_rvdec.specs.declared.pool.PoolId.{PoolId}
-use Rattle.tomex_rvdec.specs.declared.pool.UnitId.{UnitId}
-use Rattle.tomex_reservations.specs.Reservations.{bus_line, end_at, station_place, taken_at}
+use Rattle.tomex_reservations.specs.Reservations.{end_at, station_place, taken_at}
 use Rattle.tomex_timing.specs.Station.{is_held, is_free}
 use Rattle.tomex_timing.proofs.Bound.{timed_by}
 use Rattle.tomex_rvdec.proofs.Places.{pool_low, unit_low}
-
--- what is kept is of this history
-pub record IsKept (h : List Done) (latest : Latest) : Type 0 where
-  pub ends : (r : ℕ) → r < 32 → slice_index latest.ends r ≡ writer_end h r
-  pub count : length latest.ends ≡ 32
-  pub issue : latest.issue ≡ last_issue h
-  pub issued : latest.issued ≡ count_by (λ d. d.at.issue == last_issue h) h
-  pub branch : latest.branch ≡ branch_finish h
-  pub address : latest.address ≡ last_address h
-  pub end : latest.end ≡ greatest_end h
 
 pub branch_finish_by : (g : ℕ) (h : List Done) → AllBy g h → branch_finish h ≤ g
 branch_finish_by g [] h = omega arith
@@ -73,13 +61,13 @@ writer_kept h d (Some q) end written e f len same small r l = elim (cases_eq q r
       rw (e, b) (get_or-set_other written q r end 0 (λ (z : r ≡ q). n (sym z)) ∙ same r l)
 ]
 
-address_kept : (b : Bool) (a : Option ℕ) (n : ℕ) → (b ≡ true → 0 < cycle_of a) → (b ≡ false → a ≡ None)
+pub address_kept : (b : Bool) (a : Option ℕ) (n : ℕ) → (b ≡ true → 0 < cycle_of a) → (b ≡ false → a ≡ None)
     → addressed_by a n ≡ cond b (cycle_of a) n
 address_kept true None n pos none = absurd (let k : 0 < cycle_of None = pos refl in omega arith)
 address_kept true (Some t) n pos none = refl
 address_kept false a n pos none = rw (none refl) refl
 
-length-written_by : (dest : Option ℕ) (end : ℕ) (written : List ℕ)
+pub length-written_by : (dest : Option ℕ) (end : ℕ) (written : List ℕ)
     → length (written_by dest end written) ≡ length written
 length-written_by None end written = refl
 length-written_by (Some r) end written = length-set written r end
@@ -122,27 +110,30 @@ kept_on config h s at latest small before kept timed =
       end = rw kept.end refl;
     }
 
-pub record IsSummary (h : List Done) (held : Held) : Type 0 where
-  pub kept : IsKept h held.latest
-  pub base : held.table.base ≤ last_issue h
-  pub starts : (unit : UnitId) (t : ℕ) → last_issue h < t
-      → taken_at held.table (place_of_unit unit) t ≡ count_by (λ d. is_of unit (step_unit d.step) && d.at.start == t) h
-  pub results : (t : ℕ) → last_issue h < t
-      → taken_at held.table bus_line t ≡ count_by (λ d. is_some (step_dest d.step) && d.at.end == t) h
-  -- a station is free in a cycle if all steps that had it ended before
-  pub stations : (pool : PoolId) (t n : ℕ) → 0 < t → n < 16 → is_free pool h t n ≡ nat_lt (end_at held.ends pool n) t
-  pub size : length held.ends ≡ 96
-  pub conflicts : (s : Step) (t : ℕ) → last_issue h < t
-      → list_all (is_past (facts_of s) t) held.accesses ≡ are_conflicts_finished h s t
-  pub finishes : All (λ a. a.finish ≤ greatest_end h) held.accesses
-
 nothing_at : (line t : ℕ) → line < 6 → taken_at (record { base = 0; slots = [] }) line t ≡ 0
 nothing_at line t l = get_or-replicate 8 line 0 0 (omega arith)
 
 place_low : (pool : PoolId) (n : ℕ) → n < 16 → station_place pool n < 96
 place_low pool n l = omega (arith, pool_low pool)
 
-pub empty_summary : IsSummary [] nothing_held
+-- it shows the history exactly, from its last issue on
+abbrev pub IsShown : List Done → Held → Type 0
+IsShown h held = IsSummary (last_issue h) h held
+
+-- what it shows from a cycle on it shows from a later one on
+pub holds_later : (from to : ℕ) (h : List Done) (held : Held) → from ≤ to
+    → HoldsFrom from h held.table held.ends held.accesses → HoldsFrom to h held.table held.ends held.accesses
+holds_later from to h held l holds = record {
+  base = omega (arith, holds.base);
+  starts = λ unit t m. holds.starts unit t (omega arith);
+  results = λ t m. holds.results t (omega arith);
+  stations = λ pool t n pos m k. holds.stations pool t n pos (omega arith) k;
+  size = holds.size;
+  conflicts = λ s t m k. holds.conflicts s t (omega arith) k;
+  finishes = holds.finishes;
+}
+
+pub empty_summary : IsShown [] nothing_held
 empty_summary = record {
   kept = record {
     ends = λ r l. get_or-replicate 32 r 0 0 l;
@@ -153,14 +144,16 @@ empty_summary = record {
     address = refl;
     end = refl;
   };
-  base = omega arith;
-  starts = λ unit t l. nothing_at (place_of_unit unit) t (omega (arith, unit_low unit));
-  results = λ t l. nothing_at 5 t (omega arith);
-  stations = λ pool t n pos l. sym (rw (get_or-replicate {A = ℕ} 96 (station_place pool n) 0 0 (place_low pool n l))
-      (lt-ltb 0 t pos));
-  size = refl;
-  conflicts = λ s t l. refl;
-  finishes = All-nil (λ a. a.finish ≤ 0);
+  holds = record {
+    base = omega arith;
+    starts = λ unit t l. nothing_at (place_of_unit unit) t (omega (arith, unit_low unit));
+    results = λ t l. nothing_at 5 t (omega arith);
+    stations = λ pool t n pos from l.
+        sym (rw (get_or-replicate {A = ℕ} 96 (station_place pool n) 0 0 (place_low pool n l)) (lt-ltb 0 t pos));
+    size = refl;
+    conflicts = λ s t l m. refl;
+    finishes = All-nil (λ a. a.finish ≤ 0);
+  };
 }
 
 free_after : (pool : PoolId) (g t n : ℕ) (h : List Done) → AllBy g h → g < t → is_free pool h t n ≡ true
@@ -172,24 +165,25 @@ free_after pool g t n h by l =
 
 -- so nothing that is held does
 pub settled_by : (config : Configuration) (h : List Done) (held : Held) → IsWithinLimits config → AreTimed config h
-    → IsSummary h held → IsSettledBy held
+    → IsShown h held → IsSettledBy held
 settled_by config h held good timed shown =
     let by : AllBy (greatest_end h) h = timed_by config h good timed in
     let e : held.latest.end ≡ greatest_end h = shown.kept.end in
     let i : last_issue h ≤ greatest_end h = last_issue_by (greatest_end h) h by in
     let kept : IsKept h held.latest = shown.kept in
     record {
-      base = rw shown.kept.issue shown.base;
-      starts = λ unit t l. shown.starts unit t (omega arith) ∙ starts_none h unit (greatest_end h) t by (omega arith);
-      results = λ t l. shown.results t (omega arith) ∙ results_none h (greatest_end h) t by (omega arith);
+      base = rw shown.kept.issue shown.holds.base;
+      starts = λ unit t l.
+          shown.holds.starts unit t (omega arith) ∙ starts_none h unit (greatest_end h) t by (omega arith);
+      results = λ t l. shown.holds.results t (omega arith) ∙ results_none h (greatest_end h) t by (omega arith);
       stations = λ pool n l.
           let free : nat_lt (end_at held.ends pool n) (greatest_end h + 1) ≡ true =
-          sym (shown.stations pool (greatest_end h + 1) n (omega arith) l)
+          sym (shown.holds.stations pool (greatest_end h + 1) n (omega arith) (omega arith) l)
           ∙ free_after pool (greatest_end h) (greatest_end h + 1) n h by (omega arith) in
           let low : end_at held.ends pool n < greatest_end h + 1 =
           ltb-true (end_at held.ends pool n) (greatest_end h + 1) free in
           omega arith;
-      finishes = rw e shown.finishes;
+      finishes = rw e shown.holds.finishes;
       ends = λ r l. rw (kept.ends r l, e) (writer_end_by (greatest_end h) h r by);
       zero = shown.kept.ends 0 (omega arith) ∙ writer_of_zero h;
       issue = rw (kept.issue, e) i;

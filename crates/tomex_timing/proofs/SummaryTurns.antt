@@ -22,18 +22,17 @@ use Rattle.tomex_timing.specs.declared.times.Times.{Times}
 use Rattle.tomex_timing.specs.declared.recent.Facts.{Facts}
 use Rattle.tomex_reservations.specs.Reservations.{end_at, station_place}
 use Rattle.tomex_timing.specs.Ahead.{Held, IsHeldAfter, TakesStation, accesses_with, ends_with, is_past, one}
-use Rattle.tomex_timing.specs.History.{is_of, last_issue, greatest_end}
+use Rattle.tomex_timing.specs.History.{is_of, greatest_end}
 use Rattle.tomex_timing.specs.Laws.{InReach}
 use Rattle.tomex_timing.specs.Recurrence.{are_conflicts_finished}
 use Rattle.tomex_timing.specs.Station.{is_free}
 use Rattle.tomex_timing.specs.Recent.{facts_of}
 use Rattle.tomex_timing.proofs.Bools.{and_assoc, and_swap, and_true}
-use Rattle.tomex_timing.proofs.Summary.{kept_on, IsSummary}
+use Rattle.tomex_timing.proofs.Summary.{IsShown, kept_on}
 use Rattle.tomex_timing.proofs.Limits.{stations_high}
 use Rattle.tomex_rvdec.proofs.Places.{pool_low}
-use Rattle.tomex_timing.proofs.NextTimed.{ComesNext, next_timed}
-use Rattle.tomex_timing.proofs.Orders.{dest_unit, reach}
-use Rattle.tomex_timing.proofs.Width.{issue_from}
+use Rattle.tomex_timing.proofs.NextTimed.{ComesNext, first_issued, next_timed}
+use Rattle.tomex_timing.proofs.Orders.{dest_unit, last_address_rises, reach}
 
 -- the stations: the step takes one that had ended
 place_apart : (p q : PoolId) (m n : ℕ) → m < 16 → n < 16 → ((place_of_pool p == place_of_pool q) && (m == n)) ≡ false
@@ -150,34 +149,40 @@ bus_same s b = elim (cases_Bool (is_some (step_dest s))) [
 module _ {config : Configuration} {h : List Done} {held : Held} {s : Step} {next : Next}
     (c : ComesNext config h held s next) where
   pub shown_turn : {after : Held} → IsHeldAfter (facts_of s) next.at held after
-      → IsSummary (record { step = s; at = next.at } ∷ h) after
+      → IsShown (record { step = s; at = next.at } ∷ h) after
   shown_turn is_after =
       let is = next_timed c in
-      let l : last_issue h ≤ next.at.issue = issue_from config h s next.at.issue is.issue.0 in
+      let l : c.from ≤ next.at.issue = omega (arith, c.soon, first_issued c) in
+      let rises = last_address_rises config h s next.at is in
       let r : InReach (greatest_end h) next.at =
       reach config (record { step = s; at = next.at }) h c.good (is, c.timed) in
-      let shown : IsSummary h held = c.shown in
+      let shown = c.shown.holds in
       let tabled = is_after.table in
       record {
-        kept = rw is_after.latest (kept_on config h s next.at held.latest c.range.dest c.timed shown.kept is);
-        base = tabled.base;
-        starts = λ unit t m. tabled.starts unit t (omega arith) ∙ rw (
-          shown.starts unit t (omega arith),
-          sum_by-cons (λ d. one (is_of unit (step_unit d.step) && d.at.start == t))
-              (record { step = s; at = next.at }) h,
-        ) (omega arith);
-        results = λ t m. tabled.results t (omega arith) ∙ rw (
-          bus_same s (next.at.end == t),
-          shown.results t (omega arith),
-          sum_by-cons (λ d. one (is_some (step_dest d.step) && d.at.end == t)) (record { step = s; at = next.at }) h,
-        ) (omega arith);
-        stations = λ pool t n pos m. rw is_after.ends
-            (station_turn pool (step_pool s) next.at.station held.ends (is_free pool h t n) next.at.issue next.at.end
-            t n r.issue m shown.size (had_ended config held.ends (step_pool s) next.marks.from next.at.issue
-            next.at.station (λ p. stations_high config p c.good) c.by.issue) (shown.stations pool t n pos m));
-        size = rw is_after.ends (size_after (step_pool s) next.at.station next.at.end held.ends shown.size);
-        conflicts = λ y t m. rw is_after.accesses (accesses_turn y s next.at h (bytes_of s) held.accesses t refl m
-            (shown.conflicts y t (omega arith)));
-        finishes = rw is_after.accesses (finishes_turn (facts_of s) next.at (bytes_of s) (greatest_end h) held.accesses
-            r.finish shown.finishes);
+        kept = rw is_after.latest
+            (kept_on config h s next.at held.latest c.range.dest c.timed c.shown.kept is);
+        holds = record {
+          base = tabled.base;
+          starts = λ unit t m. tabled.starts unit t (omega arith) ∙ rw (
+            shown.starts unit t (omega arith),
+            sum_by-cons (λ d. one (is_of unit (step_unit d.step) && d.at.start == t))
+                (record { step = s; at = next.at }) h,
+          ) (omega arith);
+          results = λ t m. tabled.results t (omega arith) ∙ rw (
+            bus_same s (next.at.end == t),
+            shown.results t (omega arith),
+            sum_by-cons (λ d. one (is_some (step_dest d.step) && d.at.end == t)) (record { step = s; at = next.at }) h,
+          ) (omega arith);
+          stations = λ pool t n pos m k. rw is_after.ends
+              (station_turn pool (step_pool s) next.at.station held.ends (is_free pool h t n) next.at.issue next.at.end
+              t n r.issue k shown.size (had_ended config held.ends (step_pool s) next.marks.from next.at.issue
+              next.at.station (λ p. stations_high config p c.good) c.by.issue)
+              (shown.stations pool t n pos (omega arith) k));
+          size = rw is_after.ends
+              (size_after (step_pool s) next.at.station next.at.end held.ends shown.size);
+          conflicts = λ y t m k. rw is_after.accesses (accesses_turn y s next.at h (bytes_of s) held.accesses t refl
+              (omega arith) (shown.conflicts y t (omega arith) (omega arith)));
+          finishes = rw is_after.accesses (finishes_turn (facts_of s) next.at (bytes_of s) (greatest_end h)
+              held.accesses r.finish shown.finishes);
+        };
       }

@@ -15,40 +15,44 @@ use Rattle.tomex_config.specs.Configuration.{Configuration, IsWithinLimits, opti
 use Rattle.tomex_reservations.specs.Reservations.{IsFirst, Reserved, bus_line, is_left, taken_at}
 use Rattle.tomex_timing.specs.declared.needs.Needs.{Needs}
 use Rattle.tomex_timing.specs.declared.next.Next.{Next}
+use Rattle.tomex_timing.specs.declared.times.Done.{Done}
 use Rattle.tomex_timing.specs.declared.need.Waits.{Waits}
 use Rattle.tomex_timing.specs.declared.waiting.Taken.{Taken}
 use Rattle.tomex_timing.specs.declared.recent.Facts.{Facts}
 use Rattle.tomex_timing.specs.Ahead.{CanKeep, Held, IsHeldAfter, IsIdle, IsNextBy, IsReady, RunsOn, TakesBus}
 use Rattle.tomex_timing.specs.Ahead.{TakesStation, end_in}
 use Rattle.tomex_timing.specs.History.{last_issue, greatest_end}
+use Rattle.tomex_timing.specs.Issue.{first_issue}
 use Rattle.tomex_timing.specs.Laws.{InReach}
 use Rattle.tomex_timing.specs.Needs.{AreNeeds, waits_in, waits_of}
 use Rattle.tomex_timing.specs.Recurrence.{IsTimed}
 use Rattle.tomex_timing.specs.Search.{times_of, history, times_in}
 use Rattle.tomex_timing.specs.Waiting.{AreWithin, IsWithin, needs_after, taken_from, waits_by}
 use Rattle.tomex_timing.specs.Recent.{AreFacts, AreInRange, facts_of}
+use Rattle.tomex_timing.specs.Summary.{IsKept, IsSummary}
 use Rattle.tomex_timing.proofs.Charges.{waits_are}
 use Rattle.tomex_timing.proofs.Histories.{are_timed, history_more, times_more, history_bound, length-history}
 use Rattle.tomex_timing.proofs.Limits.{buses_high, stations_high, units_high}
 use Rattle.tomex_timing.proofs.Needed.{needs_more, taken_is}
-use Rattle.tomex_timing.proofs.NextTimed.{ComesNext, next_timed}
+use Rattle.tomex_timing.proofs.NextTimed.{ComesNext, first_issued, next_timed}
 use Rattle.tomex_timing.proofs.Orders.{reach, start_after}
 use Rattle.tomex_timing.proofs.Search.{times_are, times_same}
-use Rattle.tomex_timing.proofs.Summary.{IsSummary, settled_by}
+use Rattle.tomex_timing.proofs.Splits.{slot_range}
+use Rattle.tomex_timing.proofs.Summary.{IsShown, settled_by}
 use Rattle.tomex_timing.proofs.SummaryTurns.{shown_turn}
 use Rattle.tomex_timing.proofs.WaitLists.{needs_within, waits_within, waits_more}
-use Rattle.tomex_timing.proofs.Width.{issue_from}
 
 -- what is held before a step is small
-small : (config : Configuration) (steps : List Step) (i : ℕ) (held : Held) → IsWithinLimits config → i ≤ length steps
-    → IsSummary (history config (take i steps)) held → (held.latest.end ≤ 67 * i) × (held.latest.issued ≤ i)
-small config steps i held good l shown =
+pub small : (config : Configuration) (steps : List Step) (i : ℕ) (held : Held) → IsWithinLimits config
+    → i ≤ length steps → IsKept (history config (take i steps)) held.latest
+    → (held.latest.end ≤ 67 * i) × (held.latest.issued ≤ i)
+small config steps i held good l kept =
     let h = history config (take i steps) in
     let b : greatest_end h ≤ 67 * length (take i steps) = history_bound config (take i steps) good in
     let n : length h ≡ length (take i steps) = length-history config (take i steps) in
     let e : length (take i steps) ≡ i = length-take-le i steps l in
     let few = count_by-le-length (λ d. d.at.issue == last_issue h) h in
-    (omega (arith, shown.kept.end), omega (arith, shown.kept.issued))
+    (omega (arith, kept.end), omega (arith, kept.issued))
 
 -- the step of a run at a place
 pub record IsStep (config : Configuration) (steps : List Step) (i : ℕ) (x : Step) (f : Facts) : Type 0 where
@@ -95,17 +99,29 @@ facts_more steps facts i x f l at of range are = record {
   range = All-push AreInRange facts f are.range range;
 }
 
+-- the next step issues in program order
+pub issue_first : (config : Configuration) (h : List Done) → last_issue h ≤ first_issue config h
+issue_first config h = let low = (slot_range config h).0 in omega (arith, low)
+
 -- and what comes next with it, by what is held before
 pub record IsTurn (config : Configuration) (steps : List Step) (i : ℕ) (x : Step) (f : Facts) (held : Held)
     (next : Next) : Type 0 where
   pub step : IsStep config steps i x f
-  pub shown : IsSummary (history config (take i steps)) held
+  pub from : ℕ
+  pub soon : from ≤ first_issue config (history config (take i steps))
+  pub shown : IsSummary from (history config (take i steps)) held
   pub by : IsNextBy config held f next
 
 pub turn_of : {config : Configuration} {steps : List Step} {i : ℕ} {x : Step} {f : Facts} {held : Held} {next : Next}
-    → IsStep config steps i x f → IsSummary (history config (take i steps)) held → IsNextBy config held f next
+    → IsStep config steps i x f → IsShown (history config (take i steps)) held → IsNextBy config held f next
     → IsTurn config steps i x f held next
-turn_of step shown by = record { step = step; shown = shown; by = by }
+turn_of {config} {steps} {i} step shown by = record {
+  step = step;
+  from = last_issue (history config (take i steps));
+  soon = issue_first config (history config (take i steps));
+  shown = shown;
+  by = by;
+}
 
 -- a step that is next can be kept
 not_full : (table : Reserved) (line most from t : ℕ) → most ≤ 8 → IsFirst from (is_left table line most) t
@@ -146,15 +162,17 @@ module _ {config : Configuration} {steps : List Step} {i : ℕ} {x : Step} {f : 
   comes = record {
     good = turn.step.good;
     timed = are_timed config (take i steps) turn.step.good;
+    from = turn.from;
+    soon = turn.soon;
     shown = turn.shown;
     range = rw turn.step.facts at turn.step.range;
     by = rw turn.step.facts at turn.by;
   }
 
-  is_timed : IsTimed config (history config (take i steps)) x next.at
+  pub is_timed : IsTimed config (history config (take i steps)) x next.at
   is_timed = next_timed comes
 
-  reaches : InReach (greatest_end (history config (take i steps))) next.at
+  pub reaches : InReach (greatest_end (history config (take i steps))) next.at
   reaches = reach config (record { step = x; at = next.at }) (history config (take i steps)) turn.step.good
       (is_timed, are_timed config (take i steps) turn.step.good)
 
@@ -167,21 +185,19 @@ module _ {config : Configuration} {steps : List Step} {i : ℕ} {x : Step} {f : 
   one_more : take (i + 1) steps ≡ take i steps ++ (x ∷ [])
   one_more = take_more steps i x turn.step.place ∙ ap (λ y. take i steps ++ (y ∷ [])) turn.step.at
 
-  longer : history config (take (i + 1) steps) ≡ record { step = x; at = next.at } ∷ history config (take i steps)
+  pub longer : history config (take (i + 1) steps) ≡ record { step = x; at = next.at } ∷ history config (take i steps)
   longer = rw (one_more, same_times) (history_more config (take i steps) x)
 
   pub held_turn : {after : Held} → IsHeldAfter f next.at held after
-      → IsSummary (history config (take (i + 1) steps)) after
+      → IsShown (history config (take (i + 1) steps)) after
   held_turn is_after = rw longer (shown_turn comes (rw turn.step.facts at is_after))
 
   pub times_turn : times_in config (take (i + 1) steps) ≡ times_in config (take i steps) ++ (next.at ∷ [])
   times_turn = rw (one_more, same_times) (times_more config (take i steps) x)
 
-  can_keep : held.latest.issued < 2 ^ 63 → CanKeep f next.at held
+  pub can_keep : held.latest.issued < 2 ^ 63 → CanKeep f next.at held
   can_keep few =
-      let base : held.table.base ≤ last_issue (history config (take i steps)) = turn.shown.base in
-      let issue : last_issue (history config (take i steps)) ≤ next.at.issue =
-      issue_from config (history config (take i steps)) x next.at.issue is_timed.issue.0 in
+      let base : held.table.base ≤ turn.from = turn.shown.holds.base in
       let j = end_in held.latest.ends f.j in
       let k = end_in held.latest.ends f.k in
       record {
@@ -190,7 +206,7 @@ module _ {config : Configuration} {steps : List Step} {i : ℕ} {x : Step} {f : 
         station = number_fits config held.ends f.pool next.marks.from next.at.issue next.at.station turn.step.good
             turn.by.issue;
         reserve = record {
-          base = omega arith;
+          base = omega (arith, turn.soon, first_issued comes);
           start = start_after config (history config (take i steps)) x next.at is_timed;
           end = reaches.issue;
           units = units_fit config held f j k f.unit next turn.step.good turn.by.run;
@@ -227,11 +243,11 @@ module _ {config : Configuration} {steps : List Step} {i : ℕ} {x : Step} {f : 
 
 -- a step can be timed by what shows the steps before it, and kept
 pub ready : {config : Configuration} {steps : List Step} {i : ℕ} {x : Step} {f : Facts} {held : Held}
-    → IsStep config steps i x f → IsSummary (history config (take i steps)) held → IsReady config held f
+    → IsStep config steps i x f → IsShown (history config (take i steps)) held → IsReady config held f
 ready {config} {steps} {i} {x} {f} {held} step shown =
     let place : i < length steps = step.place in
     let most : length steps < 2 ^ 56 = step.few in
-    let low = small config steps i held step.good (omega arith) shown in
+    let low = small config steps i held step.good (omega arith) shown.kept in
     let few : held.latest.issued < 2 ^ 63 = omega (arith, low.1) in
     record {
       range = step.range;

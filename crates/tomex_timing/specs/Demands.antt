@@ -83,3 +83,7 @@ demands_after f waits taken total demands = record {
   width = demand_after demands.width taken.width waits.width;
   total = total;
 }
+
+-- with another total
+abbrev pub with_total : ℕ → Demands → Demands
+with_total total demands = record demands { total = total }

@@ -11,4 +11,5 @@ pub mod Recent
 pub mod Waiting
 pub mod Demands
 pub mod Ahead
+pub mod Summary
 pub mod Laws

@@ -12,7 +12,7 @@ use Rattle.tomex_rvdec.specs.declared.pool.UnitId.{UnitId}
 use Rattle.tomex_rvdec.specs.declared.pool.UnitId.TheVariants as units
 use Rattle.tomex_rvexec.specs.Steps.{step_pool, step_unit, step_dest, is_in}
 use Rattle.tomex_rvexec.specs.declared.step.Step.{Step}
-use Rattle.tomex_config.specs.Configuration.{Configuration, stations_of, option_of}
+use Rattle.tomex_config.specs.Configuration.{Configuration, option_of}
 use Rattle.tomex_config.specs.Cost.{all_units}
 use Rattle.tomex_config.specs.Parts.{all_parts, count_of}
 use Rattle.tomex_timing.specs.declared.needs.Needs.{Needs}

@@ -229,7 +229,7 @@ fn run_issued<A: Allocator>(
 
 /// Times, notes and keeps a next step that takes a station and a unit.
 #[inline(always)]
-pub(crate) fn ask_operation<A: Allocator>(
+fn ask_operation<A: Allocator>(
     recent: &mut Recent<A>,
     demands: &mut Demands,
     config: &Config,
@@ -281,7 +281,7 @@ pub(crate) fn ask_operation<A: Allocator>(
 /// Times, notes and keeps any other next step. There are few.
 #[cold]
 #[inline(never)]
-pub(crate) fn ask_rest<A: Allocator>(
+fn ask_rest<A: Allocator>(
     recent: &mut Recent<A>,
     demands: &mut Demands,
     config: &Config,
@@ -297,4 +297,25 @@ pub(crate) fn ask_rest<A: Allocator>(
     demands.note(facts, &turn.waits, &turn.taken);
     recent.keep(facts, &turn.next.at)?;
     Ok(turn.next)
+}
+
+/// Times, notes and keeps the next step.
+#[inline(always)]
+pub fn ask_next<A: Allocator>(
+    recent: &mut Recent<A>,
+    demands: &mut Demands,
+    config: &Config,
+    facts: &Facts,
+) -> Result<Next, AllocError>
+    requires ready { IsReady config.now (held_by recent.old) facts.now }
+    ensures next { IfOk result (λ n. IsNextBy config.now (held_by recent.old) facts.now n) }
+    ensures noted { let latest = recent.old.latest in IfOk result (λ n. demands.new ≡ demands_after facts.now
+        (waits_by latest n.marks n.at) (taken_from latest n) demands.old.total demands.old) }
+    ensures held { IfOk result (λ n. IsHeldAfter facts.now n.at (held_by recent.old) (held_by recent.new)) }
+{
+    if let (Some(pool), Some(unit)) = (facts.pool, facts.unit) {
+        ask_operation(recent, demands, config, facts, pool, unit)
+    } else {
+        ask_rest(recent, demands, config, facts)
+    }
 }

@@ -67,7 +67,7 @@ fn note_unit(demands: &mut [Demand; 5], unit: Option<UnitId>, taken: u64, waited
 
 impl Demands {
     /// The demands of no steps.
-    pub(crate) fn none() -> Demands
+    pub fn none() -> Demands
         ensures { result ≡ nothing_asked }
     {
         let nothing = Demand {

@@ -9,7 +9,7 @@ ghost use Rattle.tomex_rvexec.specs.declared.step.Step.{Step};
 ghost use Rattle.tomex_timing.specs.Waiting.{AreWithin};
 ghost use Rattle.tomex_timing.specs.Recent.{AreFacts};
 
-use crate::asking::{ask_operation, ask_rest};
+use crate::asking::ask_next;
 use crate::demands::Demands;
 use crate::need::Waits;
 use crate::needs::Needs;
@@ -122,11 +122,7 @@ pub(crate) fn demands_of<A: Allocator>(
     let mut demands = Demands::none();
     config.keeps_limits();
     for step in facts {
-        if let (Some(pool), Some(unit)) = (step.pool, step.unit) {
-            ask_operation(&mut recent, &mut demands, config, step, pool, unit)?;
-        } else {
-            ask_rest(&mut recent, &mut demands, config, step)?;
-        }
+        ask_next(&mut recent, &mut demands, config, step)?;
     }
     demands.total = recent.latest.end;
     Ok(demands)

@@ -22,6 +22,8 @@ mod times;
 mod turn;
 mod waiting;
 
+pub use accesses::Access;
+pub use asking::ask_next;
 pub use demands::{Demand, Demands};
 pub use laws::{
     accesses_of_one_byte_wait, all_parts_stand_in_order, cycles_are_accounted_for,
@@ -32,7 +34,7 @@ pub use laws::{
 };
 pub use need::{Need, Waits};
 pub use needs::Needs;
-pub use next::end_of;
+pub use next::{Marks, Next, end_of, issue_from};
 pub use recent::{Facts, Latest, Recent};
 pub use run::Run;
 pub use tables::{Busy, Field, Tables, Tag};

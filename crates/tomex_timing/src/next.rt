@@ -48,7 +48,7 @@ pub fn end_of(latest: &Latest, register: Option<u8>) -> u64
 
 /// The first cycle that is in program order, has room for an issue, and is later than each branch's
 /// finish.
-pub(crate) fn issue_from(config: &Config, latest: &Latest) -> u64
+pub fn issue_from(config: &Config, latest: &Latest) -> u64
     requires issue { latest.now.issue ≤ latest.now.end }
     requires branch { latest.now.branch ≤ latest.now.end }
     requires small { latest.now.end < 2 ^ 63 }

@@ -5,7 +5,6 @@ use Rattle.tomex_timing.proofs.Demanded.{asked_turn, demands_none}
 use Rattle.tomex_timing.proofs.Summary.{empty_summary}
 use Rattle.tomex_timing.proofs.Turns.{ready, step_of, turn_of}
 use Rattle.tomex_timing.proofs.evaluate.demands_of.Goals as goal
-use Rattle.tomex_timing.proofs.evaluate.demands_of.Goals.{in-Some-Some+in_ok-ask_operation, in_default+in_ok-ask_rest}
 
 pub loop-step-init : goal.loop-step-init
 loop-step-init g c = λ steps are. record {
@@ -14,14 +13,8 @@ loop-step-init g c = λ steps are. record {
       (demands_none c.args.config.now);
 }
 
-pub ask_operation-requires-clause-ready : goal.ask_operation-requires-clause-ready
-ask_operation-requires-clause-ready g c =
-    ready (step_of c.args.config.now c.requires.run.0 c.args.facts.now c.loop-step.step-index _ c.keeps_limits.ensures
-    c.requires.run.1 c.loop-step-test.true (omega arith)).1
-    (c.loop-step.invariant c.requires.run.0 c.requires.run.1).shown
-
-pub ask_rest-requires : goal.ask_rest-requires
-ask_rest-requires g c = record {
+pub ask_next-requires : goal.ask_next-requires
+ask_next-requires g c = record {
   ready = ready (step_of c.args.config.now c.requires.run.0 c.args.facts.now c.loop-step.step-index _
       c.keeps_limits.ensures c.requires.run.1 c.loop-step-test.true (omega arith)).1
       (c.loop-step.invariant c.requires.run.0 c.requires.run.1).shown;
@@ -32,13 +25,6 @@ loop-step-preserved g c = λ steps are.
     let at = step_of c.args.config.now steps c.args.facts.now c.loop-step.step-index _ c.keeps_limits.ensures are
     c.loop-step-test.true (omega arith) in
     let before = c.loop-step.invariant steps are in
-    elim c.match-step.branch [
-      | in-Some-Some+in_ok-ask_operation w ↦
-          let e = w.in_ok-ask_operation.ensures in
-          let turn = asked_turn (turn_of at.1 before.shown e.next) before.demands e.held e.noted in
-          rw (w.recent-is, w.demands-is) (record { shown = turn.0; demands = turn.1 })
-      | in_default+in_ok-ask_rest w ↦
-          let e = w.in_ok-ask_rest.ensures in
-          let turn = asked_turn (turn_of at.1 before.shown e.next) before.demands e.held e.noted in
-          rw (w.recent-is, w.demands-is) (record { shown = turn.0; demands = turn.1 })
-    ]
+    let e = c.in_ok-ask_next.ensures in
+    let turn = asked_turn (turn_of at.1 before.shown e.next) before.demands e.held e.noted in
+    record { shown = turn.0; demands = turn.1 }

@@ -2,15 +2,14 @@
 use Rattle.std.proofs.Common.{List, take}
 use Rattle.tomex_rvexec.specs.declared.step.Step.{Step}
 use Rattle.tomex_timing.specs.Ahead.{held_by}
-use Rattle.tomex_timing.specs.Demands.{AreDemands}
+use Rattle.tomex_timing.specs.Demands.{AreDemands, with_total}
 use Rattle.tomex_timing.specs.Search.{history}
 use Rattle.tomex_timing.specs.Recent.{AreFacts}
-use Rattle.tomex_timing.proofs.Demanded.{with_total}
-use Rattle.tomex_timing.proofs.Summary.{IsSummary}
+use Rattle.tomex_timing.proofs.Summary.{IsShown}
 use Rattle.tomex_timing.proofs.evaluate.demands_of.Given as goal
 
 abbrev pub invariant-loop-step : goal.invariant-loop-step
 invariant-loop-step g l = (steps : List Step) → AreFacts steps l.facts → record {
-  shown : IsSummary (history l.config (take l.step-index steps)) (held_by l.recent);
+  shown : IsShown (history l.config (take l.step-index steps)) (held_by l.recent);
   demands : AreDemands l.config (history l.config (take l.step-index steps)) (with_total l.recent.latest.end l.demands);
 }

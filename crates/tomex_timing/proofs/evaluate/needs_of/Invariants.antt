@@ -5,11 +5,11 @@ use Rattle.tomex_timing.specs.Ahead.{held_by}
 use Rattle.tomex_timing.specs.Needs.{AreNeeds}
 use Rattle.tomex_timing.specs.Search.{history}
 use Rattle.tomex_timing.specs.Recent.{AreFacts}
-use Rattle.tomex_timing.proofs.Summary.{IsSummary}
+use Rattle.tomex_timing.proofs.Summary.{IsShown}
 use Rattle.tomex_timing.proofs.evaluate.needs_of.Given as goal
 
 abbrev pub invariant-loop-step : goal.invariant-loop-step
 invariant-loop-step g l = (steps : List Step) → AreFacts steps l.facts → record {
-  shown : IsSummary (history l.config (take l.step-index steps)) (held_by l.recent);
+  shown : IsShown (history l.config (take l.step-index steps)) (held_by l.recent);
   needs : AreNeeds l.config (history l.config (take l.step-index steps)) l.needs;
 }
