@@ -1,18 +1,22 @@
 #!/usr/bin/env python3
-"""Figures of crates.txt: how many crates there are, what is built on what, and what lies below a crate.
+"""Figures of the crates: how many there are, what is built on what, what lies below a crate, and how large each is.
 
   docs/crates.py           prints the figures
-  docs/crates.py --check   prints what is above a bound, and what docs/MAP.md's list lacks; the status is 1 if there is any
+  docs/crates.py --list    prints the crates by group, each with the first sentence of its root file, and in brackets the
+                           kit's crates that it lists
+  docs/crates.py --sizes   prints each crate's functions, and its lines of code, definitions and proofs
+  docs/crates.py --check   prints what is above a bound; the status is 1 if there is any
 
 A path begins at a crate and goes from a crate to one that its line lists, one step or more; the kit's crates end it.
 So the number of a crate's paths is the sum, over the crates listed, of 1 and the number of the crate listed.
 """
-import functools, os, re, sys
+import functools, glob, os, re, sys, textwrap
 
 os.chdir(os.path.join(os.path.dirname(os.path.abspath(__file__)), ".."))
 
 BOUNDS = {"crates of the product": 55, "above tomex_cycle": 5}
 PATHS = {"tomex_command": 6500, "tomex_page": 2100}
+MOST_FUNCTIONS = 100
 
 
 def read():
@@ -25,10 +29,12 @@ def read():
             head, listed = line.split(":")
             lists[head.split()[0]] = listed.split()
             groups[head.split()[0]] = group
-    return {name: [x for x in listed if x in lists] for name, listed in lists.items()}, groups
+    own = {name: [x for x in listed if x in lists] for name, listed in lists.items()}
+    kits = {name: [x for x in listed if x not in lists] for name, listed in lists.items()}
+    return own, kits, groups
 
 
-LISTS, GROUPS = read()
+LISTS, KITS, GROUPS = read()
 PRODUCT = [name for name in LISTS if GROUPS[name] != "tests"]
 
 
@@ -69,13 +75,41 @@ def figures():
         yield f"paths below {name}", paths(name), ""
 
 
-def unlisted():
-    """What the list of crates in docs/MAP.md lacks or has too much."""
-    page = open("docs/MAP.md", encoding="utf8").read()
-    listed = re.findall(r"^  (tomex[a-z_]*) ", page.split("## The crates")[1].split("\n## ")[0], re.M)
-    return [f"docs/MAP.md lacks {x}" for x in LISTS if x not in listed] + [
-        f"docs/MAP.md lists {x}, which is no crate" for x in listed if x not in LISTS
-    ]
+def summary(name):
+    """The first sentence of the comment at the head of a crate's root file."""
+    root = next(x for x in (f"crates/{name}/src/lib.rt", f"crates/{name}/src/main.rt") if os.path.exists(x))
+    head = [line[3:].strip() for line in open(root, encoding="utf8") if line.startswith("//!")]
+    text = " ".join(head[: head.index("")] if "" in head else head)
+    return re.split(r"\.(?: |$)", text)[0]
+
+
+def listing():
+    """The crates by group, in the order of crates.txt, with their summaries."""
+    for group in dict.fromkeys(GROUPS.values()):
+        yield f"{group[0].upper()}{group[1:]}"
+        for name in (x for x in LISTS if GROUPS[x] == group):
+            kit = f" ({' '.join(KITS[name])})" if KITS[name] else ""
+            yield from textwrap.wrap(f"  {name:22} {summary(name)}{kit}", 119, subsequent_indent=" " * 25)
+
+
+def lines_of(name, part, ending):
+    """The lines of the files of one part of a crate."""
+    files = glob.glob(f"crates/{name}/{part}/**/*{ending}", recursive=True)
+    return [line for file in files for line in open(file, encoding="utf8")]
+
+
+def size(name):
+    """The functions of a crate, and its lines of code, definitions and proofs."""
+    code = lines_of(name, "src", ".rt")
+    functions = sum(bool(re.match(r"\s*(pub(\([a-z]+\))? )?(const )?fn ", line)) for line in code)
+    return functions, len(code), len(lines_of(name, "specs", ".antt")), len(lines_of(name, "proofs", ".antt"))
+
+
+def sizes():
+    yield "functions   code  definitions  proofs"
+    for name in LISTS:
+        functions, code, definitions, proofs = size(name)
+        yield f"{functions:9} {code:6} {definitions:12} {proofs:7}  {name}"
 
 
 def faults():
@@ -84,12 +118,16 @@ def faults():
         if number > bound:
             yield f"{what}: {number}, above {bound}"
     yield from later()
-    yield from unlisted()
+    for name in LISTS:
+        if size(name)[0] > MOST_FUNCTIONS:
+            yield f"functions of {name}: {size(name)[0]}, above {MOST_FUNCTIONS}"
 
 
-if "--check" in sys.argv[1:]:
-    found = list(faults())
-    print("\n".join(found), end="\n" if found else "")
-    sys.exit(1 if found else 0)
+VIEWS = {"--list": listing, "--sizes": sizes, "--check": faults}
+words = sys.argv[1:]
+if words:
+    printed = list(VIEWS[words[0]]())
+    print("\n".join(printed), end="\n" if printed else "")
+    sys.exit(1 if printed and words[0] == "--check" else 0)
 for what, number, names in figures():
     print(f"{number:6}  {what}{': ' if names else ''}{names}")

@@ -26,7 +26,7 @@ pub fn first_line(text: &[u8]) -> (&[u8], &[u8])
 }
 
 /// The name in a line that is a header.
-fn header_name(line: &[u8]) -> Option<&[u8]>
+pub fn header_name(line: &[u8]) -> Option<&[u8]>
     ensures { IfSome result (λ name. line.now ≡ header name.now) }
 {
     let rest = line.strip_prefix(b"-- ")?;
@@ -35,7 +35,7 @@ fn header_name(line: &[u8]) -> Option<&[u8]>
 }
 
 /// The lines before the first header, and what follows them.
-fn before_header(text: &[u8]) -> (&[u8], &[u8])
+pub fn before_header(text: &[u8]) -> (&[u8], &[u8])
     ensures whole { text.now ≡ result.0.now ++ result.1.now }
     ensures lengths { length result.0.now + length result.1.now ≡ length text.now }
 {
@@ -75,4 +75,15 @@ pub fn parts_of(alloc: Global, text: &[u8]) -> Result<Vec<Part<'_>>>
         rest = after;
     }
     Ok(parts)
+}
+
+/// Adds a part: its header, and its lines.
+pub fn push_part(text: &mut Vec<u8>, part: &Part<'_>) -> Result<()>
+    ensures { IfOk result (λ _. text.new.items ≡ text.old.items ++ part_text part.now) }
+{
+    text.extend_from_slice(b"-- ")?;
+    text.extend_from_slice(part.name)?;
+    text.extend_from_slice(b" --\n")?;
+    text.extend_from_slice(part.lines)?;
+    Ok(())
 }

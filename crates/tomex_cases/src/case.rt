@@ -83,7 +83,7 @@ fn decoded(alloc: Global, lines: &[u8]) -> Result<Vec<u8>> {
 }
 
 /// The file of a part, by its name in the case.
-fn file_of(alloc: Global, name: &str, lines: &[u8]) -> Result<File> {
+pub fn file_of(alloc: Global, name: &str, lines: &[u8]) -> Result<File> {
     let (name, bytes) = match name.strip_suffix(".hex") {
         Some(bare) => (bare, decoded(alloc, lines)?),
         None => (name, lines.to_vec(alloc)?),

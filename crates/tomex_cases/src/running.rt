@@ -1,40 +1,14 @@
 //! Cases run through the whole program, and counted.
+use crate::archives::{COMMANDS, archive_of, check_commands, check_names, is_asked, is_read};
 use crate::case::{Case, cases_of};
 use crate::comparing::case_difference;
-use anyhow::{Context, Result, ensure};
-use std::fs;
+use anyhow::{Context, Result};
 use std::rt::Files;
 use std::str::from_utf8;
 use std::sync::Wait;
 use std::thread::Threads;
 use tomex_streams::NoMeter;
 use tomex_tests_whole_runs::{Outcome, outcome_of};
-
-/// The archives, one a command.
-const COMMANDS: [&str; 22] = [
-    "all",
-    "animate",
-    "choices",
-    "compare",
-    "explore",
-    "find",
-    "front",
-    "functions",
-    "help",
-    "hull",
-    "page",
-    "path",
-    "pipeline",
-    "plot",
-    "prices",
-    "rows",
-    "run",
-    "stalls",
-    "tables",
-    "times",
-    "weights",
-    "worth",
-];
 
 /// The most bytes of standard output.
 const ROOM: usize = 1 << 24;
@@ -47,7 +21,7 @@ pub struct Tally {
 }
 
 /// Runs a case, on a standard output that takes nothing if the case says so.
-fn outcome_in<R: AllocGlobal + Threads + Wait + Sync>(rt: &R, case: &Case) -> Result<Outcome> {
+pub fn outcome_in<R: AllocGlobal + Threads + Wait + Sync>(rt: &R, case: &Case) -> Result<Outcome> {
     let alloc = rt.alloc();
     let mut words = vec![in alloc; "tomex"]?;
     for word in from_utf8(case.required("cmd")?)?.split_terminator('\n') {
@@ -90,50 +64,6 @@ fn run_case<R: AllocGlobal + Threads + Wait + Sync + Print>(
     Ok(())
 }
 
-/// The command in whose archive the case with a name is.
-fn command_of(name: &str) -> &str {
-    match name.split_once('-') {
-        Some((command, _)) => command,
-        None => name,
-    }
-}
-
-/// True if a case is to be run: if no words are given, or its name or its command is one of them.
-fn is_asked(words: &[String], case: &str) -> bool {
-    words.is_empty()
-        || words.iter().any(|word| word.as_str() == case || word.as_str() == command_of(case))
-}
-
-/// Refuses words that name nothing among a command's cases, and cases that are not the command's.
-fn check_names(command: &str, cases: &[Case], words: &[String]) -> Result<()> {
-    for case in cases {
-        let name = case.name.as_str();
-        ensure!(
-            command_of(name) == command,
-            "{name} is in the archive of {command}"
-        );
-    }
-    for word in words {
-        let word = word.as_str();
-        let is_named = word == command || cases.iter().any(|case| case.name.as_str() == word);
-        ensure!(
-            is_named || command_of(word) != command,
-            "there is no case {word}"
-        );
-    }
-    Ok(())
-}
-
-/// The archive of a command: in this folder, or in its folder data if this is that of the crate.
-fn archive_of(rt: &(impl AllocGlobal + Files), command: &str) -> Result<Vec<u8>> {
-    let name = format!(in rt.alloc(); "{command}.txtar")?;
-    if let Ok(text) = fs::read(rt, name.as_str()) {
-        return Ok(text);
-    }
-    let name = format!(in rt.alloc(); "data/{name}")?;
-    Ok(fs::read(rt, name.as_str()).context(format_args!("{name}"))?)
-}
-
 /// Runs the cases of a command that are asked for.
 fn run_archive<R: AllocGlobal + Threads + Wait + Sync + Print + Files>(
     rt: &R,
@@ -141,8 +71,8 @@ fn run_archive<R: AllocGlobal + Threads + Wait + Sync + Print + Files>(
     words: &[String],
     tally: &mut Tally,
 ) -> Result<()> {
-    let text = archive_of(rt, command)?;
-    let cases = cases_of(rt.alloc(), text.as_slice()).context(format_args!(
+    let archive = archive_of(rt, command)?;
+    let cases = cases_of(rt.alloc(), archive.text.as_slice()).context(format_args!(
         "the archive of {command}"
     ))?;
     check_names(command, cases.as_slice(), words)?;
@@ -152,26 +82,6 @@ fn run_archive<R: AllocGlobal + Threads + Wait + Sync + Print + Files>(
         }
     }
     Ok(())
-}
-
-/// Refuses words that begin with no command.
-fn check_commands(words: &[String]) -> Result<()> {
-    for word in words {
-        let word = word.as_str();
-        ensure!(
-            COMMANDS.contains(&command_of(word)),
-            "there are no cases of {word}"
-        );
-    }
-    Ok(())
-}
-
-/// True if cases of a command are to be run: if no words are given, or one is about it.
-fn is_read(words: &[String], command: &str) -> bool {
-    words.is_empty()
-        || words
-            .iter()
-            .any(|word| command_of(word.as_str()) == command)
 }
 
 /// Runs the cases that the words name, or all.

@@ -1,6 +1,7 @@
 //! What one row brings to the lists: its new machines, and their cycles.
 
-ghost use Rattle.std.specs.Prelude.{◌≡◌, ◌<◌, ◌≤◌, true, if◌then◌else◌, map, max, length, take, IfOk, OnOk};
+ghost use Rattle.std.specs.Prelude.{◌≡◌, ◌<◌, ◌≤◌, ℕ, true, if◌then◌else◌, map, max, length, take, List, Option};
+ghost use Rattle.std.specs.Prelude.{IfOk, OnOk};
 ghost use Rattle.tomex_config.specs.Configuration.{is_between};
 ghost use Rattle.tomex_study.specs.Cycles.{totals_on};
 ghost use Rattle.tomex_study.specs.Study.{config_at};
@@ -8,6 +9,7 @@ ghost use Rattle.tomex_config.specs.Parts.{part_at};
 ghost use Rattle.tomex_choices.specs.Asking.{AreAsked, AreLists, IsAsked, IsAskedOnce, IsNumberAsked, differ};
 ghost use Rattle.tomex_config.specs.Parts.{latency_in, most_of};
 ghost use Rattle.tomex_choices.specs.NewMachines.{grown, machine_of};
+ghost use Rattle.tomex_plateaus.specs.Knowledge.{AreLearnt, known_totals_on};
 ghost use Rattle.tomex_config.specs.Parts.{with_count};
 
 use crate::entries::Entries;
@@ -27,6 +29,9 @@ fn totals_on<A: Allocator + Clone>(
     ensures programs { knowledge.new.programs ≡ knowledge.old.programs }
     ensures totals { IfOk result
         (λ t. take (length knowledge.old.programs) t ≡ totals_on knowledge.old.programs config.now) }
+    ensures learnt { OnOk result ((known : List (Option ℕ))
+        × (take (length knowledge.old.programs) known ≡ known_totals_on knowledge.old.lists config.now)
+        × AreLearnt config.now known knowledge.old.lists knowledge.new.lists) }
 {
     let known = knowledge.known_totals(config);
     knowledge.learn(config, known)

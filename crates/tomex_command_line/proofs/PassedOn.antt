@@ -5,7 +5,7 @@ use Rattle.tomex_arguments.specs.Faults.{IsRefusedIf}
 use Rattle.tomex_arguments.specs.declared.fault.LineFault.{LineFault}
 use Rattle.tomex_arguments.specs.declared.fault.LineFault.TheVariants.{Help, Usage, Memory}
 
-wider : (why other : Type 0) (fault : LineFault) → IsRefusedIf why fault → (why → other) → IsRefusedIf other fault
+pub wider : (why other : Type 0) (fault : LineFault) → IsRefusedIf why fault → (why → other) → IsRefusedIf other fault
 wider why other (Help text) refused so = refused
 wider why other (Usage text) refused so = so refused
 wider why other Memory refused so = tt

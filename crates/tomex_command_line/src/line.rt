@@ -3,13 +3,13 @@
 //! Each command has a file here with two functions: `grammar`, what `clap` reads and prints in its
 //! help, and `line_of`, what was read. A further command is a further file, a variant of `Line` and
 //! of `CommandName`, and a line in each of `grammar` and `line_with` below.
-ghost use Rattle.std.specs.Prelude.{◌≡◌, [], IfOk, IfErr, Some, map, string_bytes};
+ghost use Rattle.std.specs.Prelude.{◌≡◌, [], IfOk, IfErr, map, string_bytes};
 ghost use Rattle.tomex_arguments.specs.Faults.{IsRefusedIf};
 ghost use Rattle.tomex_command_line.specs.Grammar.{bare_app, tomex_app};
-ghost use Rattle.tomex_command_line.specs.Names.{name_of};
 ghost use Rattle.clap.specs.Words.{app_of, fault_of as faults_of, found_of, subcommand_rows_of};
 ghost use Rattle.clap.specs.Walk.{rows_of};
-ghost use Rattle.tomex_command_line.specs.Asked.{IsCommand, IsAsked, IsNoCommand, IsNoLineAsked};
+ghost use Rattle.tomex_command_line.specs.Asked.{HasNoLine, IsCommand, IsAsked, IsLineOf, IsNoCommand};
+ghost use Rattle.tomex_command_line.specs.Asked.{IsNoLineAsked};
 
 pub mod all;
 pub mod animate;
@@ -172,8 +172,8 @@ fn line_with<'a>(
     command: CommandName,
     args: &ArgMatches<'a>,
 ) -> Result<Line<'a>, LineFault>
-    ensures command { IfOk result (λ line. IsCommand (Some (name_of command, rows_of (found_of args.now))) line) }
-    ensures refused { IfErr result (IsRefusedIf (IsNoLineAsked (Some (name_of command, rows_of (found_of args.now))))) }
+    ensures command { IfOk result (λ line. IsLineOf command (rows_of (found_of args.now)) line) }
+    ensures refused { IfErr result (IsRefusedIf (HasNoLine command (rows_of (found_of args.now)))) }
 {
     match command {
         CommandName::Run => Ok(Line::Run(run::line_of(alloc, args)?)),

@@ -3,12 +3,35 @@
 
 ghost use Rattle.std.specs.Prelude.{◌≡◌, IfSome};
 
+use std::fmt;
 use std::io::{IsTerminal, Stderr, Write};
 use std::sync::atomic::{AtomicU64, Ordering};
 use std::time::Clock;
 
 /// The least time between two lines, in milliseconds.
 const PAUSE: u64 = 100;
+
+/// The line on a terminal after a refusal.
+pub const HINT: &str = "tomex: `tomex explain` and these words say what it means\n";
+
+/// How many configurations are finished.
+#[derive(Clone, Copy, Debug)]
+pub struct Progress {
+    pub done: u64,
+    pub of: u64,
+}
+
+impl fmt::Display for Progress {
+    ghost use Rattle.std.specs.Fmt.{decimal};
+    ghost use Rattle.std.specs.Prelude.{◌++◌, Some, codes};
+
+    ghost output = { λ p. Some (decimal p.done ++ (codes " of " ++ (decimal p.of ++ codes " configurations"))) };
+
+    fn fmt<W: fmt::Write>(&self, f: &mut fmt::Formatter<W>) -> fmt::Result {
+        let Progress { done, of } = *self;
+        write!(f, "{done} of {of} configurations")
+    }
+}
 
 /// Shows progress. Several threads may call it at once.
 pub trait Meter {
@@ -93,8 +116,9 @@ impl<'a, R: Clock> Meter for TerminalMeter<'a, R> {
     fn show(&self, done: u64, of: u64) {
         if let Some(terminal) = &self.terminal {
             if self.is_due() {
+                let progress = Progress { done, of };
                 let mut writer = terminal;
-                let _ = write!(writer, "\r\x1b[K{done} of {of} configurations");
+                let _ = write!(writer, "\r\x1b[K{progress}");
                 self.lines.fetch_add(1, Ordering::SeqCst);
             }
         }
@@ -112,10 +136,7 @@ impl<'a, R: Clock> Meter for TerminalMeter<'a, R> {
     fn hint(&self) {
         if let Some(terminal) = &self.terminal {
             let mut writer = terminal;
-            let _ = write!(
-                writer,
-                "tomex: `tomex explain` and these words say what it means\n"
-            );
+            let _ = write!(writer, "{HINT}");
         }
     }
 }

@@ -2,4 +2,5 @@
 pub mod Bounds
 pub mod Each
 pub mod Rows
+pub mod Selection
 pub mod StudyFronts

@@ -1,8 +1,9 @@
--- Definitions that contracts cite: watched ranges, programs that end, studies, the cycles of their configurations,
--- their rows and front.
+-- Definitions that contracts cite: watched ranges, programs that end, studies, those with fewer programs, the cycles of
+-- their configurations, their rows and front.
 pub mod Watch
 pub mod Program
 pub mod Study
+pub mod Selection
 pub mod Cycles
 pub mod StudyFront
 pub mod Surveyed

@@ -1,9 +1,10 @@
 //! A study: the input of an exploration.
 
-ghost use Rattle.std.specs.Prelude.{◌≡◌, ◌≤◌, length, slice_get, option_copied, All, IfOk, IfSome};
+ghost use Rattle.std.specs.Prelude.{◌≡◌, ◌≤◌, true, is_some, length, slice_get, option_copied, All, IfOk, IfSome};
 ghost use Rattle.tomex_config.specs.Configuration.{IsWithinLimits};
 ghost use Rattle.tomex_config.specs.Grid.{most_rows};
 ghost use Rattle.tomex_study.specs.Program.{IsProgram};
+ghost use Rattle.tomex_study.specs.Selection.{is_one_of, with_only};
 ghost use Rattle.tomex_study.specs.Study.{costs_of, design_space, program_named, IsStudy};
 
 use crate::program::Program;
@@ -59,6 +60,13 @@ fn costs_of<A: Allocator>(
     Ok(costs)
 }
 
+/// True if a program has one of two names.
+fn is_one_of<A: Allocator>(program: &Program<A>, one: &str, other: &str) -> bool
+    ensures { result ≡ is_one_of one.now other.now program.now }
+{
+    program.name() == one || program.name() == other
+}
+
 impl<A: Allocator> Study<A> {
     /// The study of these programs and configurations, with the cost of each configuration.
     pub fn new(
@@ -86,6 +94,28 @@ impl<A: Allocator> Study<A> {
             prices,
             wide,
         })
+    }
+
+    /// The study with only those of its programs that have one of two names. Nothing is allocated or run.
+    pub fn with_only(self, one: &str, other: &str) -> Study<A>
+        requires { is_some (program_named one.now self.programs) ≡ true }
+        ensures { result ≡ with_only one.now other.now self }
+    {
+        let Study {
+            mut programs,
+            rows,
+            costs,
+            prices,
+            wide,
+        } = self;
+        programs.retain(|program| is_one_of(program, one, other));
+        Study {
+            programs,
+            rows,
+            costs,
+            prices,
+            wide,
+        }
     }
 
     /// A law: there are 1 to 8 programs, each of which ends, 1 to 16,384 configurations, each within the limits, with

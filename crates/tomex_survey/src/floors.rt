@@ -1,6 +1,6 @@
 //! The floors of a study, and the fewest cycles of a row.
 
-ghost use Rattle.std.specs.Prelude.{◌≡◌, ◌≤◌, ◌*◌, length, option_map, IfOk, IfSome};
+ghost use Rattle.std.specs.Prelude.{◌≡◌, ◌≢◌, ◌≤◌, ◌*◌, length, option_map, All, IfOk, IfSome, None};
 ghost use Rattle.std.specs.List.{Contains};
 ghost use Rattle.tomex_floor.specs.Floor.{floor_of, floors_by_width};
 ghost use Rattle.tomex_config.specs.Configuration.{latency_of};
@@ -100,7 +100,8 @@ fn used_latencies(uses: [bool; 5], config: &Config) -> [u8; 5]
 
 /// The floors that are known for these latencies.
 fn known_for(known: &[KnownFloors], latencies: [u8; 5]) -> Option<[u64; 4]>
-    ensures { IfSome result (λ f. Contains known.now (record { latencies = latencies; floors = f })) }
+    ensures some { IfSome result (λ f. Contains known.now (record { latencies = latencies; floors = f })) }
+    ensures none { result ≡ None → All (λ k. k.latencies ≢ latencies) known.now }
 {
     for one in known {
         if one.latencies == latencies {

@@ -1,5 +1,5 @@
-//! Runs of the commands on a study that can be seen from outside: how far they are, and outputs that fail on
-//! their way.
+//! Runs of the commands on a study that can be seen from outside: how far they are, where refusals are explained, and
+//! outputs that fail on their way.
 use std::process::Abort;
 use std::sync::Wait;
 use std::sync::atomic::{AtomicU64, Ordering};
@@ -24,15 +24,16 @@ const PRICED_REPORT: &str = front_report_of!(
 /// The lines that run all rows and that explore them.
 static LINES: [&str; 2] = ["tomex all study", "tomex explore study"];
 
-/// Keeps what it showed last, and how often it was cleared.
+/// Keeps what it showed last, and how often it was cleared and asked for a hint.
 #[derive(Drop)]
-struct LastTold {
+struct LastShown {
     done: AtomicU64,
     of: AtomicU64,
     clears: AtomicU64,
+    hints: AtomicU64,
 }
 
-impl Meter for LastTold {
+impl Meter for LastShown {
     fn show(&self, done: u64, of: u64) {
         self.done.store(done, Ordering::SeqCst);
         self.of.store(of, Ordering::SeqCst);
@@ -42,10 +43,22 @@ impl Meter for LastTold {
         self.clears.fetch_add(1, Ordering::SeqCst);
     }
 
-    fn hint(&self) {}
+    fn hint(&self) {
+        self.hints.fetch_add(1, Ordering::SeqCst);
+    }
 }
 
-impl LastTold {
+impl LastShown {
+    /// A meter that has shown nothing yet.
+    fn new() -> LastShown {
+        LastShown {
+            done: AtomicU64::new(9),
+            of: AtomicU64::new(9),
+            clears: AtomicU64::new(0),
+            hints: AtomicU64::new(0),
+        }
+    }
+
     /// True if it showed last that one of two rows is finished, and was cleared once.
     fn is_over(&self) -> bool {
         self.done.load(Ordering::SeqCst) == 1
@@ -64,11 +77,7 @@ fn is_said<R: AllocGlobal + Threads + Wait + Sync>(
         ("study", PRICED.as_bytes()),
         ("mul.bin", PRODUCT.as_slice()),
     ];
-    let meter = LastTold {
-        done: AtomicU64::new(9),
-        of: AtomicU64::new(9),
-        clears: AtomicU64::new(0),
-    };
+    let meter = LastShown::new();
     let words = words_of(rt.alloc(), line)?;
     let outcome = outcome_of(rt, rt.alloc(), &files, words.as_slice(), &meter, 10_000)?;
     let is_whole = outcome.out.as_slice() == report.as_bytes();
@@ -88,6 +97,55 @@ fn a_meter_hears_how_far_it_is(rt: HostRuntime) -> Result<(), Fail> {
         assert!(rt; is_said(&rt, line, PRICED_REPORT)?);
     }
     assert!(rt; is_said(&rt, "tomex rows study", PRICED_ROWS)?);
+    Ok(())
+}
+
+/// Lines over that study, each with its status and the number of hints after its output: one after a command that
+/// failed, none after one that is done, or a line that asks for none.
+static HINTS: [(&str, u8, u64); 4] = [
+    ("tomex find study alu=3", 1, 1),
+    ("tomex run none.bin", 3, 1),
+    ("tomex rows study", 0, 0),
+    ("tomex rows", 2, 0),
+];
+
+#[test]
+fn refusals_have_hints(rt: HostRuntime) -> Result<(), Fail> {
+    let files = [
+        ("study", PRICED.as_bytes()),
+        ("mul.bin", PRODUCT.as_slice()),
+    ];
+    for (line, status, hints) in &HINTS {
+        let meter = LastShown::new();
+        let words = words_of(rt.alloc(), line)?;
+        let outcome = outcome_of(&rt, rt.alloc(), &files, words.as_slice(), &meter, 10_000)?;
+        assert!(rt; outcome.status == *status, "{line}");
+        assert!(rt; meter.hints.load(Ordering::SeqCst) == *hints, "{line}");
+    }
+    Ok(())
+}
+
+/// Lines that weigh new machines after the rows.
+static WEIGHED: [&str; 3] = [
+    "tomex choices study",
+    "tomex choices study --workers 2",
+    "tomex page study --choices",
+];
+
+#[test]
+fn a_meter_hears_of_new_machines(rt: HostRuntime) -> Result<(), Fail> {
+    let files = [
+        ("study", PRICED.as_bytes()),
+        ("mul.bin", PRODUCT.as_slice()),
+    ];
+    for line in &WEIGHED {
+        let meter = LastShown::new();
+        let words = words_of(rt.alloc(), line)?;
+        let outcome = outcome_of(&rt, rt.alloc(), &files, words.as_slice(), &meter, 100_000)?;
+        assert!(rt; outcome.status == 0 && outcome.err.is_empty(), "{line}");
+        assert!(rt; meter.of.load(Ordering::SeqCst) == 2, "{line}");
+        assert!(rt; meter.clears.load(Ordering::SeqCst) == 1, "{line}");
+    }
     Ok(())
 }
 

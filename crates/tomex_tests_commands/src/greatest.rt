@@ -37,14 +37,25 @@ const ALIKE: &str = "[[program]]\nname = \"loop\"\nfile = \"loop.bin\"\n[axes]\n
     div = [1, 2, 3, 4, 5, 6, 7, 8, 9, 10, 11, 12, 13, 14, 15, 16]\nload = [1, 2, 3, 4]\n\
     store = [1, 2, 3, 4, 5, 6, 7, 8, 9, 10, 11, 12, 13, 14, 15, 16]\n";
 
+/// The same with up to nine load stations: 2,304 configurations.
+fn longer_front(alloc: Global) -> Result<String, AllocError> {
+    ALIKE.replace(
+        alloc,
+        "load = [1, 2, 3, 4]",
+        "load = [1, 2, 3, 4, 5, 6, 7, 8, 9]",
+    )
+}
+
 /// The outcome of a line over these studies and programs.
 fn outcome_on<R: AllocGlobal + Threads + Wait + Sync>(
     rt: &R,
     line: &str,
 ) -> Result<Outcome, AllocError> {
     let study = eight_programs(rt.alloc())?;
+    let longer = longer_front(rt.alloc())?;
     let files = [
         ("one", ONE.as_bytes()),
+        ("longer", longer.as_bytes()),
         ("eight", study.as_bytes()),
         ("alike", ALIKE.as_bytes()),
         ("long.bin", LONG.as_slice()),
@@ -91,6 +102,13 @@ static REPORTS: [Done; 2] = [
     ("tomex times one 0 long", "step,", "\n"),
 ];
 
+static PATHS: [Done; 2] = [
+    ("tomex path one 0 long", "part,", "\n"),
+    ("tomex path one 0 long --by-pc", "pc,", "\n"),
+];
+
+static LINKS: [Done; 1] = [("tomex path one 0 long --links", "step,", "\n")];
+
 static STALLS: [Done; 2] = [
     ("tomex stalls one 0 long", "part,", "\n"),
     ("tomex stalls one 0 long --by-pc", "pc,", "\n"),
@@ -119,7 +137,7 @@ static RUN_BY_CYCLES: [Done; 2] = [
     ("tomex all one", "row,cost,", ",ebreak,x2=00010000,-\n"),
 ];
 
-static EXPLORED: [Done; 4] = [
+static EXPLORED: [Done; 5] = [
     (
         "tomex explore one --workers 2",
         "row,cost,",
@@ -128,7 +146,13 @@ static EXPLORED: [Done; 4] = [
     ("tomex front one", "row  cost  ", "\n"),
     ("tomex plot one", "<svg ", "</svg>\n"),
     ("tomex rows one", "row,cost,", ",1\n"),
+    ("tomex weights one", "row  cost  ", "\n"),
 ];
+
+static PAGES: [Done; 1] = [("tomex page one", "<!DOCTYPE html>\n", "</html>\n")];
+
+/// Each entry of each list is asked for again, up to the greatest.
+static WEIGHED: [Done; 1] = [("tomex choices one", " ", "\n")];
 
 /// Fails unless each of these lines succeeds.
 fn are_done<R: Abort + AllocGlobal + Threads + Wait + Sync>(
@@ -162,6 +186,26 @@ fn long_runs_are_made_cycle_by_cycle(rt: HostRuntime) -> Result<(), Fail> {
 }
 
 #[test]
+fn long_runs_have_paths(rt: HostRuntime) -> Result<(), Fail> {
+    are_done(&rt, &PATHS)
+}
+
+#[test]
+fn long_runs_have_links(rt: HostRuntime) -> Result<(), Fail> {
+    are_done(&rt, &LINKS)
+}
+
+#[test]
+fn long_runs_have_pages(rt: HostRuntime) -> Result<(), Fail> {
+    are_done(&rt, &PAGES)
+}
+
+#[test]
+fn long_runs_have_choices(rt: HostRuntime) -> Result<(), Fail> {
+    are_done(&rt, &WEIGHED)
+}
+
+#[test]
 fn long_runs_are_explored(rt: HostRuntime) -> Result<(), Fail> {
     are_done(&rt, &EXPLORED)
 }
@@ -181,6 +225,16 @@ static ROWS_OF_A_LONG_FRONT: [(&str, usize); 3] = [
     ("tomex rows alike", 1025),
     ("tomex worth alike 0 --workers 2", 35),
     ("tomex prices alike", 1026),
+];
+
+/// 2,304 of these: `find` and `front --hull` print the names and each row, `weights` and `prices` the stated ones too;
+/// `compare` two tables, `choices` a line a list.
+static ROWS_OF_A_LONGER_FRONT: [(&str, usize); 5] = [
+    ("tomex find longer", 2305),
+    ("tomex front longer --hull", 2305),
+    ("tomex weights longer", 2306),
+    ("tomex compare longer loop loop", 51),
+    ("tomex choices longer", 15),
 ];
 
 /// Fails unless each of these lines succeeds, with this number of lines in its output.
@@ -206,13 +260,29 @@ fn all_rows_of_long_fronts_are_not_refused(rt: HostRuntime) -> Result<(), Fail> 
     are_counted(&rt, &ROWS_OF_A_LONG_FRONT)
 }
 
+#[test]
+fn rows_of_longer_fronts_are_not_refused(rt: HostRuntime) -> Result<(), Fail> {
+    are_counted(&rt, &ROWS_OF_A_LONGER_FRONT)
+}
+
 static DRAWN: [Done; 3] = [
     ("tomex plot alike", "<svg ", "</svg>\n"),
     ("tomex plot alike --rows", "<svg ", "</svg>\n"),
     ("tomex page alike", "<!DOCTYPE html>\n", "</html>\n"),
 ];
 
+static DRAWN_WITH_CHOICES: [Done; 1] = [(
+    "tomex page longer --choices",
+    "<!DOCTYPE html>\n",
+    "</html>\n",
+)];
+
 #[test]
 fn long_fronts_are_drawn(rt: HostRuntime) -> Result<(), Fail> {
     are_done(&rt, &DRAWN)
+}
+
+#[test]
+fn longer_fronts_are_drawn_with_choices(rt: HostRuntime) -> Result<(), Fail> {
+    are_done(&rt, &DRAWN_WITH_CHOICES)
 }

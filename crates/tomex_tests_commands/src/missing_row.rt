@@ -1,4 +1,4 @@
-//! A row that a study doesn't have is found before any row is evaluated.
+//! A row or a program that a study doesn't have is found before any row is evaluated.
 
 use crate::explorations::PRICED;
 use std::sync::Wait;
@@ -49,5 +49,23 @@ fn a_missing_row_is_found_first(rt: HostRuntime) -> Result<(), Fail> {
     let (outcome, rows) = begun(&rt, "tomex worth study 2")?;
     assert!(rt; outcome.status == 1 && rows == 0);
     assert!(rt; outcome.err.as_slice() == b"tomex: no such row\n".as_slice());
+    Ok(())
+}
+
+#[test]
+fn a_missing_program_is_found_first(rt: HostRuntime) -> Result<(), Fail> {
+    let (outcome, rows) = begun(&rt, "tomex compare study mul mul")?;
+    assert!(rt; outcome.status == 0 && rows == 2);
+    for line in [
+        "tomex compare study mul nope",
+        "tomex compare study nope mul",
+    ] {
+        let (outcome, rows) = begun(&rt, line)?;
+        assert!(rt; outcome.status == 1 && rows == 0, "{line}");
+        assert!(rt;
+            outcome.err.as_slice() == b"tomex: no such program\n".as_slice(),
+            "{line}"
+        );
+    }
     Ok(())
 }

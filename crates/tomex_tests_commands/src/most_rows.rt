@@ -81,6 +81,74 @@ fn prints<R: Abort + AllocGlobal + Threads + Wait + Sync>(
     Ok(())
 }
 
+/// As many configurations without prices: all are on the front.
+const FREE: &str = "[[program]]\nname = \"mul\"\nfile = \"mul.bin\"\nsize = 4096\n[axes]\n\
+    div = [1, 2, 3, 4, 5, 6, 7, 8, 9, 10, 11, 12, 13, 14, 15, 16]\n\
+    load = [1, 2, 3, 4, 5, 6, 7, 8, 9, 10, 11, 12, 13, 14, 15, 16]\n\
+    store = [1, 2, 3, 4, 5, 6, 7, 8, 9, 10, 11, 12, 13, 14, 15, 16]\n\
+    bru = [1, 2, 3, 4]\n";
+
+/// Fails unless the line prints this number of lines.
+fn counts<R: Abort + AllocGlobal + Threads + Wait + Sync>(
+    rt: &R,
+    line: &str,
+    study: &str,
+    count: usize,
+) -> Result<(), Fail> {
+    let outcome = outcome_on(rt, line, study)?;
+    assert!(rt; outcome.status == 0 && outcome.err.is_empty(), "{line}");
+    assert_eq!(rt;
+        outcome.out.iter().filter(|byte| **byte == b'\n').count(),
+        count,
+        "{line}"
+    );
+    Ok(())
+}
+
+/// Lines with the number of lines in their output.
+static COUNTS: [(&str, usize); 3] = [
+    ("tomex weights study", 3),
+    ("tomex compare study mul mul", 62),
+    ("tomex find study", 16_385),
+];
+
+#[test]
+fn most_rows_are_counted(rt: HostRuntime) -> Result<(), Fail> {
+    for (line, count) in &COUNTS {
+        counts(&rt, line, MOST, *count)?;
+    }
+    Ok(())
+}
+
+/// Half of them: what is asked of each pair takes its time.
+fn half(alloc: Global, study: &str) -> Result<String, AllocError> {
+    study.replace(alloc, "bru = [1, 2, 3, 4]", "bru = [1, 2]")
+}
+
+#[test]
+fn many_rows_have_choices(rt: HostRuntime) -> Result<(), Fail> {
+    let study = half(rt.alloc(), MOST)?;
+    counts(&rt, "tomex choices study", study.as_str(), 15)
+}
+
+#[test]
+fn many_rows_are_all_on_a_hull(rt: HostRuntime) -> Result<(), Fail> {
+    let study = half(rt.alloc(), FREE)?;
+    counts(&rt, "tomex front study --hull", study.as_str(), 8193)
+}
+
+#[test]
+fn most_rows_are_all_on_a_front(rt: HostRuntime) -> Result<(), Fail> {
+    for line in [
+        "tomex find study",
+        "tomex front study",
+        "tomex front study --hull",
+    ] {
+        counts(&rt, line, FREE, 16_385)?;
+    }
+    Ok(())
+}
+
 /// Lines with their whole texts.
 static TEXTS: [(&str, &str); 2] = [
     ("tomex front study", MOST_TABLE),

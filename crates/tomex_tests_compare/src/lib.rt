@@ -1,6 +1,8 @@
-//! Tests of two builds of a program that are compared on all machines: by brute force, and with each allocation refused
-//! in turn. Those of what each function takes in two builds are tomex_tests_function_changes.
+//! Tests of two builds of a program: compared on all machines, and what each function takes in them. By brute force,
+//! and with each allocation refused in turn.
 #![tactic(auto)]
 
 #[cfg(test)]
 mod compared;
+#[cfg(test)]
+mod functions;

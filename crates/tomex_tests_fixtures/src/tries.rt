@@ -1,8 +1,9 @@
 //! Each growth of a call refused in turn: the call reports it, and with memory it gives the right
 //! answer.
 
+use crate::budget::Budget;
+use crate::refusing::Refusing;
 use std::alloc::{AllocError, Global};
-use tomex_tests_allocator::{Budget, Refusing};
 
 /// The memory of a try.
 pub type Heap = Refusing<Global>;

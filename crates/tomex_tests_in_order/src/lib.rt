@@ -1,5 +1,5 @@
-//! Tests of instructions, images and the in-order machine. They test what no contract says, compare
-//! with results from other programs, and refuse each growth of each call in turn.
+//! Tests of instructions, images, symbols of files and the in-order machine. They test what no contract
+//! says, compare with results from other programs, and refuse each growth of each call in turn.
 #![tactic(auto)]
 
 #[cfg(test)]
@@ -14,3 +14,5 @@ mod instructions;
 mod machines;
 #[cfg(test)]
 mod refused_memory;
+#[cfg(test)]
+mod symbols;

@@ -6,7 +6,9 @@ use std::io::{IsTerminal, Read};
 use std::sync::atomic::{AtomicU64, Ordering};
 use std::test::Fail;
 use std::time::{Clock, Duration};
-use tomex_streams::{Files, HostFiles, Meter, ReadFault, TerminalMeter, bytes_within};
+use tomex_streams::{
+    Files, HINT, HostFiles, Meter, Progress, ReadFault, TerminalMeter, bytes_within,
+};
 use tomex_tests_fixtures::heap_of;
 
 const TEXT: &[u8; 13] = b"0123456789abc";
@@ -94,5 +96,17 @@ fn a_pipe_gets_no_line(rt: HostRuntime) -> Result<(), Fail> {
     meter.hint();
     let after = written(&rt)?;
     assert!(rt; before.as_str() == after.as_str());
+    Ok(())
+}
+
+#[test]
+fn a_terminal_gets_these_lines(rt: HostRuntime) -> Result<(), Fail> {
+    let progress = Progress {
+        done: 3,
+        of: 16_384,
+    };
+    let line = format!(in rt.alloc(); "{progress}")?;
+    assert!(rt; line.as_str() == "3 of 16384 configurations");
+    assert!(rt; HINT == "tomex: `tomex explain` and these words say what it means\n");
     Ok(())
 }

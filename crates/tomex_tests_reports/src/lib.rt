@@ -1,10 +1,13 @@
-//! Tests of reports: worked ones, the texts of tables, and explorations whose workers are held.
+//! Tests of reports: worked ones, the texts of tables, explorations whose workers are held, and all that with memory
+//! refused.
 #![tactic(auto)]
 
 #[cfg(test)]
 mod answers;
 #[cfg(test)]
 mod explorations;
+#[cfg(test)]
+mod refused_memory;
 #[cfg(test)]
 mod reports;
 #[cfg(test)]

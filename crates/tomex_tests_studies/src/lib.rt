@@ -1,6 +1,9 @@
-//! Tests of grids, programs and studies: of what no contract says.
+//! Tests of grids, programs, studies and their documents: of what no contract says. Which documents are read, what
+//! they contain, and the texts of the refusals.
 #![tactic(auto)]
 
+#[cfg(test)]
+mod documents;
 #[cfg(test)]
 mod grids;
 #[cfg(test)]

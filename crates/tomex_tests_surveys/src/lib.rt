@@ -1,5 +1,9 @@
-//! Tests of surveys and of their output.
+//! Tests of surveys and of their output, and of weights: for which of them rows are on the front.
 #![tactic(auto)]
 
 #[cfg(test)]
+mod random_studies;
+#[cfg(test)]
 mod surveys;
+#[cfg(test)]
+mod weights;

@@ -11,7 +11,7 @@ use Rattle.tomex_pareto.proofs.AllRivals.{stay_within}
 use Rattle.tomex_pareto.proofs.Settled.{settled_holds}
 use Rattle.tomex_study.specs.Study.{DesignSpace, IsStudy}
 use Rattle.tomex_study.specs.StudyFront.{all_rows, front_of_study}
-use Rattle.tomex_weights.specs.declared.spans.TheConstants.{GREATEST_WEIGHT}
+use Rattle.tomex_weights.specs.Spans.{greatest_weight}
 use Rattle.tomex_weights.specs.Laws.{ComesToFront, ListsAllThatCome, ListsNoOthers}
 use Rattle.tomex_weights.specs.Listed.{has_weights, is_listed}
 use Rattle.tomex_weights.specs.Programs.{is_relevant, relevant_programs_of}
@@ -63,9 +63,9 @@ by_program s place r is low one some fails =
     let whole = whole_if_some s place r one fails (omega (arith, less)) in
     let range = weight_range s place is low in
     let now = 100 * weight_at s place in
-    let held : holds (record { first = 1; end = suc GREATEST_WEIGHT }) now ≡ true =
-    and_from (nat_le 1 now) (nat_lt now (suc GREATEST_WEIGHT)) (le-leb 1 now (omega (arith, range.0)))
-    (lt-ltb now (suc GREATEST_WEIGHT) (omega (arith, range.1))) in
+    let held : holds (record { first = 1; end = suc greatest_weight }) now ≡ true =
+    and_from (nat_le 1 now) (nat_lt now (suc greatest_weight)) (le-leb 1 now (omega (arith, range.0)))
+    (lt-ltb now (suc greatest_weight) (omega (arith, range.1))) in
     sym (holds_stated s place r is low one) ∙ (ap (λ span. holds span now) whole ∙ held)
 
 pub lists_all : ListsAllThatCome
@@ -98,12 +98,12 @@ comes_at_first s place r is low one some =
     let own = by_weight s place r in
     let held : holds weights q ≡ true =
     and_from (nat_le q q) (nat_lt q weights.end) (le-leb q q (omega arith)) some in
-    let whole = span 1 GREATEST_WEIGHT own rows in
-    let all = and_parts (nat_le 1 q && nat_le q GREATEST_WEIGHT) (stays q rows own)
-    (sym (stay_within 1 GREATEST_WEIGHT q rows own) ∙ (sym (settled_holds whole q) ∙ held)) in
-    let two = and_parts (nat_le 1 q) (nat_le q GREATEST_WEIGHT) all.0 in
+    let whole = span 1 greatest_weight own rows in
+    let all = and_parts (nat_le 1 q && nat_le q greatest_weight) (stays q rows own)
+    (sym (stay_within 1 greatest_weight q rows own) ∙ (sym (settled_holds whole q) ∙ held)) in
+    let two = and_parts (nat_le 1 q) (nat_le q greatest_weight) all.0 in
     let above = leb-true 1 q two.0 in
-    let below = leb-true q GREATEST_WEIGHT two.1 in
+    let below = leb-true q greatest_weight two.1 in
     record {
       place = place;
       q = q;

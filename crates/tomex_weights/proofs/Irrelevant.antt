@@ -12,7 +12,7 @@ use Rattle.tomex_pareto.proofs.EqualTimes.{IsAllOrNone, all_or_none}
 use Rattle.tomex_pareto.proofs.Settled.{held_some, settled_if_some}
 use Rattle.tomex_study.specs.Study.{DesignSpace}
 use Rattle.tomex_study.specs.StudyFront.{all_rows}
-use Rattle.tomex_weights.specs.declared.spans.TheConstants.{GREATEST_WEIGHT}
+use Rattle.tomex_weights.specs.Spans.{greatest_weight}
 use Rattle.tomex_weights.specs.Laws.{HoldsAllIfIrrelevant}
 use Rattle.tomex_weights.specs.Programs.{is_relevant}
 use Rattle.tomex_weights.specs.Reweighted.{own_cycles, weight_at}
@@ -46,8 +46,8 @@ all_same : (s : DesignSpace) (place : ℕ) → is_relevant s place ≡ false
 unfolding is_relevant
 all_same s place e = none_other s place (own_cycles s place 0) (all_rows s) e
 
-whole_span : (s : ValueSpan) → IsAllOrNone (record { first = 1; end = suc GREATEST_WEIGHT }) s → 0 < s.end
-    → s ≡ record { first = 1; end = suc GREATEST_WEIGHT }
+whole_span : (s : ValueSpan) → IsAllOrNone (record { first = 1; end = suc greatest_weight }) s → 0 < s.end
+    → s ≡ record { first = 1; end = suc greatest_weight }
 whole_span s is some = elim is.end [
   | inl all ↦ rw (sym is.first, sym all) refl
   | inr none ↦ absurd (omega (arith, none, some))
@@ -55,18 +55,18 @@ whole_span s is some = elim is.end [
 
 -- a span that isn't empty is all weights
 pub whole_if_some : (s : DesignSpace) (place : ℕ) (r : FrontRow) → Contains (all_rows s) r → is_relevant s place ≡ false
-    → 0 < (span_of s place r).end → span_of s place r ≡ record { first = 1; end = suc GREATEST_WEIGHT }
+    → 0 < (span_of s place r).end → span_of s place r ≡ record { first = 1; end = suc greatest_weight }
 whole_if_some s place r one fails some =
     let rows = rows_by_weight s place in
     let own = by_weight s place r in
     let first = own_cycles s place 0 in
     let same = all_same s place fails in
     let times : own.times ≡ first = own_same s place first (all_rows s) r (among (all_rows s) r one) same in
-    let whole = span 1 GREATEST_WEIGHT own rows in
+    let whole = span 1 greatest_weight own rows in
     let is = settled_if_some whole some in
     is
     ∙ whole_span whole
-    (all_or_none own rows (record { first = 1; end = suc GREATEST_WEIGHT })
+    (all_or_none own rows (record { first = 1; end = suc greatest_weight })
     (subst (λ (n : ℕ). AllByRecursion (λ (j : LineRow). j.times ≡ n) rows) (sym times) same))
     (subst (λ (s : ValueSpan). 0 < s.end) is some)
 

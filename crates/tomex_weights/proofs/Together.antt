@@ -25,7 +25,7 @@ use Rattle.tomex_study.specs.Cycles.{cycles_of, cycles_on, totals_on}
 use Rattle.tomex_study.specs.Program.{Workload}
 use Rattle.tomex_study.specs.Study.{DesignSpace, IsStudy, config_at}
 use Rattle.tomex_study.specs.StudyFront.{all_rows, front_of_study}
-use Rattle.tomex_weights.specs.declared.spans.TheConstants.{GREATEST_WEIGHT}
+use Rattle.tomex_weights.specs.Spans.{greatest_weight}
 use Rattle.tomex_weights.specs.Reweighted.{in_hundredths, own_cycles, weight_at}
 use Rattle.tomex_weights.specs.Spans.{by_weight, rows_by_weight, span_of}
 use Rattle.tomex_weights.specs.Together.{IsShareOfWay, IsStatedAtStated, StaysByShares, Weights, reweighted_by}
@@ -168,15 +168,15 @@ module _ (s : DesignSpace) (weights : Weights) (shares : ℕ → ℕ) (whole : �
       let rows = rows_by_weight s place in
       let range = weight_range s place is low in
       let above : 1 ≤ now = omega (arith, range.0) in
-      let all = span 1 GREATEST_WEIGHT line rows in
+      let all = span 1 greatest_weight line rows in
       let held = sym (settled_holds all now) ∙ (holds_stated s place r is low one ∙ is_on_stated) in
-      let here : stays now rows line ≡ true = sym (stays_is 1 GREATEST_WEIGHT now rows line above
+      let here : stays now rows line ≡ true = sym (stays_is 1 greatest_weight now rows line above
       (omega (arith, range.1))) ∙ held in
-      let some = some_end 1 GREATEST_WEIGHT now rows line above here in
+      let some = some_end 1 greatest_weight now rows line above here in
       let last : suc (all.end - 1) ≡ all.end = omega (arith, some) in
       let way = subst (λ (span : ValueSpan). IsShareOfWay span now (weights place) (shares place) whole)
       (settled_some all now held) moves in
-      rw (slack_is place low) at (one_counts 1 GREATEST_WEIGHT now (all.end - 1) line (by_weight s place j) rows above
+      rw (slack_is place low) at (one_counts 1 greatest_weight now (all.end - 1) line (by_weight s place j) rows above
       here last (line_there s place j there) cheap (weights place) whole (shares place) way.up way.down)
     where
       slack_is : (place : ℕ) → place < length s.programs

@@ -14,7 +14,7 @@ use Rattle.tomex_pareto.proofs.Settled.{settled_holds}
 use Rattle.tomex_study.specs.Cycles.{cycles_of}
 use Rattle.tomex_study.specs.Study.{DesignSpace}
 use Rattle.tomex_study.specs.StudyFront.{all_rows, front_of_study}
-use Rattle.tomex_weights.specs.declared.spans.TheConstants.{GREATEST_WEIGHT}
+use Rattle.tomex_weights.specs.Spans.{greatest_weight}
 use Rattle.tomex_weights.specs.Laws.{IsOnExactlyWithin}
 use Rattle.tomex_weights.specs.Spans.{by_weight, rows_by_weight}
 use Rattle.tomex_weights.proofs.Reweighing.{rows_reweighted}
@@ -32,8 +32,8 @@ pub on_within : IsOnExactlyWithin
 unfolding front_of_study
 on_within s place q r is low above below one =
     let rows = rows_by_weight s place in
-    let on = are_on_front_within 1 GREATEST_WEIGHT q rows (by_weight s place r) (lines_numbered s place)
+    let on = are_on_front_within 1 greatest_weight q rows (by_weight s place r) (lines_numbered s place)
     (line_there s place r one) in
     ap (λ (all : List FrontRow). is_on (front_of all) r.row) (rows_reweighted s place q low)
-    ∙ sym (settled_holds (span 1 GREATEST_WEIGHT (by_weight s place r) rows) q
-    ∙ (on.cycles ∙ in_range 1 GREATEST_WEIGHT q _ above below))
+    ∙ sym (settled_holds (span 1 greatest_weight (by_weight s place r) rows) q
+    ∙ (on.cycles ∙ in_range 1 greatest_weight q _ above below))

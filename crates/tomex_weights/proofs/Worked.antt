@@ -14,7 +14,7 @@ use Rattle.tomex_pareto.specs.Spans.{settled, span, swapped}
 use Rattle.tomex_pareto.specs.declared.line_row.LineRow.{LineRow}
 use Rattle.tomex_pareto.specs.declared.spans.ValueSpan.{ValueSpan}
 use Rattle.tomex_layout.specs.Table.{TableColumn, aligned_in, spaced_in, table_line, table_of, width_of}
-use Rattle.tomex_weights.specs.declared.spans.TheConstants.{GREATEST_WEIGHT}
+use Rattle.tomex_weights.specs.Spans.{greatest_weight}
 use Rattle.tomex_weights.specs.Listed.{has_weights}
 use Rattle.tomex_weights.specs.Texts.{span_text}
 
@@ -46,10 +46,10 @@ abbrev by_matrix : Machine → LineRow
 by_matrix m = record { row = m.row; rest = 100 * m.primes; times = m.matrix; other = m.cost }
 
 abbrev primes_span : Machine → ValueSpan
-primes_span m = settled (span 1 GREATEST_WEIGHT (by_primes m) (map by_primes machines))
+primes_span m = settled (span 1 greatest_weight (by_primes m) (map by_primes machines))
 
 abbrev matrix_span : Machine → ValueSpan
-matrix_span m = settled (span 1 GREATEST_WEIGHT (by_matrix m) (map by_matrix machines))
+matrix_span m = settled (span 1 greatest_weight (by_matrix m) (map by_matrix machines))
 
 abbrev is_on_front : Machine → Bool
 is_on_front m = is_on (front_of (map row_of machines)) m.row

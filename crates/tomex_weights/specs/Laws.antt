@@ -6,7 +6,7 @@ use Rattle.tomex_pareto.specs.declared.front_row.FrontRow.{FrontRow}
 use Rattle.tomex_pareto.specs.Spans.{holds}
 use Rattle.tomex_study.specs.Study.{DesignSpace, IsStudy}
 use Rattle.tomex_study.specs.StudyFront.{all_rows, front_of_study}
-use Rattle.tomex_weights.specs.declared.spans.TheConstants.{GREATEST_WEIGHT}
+use Rattle.tomex_weights.specs.Spans.{greatest_weight}
 use Rattle.tomex_weights.specs.Listed.{is_listed}
 use Rattle.tomex_weights.specs.Programs.{is_relevant}
 use Rattle.tomex_weights.specs.Reweighted.{reweighted, weight_at, with_whole}
@@ -15,7 +15,7 @@ use Rattle.tomex_weights.specs.Spans.{span_of}
 -- with one weight replaced, a row is on the front if and only if the weight is in the row's span
 abbrev pub IsOnExactlyWithin : Type 0
 IsOnExactlyWithin = (s : DesignSpace) (place q : ℕ) (r : FrontRow) → IsStudy s → place < length s.programs → 1 ≤ q
-    → q ≤ GREATEST_WEIGHT → Contains (all_rows s) r
+    → q ≤ greatest_weight → Contains (all_rows s) r
     → is_on (front_of_study (reweighted s place q)) r.row ≡ holds (span_of s place r) q
 
 -- a whole weight is that of a study's file
@@ -33,7 +33,7 @@ HoldsStated = (s : DesignSpace) (place : ℕ) (r : FrontRow) → IsStudy s → p
 abbrev pub HoldsAllIfIrrelevant : Type 0
 HoldsAllIfIrrelevant = (s : DesignSpace) (place : ℕ) (r : FrontRow) → IsStudy s → place < length s.programs
     → Contains (all_rows s) r → is_on (front_of_study s) r.row ≡ true → is_relevant s place ≡ false
-    → span_of s place r ≡ record { first = 1; end = suc GREATEST_WEIGHT }
+    → span_of s place r ≡ record { first = 1; end = suc greatest_weight }
 
 -- a row is on the front with some program's weight replaced
 pub record ComesToFront (s : DesignSpace) (r : FrontRow) : Type 0 where
@@ -41,7 +41,7 @@ pub record ComesToFront (s : DesignSpace) (r : FrontRow) : Type 0 where
   pub q : ℕ
   pub program : place < length s.programs
   pub some : 1 ≤ q
-  pub few : q ≤ GREATEST_WEIGHT
+  pub few : q ≤ greatest_weight
   pub on : is_on (front_of_study (reweighted s place q)) r.row ≡ true
 
 -- each such row is listed

@@ -6,8 +6,11 @@ use Rattle.tomex_pareto.specs.declared.spans.ValueSpan.{ValueSpan}
 use Rattle.tomex_pareto.specs.Spans.{settled, span}
 use Rattle.tomex_study.specs.Study.{DesignSpace}
 use Rattle.tomex_study.specs.StudyFront.{all_rows}
-use Rattle.tomex_weights.specs.declared.spans.TheConstants.{GREATEST_WEIGHT}
 use Rattle.tomex_weights.specs.Reweighted.{own_cycles, weight_at}
+
+-- the greatest weight, in hundredths: 1000.00
+abbrev pub greatest_weight : ℕ
+greatest_weight = 100000
 
 -- a row by a program's weight: its cycles, in hundredths, are those of the other programs, and as often as the weight
 -- says those of this one
@@ -24,4 +27,4 @@ rows_by_weight s place = map (by_weight s place) (all_rows s)
 
 -- the weights, from 0.01 to 1000.00, for which a row is on the front; it may be on the front as stated or not
 abbrev pub span_of : DesignSpace → ℕ → FrontRow → ValueSpan
-span_of s place r = settled (span 1 GREATEST_WEIGHT (by_weight s place r) (rows_by_weight s place))
+span_of s place r = settled (span 1 greatest_weight (by_weight s place r) (rows_by_weight s place))

@@ -6,7 +6,7 @@ ghost use Rattle.tomex_pareto.specs.Front.{is_on};
 ghost use Rattle.tomex_pareto.specs.Spans.{HasRoom, holds};
 ghost use Rattle.tomex_study.specs.StudyFront.{all_rows, front_of_study};
 ghost use Rattle.tomex_weights.specs.Reweighted.{reweighted};
-ghost use Rattle.tomex_weights.specs.Spans.{rows_by_weight, span_of};
+ghost use Rattle.tomex_weights.specs.Spans.{greatest_weight, rows_by_weight, span_of};
 
 use crate::line_rows::by_weight;
 use std::alloc::Allocator;
@@ -30,7 +30,7 @@ pub fn span_of<A: Allocator>(
     requires rows { rows.now ≡ rows_by_weight surveyed.now place }
     requires row { Contains (all_rows surveyed.now) row }
     ensures span { result ≡ span_of surveyed.now place row }
-    ensures exact { (q : ℕ) → 1 ≤ q → q ≤ GREATEST_WEIGHT
+    ensures exact { (q : ℕ) → 1 ≤ q → q ≤ greatest_weight
         → is_on (front_of_study (reweighted surveyed.now place q)) row.row ≡ holds result q }
 {
     surveyed.keeps_limits();

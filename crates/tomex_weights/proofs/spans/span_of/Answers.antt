@@ -3,7 +3,7 @@ use Rattle.std.proofs.Common.{◌≡◌, ◌∙◌, ap, ap₂, sym, List}
 use Rattle.tomex_pareto.specs.declared.line_row.LineRow.{LineRow}
 use Rattle.tomex_pareto.specs.declared.spans.ValueSpan.{ValueSpan}
 use Rattle.tomex_pareto.specs.Spans.{holds, settled, span}
-use Rattle.tomex_weights.specs.declared.spans.TheConstants.{GREATEST_WEIGHT}
+use Rattle.tomex_weights.specs.Spans.{greatest_weight}
 use Rattle.tomex_weights.specs.Spans.{span_of}
 use Rattle.tomex_weights.proofs.Within.{on_within}
 use Rattle.tomex_weights.proofs.spans.span_of.Goals as goal
@@ -11,7 +11,7 @@ use Rattle.tomex_weights.proofs.spans.span_of.Goals as goal
 pub returns-clause-span : goal.returns-clause-span
 returns-clause-span g c =
     c.settled_span.ensures.span
-    ∙ ap₂ (λ (r : LineRow) (rows : List LineRow). settled (span 1 GREATEST_WEIGHT r rows))
+    ∙ ap₂ (λ (r : LineRow) (rows : List LineRow). settled (span 1 greatest_weight r rows))
     c.by_weight.ensures.line c.requires.rows
 
 pub returns-clause-exact : goal.returns-clause-exact

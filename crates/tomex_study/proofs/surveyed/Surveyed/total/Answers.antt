@@ -1,5 +1,5 @@
 -- There is a total for each program.
-use Rattle.std.proofs.Common.{◌≡◌, ◌∙◌, ap, arith, get_or, length, List, ℕ}
+use Rattle.std.proofs.Common.{◌∙◌, ap, arith, get_or, length, List, ℕ}
 use Rattle.tomex_study.proofs.Rows.{as_many_programs, total_there}
 use Rattle.tomex_study.proofs.surveyed.Surveyed.total.Goals as goal
 

@@ -1,5 +1,5 @@
 -- The list at the row's place begins with its totals.
-use Rattle.std.proofs.Common.{◌<◌, ◌≤◌, ◌∙◌, ap, arith, get_or, length, subst, sym, take, List, ℕ, []}
+use Rattle.std.proofs.Common.{◌<◌, ◌∙◌, ap, arith, get_or, length, subst, sym, take, List, []}
 use Rattle.tomex_study.specs.Cycles.{totals_of}
 use Rattle.tomex_study.specs.Program.{Workload}
 use Rattle.tomex_study.specs.Study.{DesignSpace}

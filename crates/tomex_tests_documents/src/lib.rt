@@ -1,6 +1,0 @@
-//! Tests of the documents of studies: those that are read, their contents, and the texts of the
-//! refusals.
-#![tactic(auto)]
-
-#[cfg(test)]
-mod documents;

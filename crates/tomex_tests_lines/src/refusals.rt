@@ -1,0 +1,4 @@
+//! Explanations: each refusal that the crates below can give has its entry.
+
+mod explained;
+mod memory;

@@ -1,8 +1,0 @@
--- Addresses that were found sorted rise.
-use Rattle.std.proofs.lemmas.List.Sorted.{non_decreasing_from_is_sorted}
-use Rattle.tomex_tests_symbols.proofs.functions.numbers_at.Goals as goal
-
-pub functions_at-requires-clause-rise : goal.functions_at-requires-clause-rise
-functions_at-requires-clause-rise g c =
-    rw c.if-is_sorted.true at
-    (non_decreasing_from_is_sorted c.args.addresses.now c.is_sorted.result c.is_sorted.ensures.cases)
