@@ -10,6 +10,8 @@
 mod credit;
 mod demands;
 mod evaluation;
+mod evaluator;
 mod known;
 
 pub use demands::demands_by_blocks;
+pub use evaluator::Evaluator;
