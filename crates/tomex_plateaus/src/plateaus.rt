@@ -11,6 +11,7 @@ use std::alloc::{AllocError, Allocator};
 use std::cell::Cell;
 use std::marker::Model;
 use tomex_config::Config;
+use tomex_evaluation::Evaluator;
 use tomex_timing::Run;
 
 /// The most plateaus that are kept.
@@ -19,8 +20,8 @@ const MOST: usize = 8192;
 /// Plateaus of a program, from the demands of its runs.
 #[derive(Drop)]
 pub struct Plateaus<'s, A: Allocator> {
-    /// A run of the program.
-    run: &'s Run<A>,
+    /// Evaluates the program's run.
+    evaluator: Evaluator<'s, A>,
     found: Vec<Plateau, A>,
     /// The place of the oldest, once the list is full.
     oldest: usize,
@@ -34,9 +35,9 @@ impl<'s, A: Allocator> Model for Plateaus<'s, A> {
 
     ghost Value = { Kept };
 
-    ghost view = { λ p. record { steps = p.run.now; found = p.found.items; oldest = p.oldest } };
+    ghost view = { λ p. record { steps = p.evaluator; found = p.found.items; oldest = p.oldest } };
 
-    ghost invariant = { λ p. AreKept (record { steps = p.run.now; found = p.found.items; oldest = p.oldest }) };
+    ghost invariant = { λ p. AreKept (record { steps = p.evaluator; found = p.found.items; oldest = p.oldest }) };
 }
 
 impl<'s, A: Allocator> Plateaus<'s, A> {
@@ -46,7 +47,7 @@ impl<'s, A: Allocator> Plateaus<'s, A> {
         ensures { result ≡ record { steps = run.now; found = []; oldest = 0 } }
     {
         Plateaus {
-            run,
+            evaluator: Evaluator::new(run),
             found: Vec::new(alloc),
             oldest: 0,
             latest: Cell::new(0),
@@ -115,11 +116,14 @@ impl<'s, A: Allocator> Plateaus<'s, A> {
         self.oldest = (self.oldest + 1) % MOST;
         Ok(())
     }
+}
 
+impl<'s, A: Allocator + Clone> Plateaus<'s, A> {
     /// Evaluates the program's run on a configuration, and keeps the plateau that its demands give.
     /// Returns the run's cycles. If out of memory, no plateau is lost.
     ///
-    /// The work is that of `times`, without its list.
+    /// The work is that of `times`, without its list, for the first two configurations. For later ones it is much less,
+    /// if the program has loops: each block of steps is evaluated once in each state in which the run is before it.
     pub fn learn(&mut self, alloc: A, config: &Config) -> Result<u64, AllocError>
         ensures steps { self.new.steps ≡ self.old.steps }
         ensures total { IfOk result (λ n. total_of (times_in config.now self.old.steps) ≡ n) }
@@ -129,7 +133,7 @@ impl<'s, A: Allocator> Plateaus<'s, A> {
         ensures refused { OnErr result (self.new ≡ self.old) }
     {
         config.keeps_limits();
-        let demands = self.run.demands(&alloc, config)?;
+        let demands = self.evaluator.demands(&alloc, config)?;
         self.keep(Plateau::of(&demands, config))?;
         Ok(demands.total)
     }
