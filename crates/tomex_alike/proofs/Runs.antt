@@ -102,10 +102,10 @@ module _ (config : Configuration) (steps : List Step) (good : IsWithinLimits con
       (rw count at here)
 
   -- later steps issue no earlier, take no less and wait no less
-  record IsNoLess (g h : List Done) : Type 0 where
-    first : first_issue config g ≤ first_issue config h
-    taken : (part : Part) → peak part g ≤ peak part h
-    stalled : (part : Part) → stalls config part g ≤ stalls config part h
+  pub record IsNoLess (g h : List Done) : Type 0 where
+    pub first : first_issue config g ≤ first_issue config h
+    pub taken : (part : Part) → peak part g ≤ peak part h
+    pub stalled : (part : Part) → stalls config part g ≤ stalls config part h
 
   no_less_after : (i n : ℕ) → i + n ≤ length steps
       → IsNoLess (history_to config steps i) (history_to config steps (i + n))
@@ -123,7 +123,7 @@ module _ (config : Configuration) (steps : List Step) (good : IsWithinLimits con
         stalled = λ part. omega (arith, before.stalled part);
       })
 
-  no_less : (a b : ℕ) → a ≤ b → b ≤ length steps → IsNoLess (history_to config steps a) (history_to config steps b)
+  pub no_less : (a b : ℕ) → a ≤ b → b ≤ length steps → IsNoLess (history_to config steps a) (history_to config steps b)
   no_less a b l k =
       let e : a + (b - a) ≡ b = omega arith in
       rw e at (no_less_after a (b - a) (omega arith))

@@ -133,7 +133,7 @@ module _ (steps : List Step) (facts : List Facts) (are : AreFacts steps facts) w
         same_from n 0 4 p q g h (omega arith) (omega arith) (omega arith) (rw e (sym (window_none facts p))) to_p to_q
 
 -- each block of a row is within it
-row_within : (from : ℕ) (blocks : List Block) (to : ℕ) → AreInARow from blocks to
+pub row_within : (from : ℕ) (blocks : List Block) (to : ℕ) → AreInARow from blocks to
     → (from ≤ to) × All (λ b. (b.first < b.end) × (b.end ≤ to)) blocks
 row_within from [] to row = (omega arith, All-nil (λ b. (b.first < b.end) × (b.end ≤ to)))
 row_within from (b ∷ blocks) to row =

@@ -63,7 +63,9 @@ impl<A: Allocator + Clone> Blocks<A> {
             different,
         })
     }
+}
 
+impl<A: Allocator> Blocks<A> {
     /// The blocks, in program order: each begins where the one before it ends.
     pub fn blocks(&self) -> &[Block]
         ensures { result.now ≡ self.now.blocks }

@@ -1,0 +1,15 @@
+-- A copy is kept, and a row of entries with nothing in them.
+use Rattle.std.proofs.Common.{None, refl}
+use Rattle.tomex_evaluation.proofs.Keeping.{row_more}
+use Rattle.tomex_evaluation.proofs.known.Known.keep.Goals as goal
+
+pub returns : goal.returns
+returns g c = record {
+  copy = c.copy_from.new.self;
+  is = c.in_ok-copy_from.ensures.copied;
+  shows = c.in_ok-copy_from.ensures.shows;
+  states = c.in_ok-push.ensures.items;
+  next = row_more c.args.self.now.next.items c.resize.new.self.items c.len.result c.args.self.now.next.len
+      c.args.self.now.different None c.args.self.now.next.ok.0 c.len.ensures c.in_ok-resize.ensures.items;
+  different = refl;
+}

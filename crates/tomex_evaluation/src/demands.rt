@@ -1,0 +1,46 @@
+//! The demands of a run, by its blocks.
+
+ghost use Rattle.std.specs.Prelude.{◌≡◌, ◌^◌, ◌<◌, length, map, IfOk};
+ghost use Rattle.tomex_timing.specs.Demands.{AreDemands};
+ghost use Rattle.tomex_timing.specs.Recent.{facts_of};
+ghost use Rattle.tomex_timing.specs.Search.{history};
+ghost use Rattle.tomex_repeats.specs.Blocks.{AreBlocks};
+
+use crate::evaluation::{Evaluation, Task};
+use std::alloc::{AllocError, Allocator};
+use tomex_config::Config;
+use tomex_repeats::Blocks;
+use tomex_timing::{Demands, Run};
+
+/// The demands of a run on a configuration: those of `Run::demands`, in less time if blocks come again.
+///
+/// At most 32 states are kept at once, of some 1.5 kilobytes each, and an entry of 24 bytes for each of them and each
+/// different block.
+pub fn demands_by_blocks<A: Allocator + Clone>(
+    alloc: &A,
+    run: &Run<A>,
+    blocks: &Blocks<A>,
+    config: &Config,
+) -> Result<Demands, AllocError>
+    requires few { length run.now < 2 ^ 28 }
+    requires blocks { AreBlocks (map facts_of run.now) blocks.now }
+    ensures { IfOk result (λ d. AreDemands config.now (history config.now run.now) d) }
+{
+    config.keeps_limits();
+    let _facts = run.facts();
+    let task = Task {
+        run,
+        blocks,
+        config,
+    };
+    let mut evaluation = Evaluation::new(alloc, &task)?;
+    let row = blocks.blocks();
+    let mut next = 0;
+    while next < row.len() {
+        evaluation.evaluate(alloc, &task, &row[next])?;
+        next = evaluation.follow(&task, next + 1);
+    }
+    let mut demands = evaluation.demands;
+    demands.total = evaluation.total(&task);
+    Ok(demands)
+}
