@@ -5,3 +5,4 @@ pub mod Settled
 pub mod Nothing
 pub mod Windows
 pub mod Steps
+mod Rows
