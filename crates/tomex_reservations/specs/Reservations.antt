@@ -23,9 +23,13 @@ bus_line = 5
 abbrev pub free_slot : List ℕ
 free_slot = replicate 8 0
 
--- how many of a line are taken in a cycle; none past the table's end
+-- how many of each line are taken in a cycle; none past the table's end
+abbrev pub slot_at : Reserved → ℕ → List ℕ
+slot_at table t = slice_index_or table.slots (t - table.base) free_slot
+
+-- and how many of one line
 abbrev pub taken_at : Reserved → ℕ → ℕ → ℕ
-taken_at table line t = slice_index (slice_index_or table.slots (t - table.base) free_slot) line
+taken_at table line t = slice_index (slot_at table t) line
 
 -- one of `most` is left
 abbrev pub is_left : Reserved → ℕ → ℕ → ℕ → Bool

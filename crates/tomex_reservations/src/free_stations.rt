@@ -1,6 +1,6 @@
 //! The reservation stations: which one of a pool is free first.
 
-ghost use Rattle.std.specs.Prelude.{◌≡◌, ℕ, ◌+◌, ◌^◌, ◌<◌, ◌≤◌, replicate, slice_set};
+ghost use Rattle.std.specs.Prelude.{◌≡◌, ℕ, ◌+◌, ◌^◌, ◌<◌, ◌≤◌, All, map, replicate, slice_set};
 ghost use Rattle.tomex_reservations.specs.Reservations.{IsFreeFirst, end_at, station_place};
 
 use tomex_rvdec::PoolId;
@@ -70,5 +70,15 @@ impl Stations {
         ensures { self.new.ends ≡ slice_set self.old.ends (station_place pool number) end }
     {
         self.ends[place_of(pool, number)] = end;
+    }
+
+    /// Moves all ends to later cycles.
+    pub fn shift(&mut self, by: u64)
+        requires { All (λ end. end + by < 2 ^ 64) self.old.ends }
+        ensures { self.new.ends ≡ map (λ end. end + by) self.old.ends }
+    {
+        for end in self.ends.iter_mut() {
+            *end += by;
+        }
     }
 }

@@ -1,7 +1,7 @@
 //! The reservation table: how many units of each kind, and how many buses, are taken in the cycles ahead.
 
-ghost use Rattle.std.specs.Prelude.{◌≡◌, ℕ, ◌+◌, ◌-◌, ◌^◌, ◌<◌, ◌≤◌, IfOk, OnErr, OnOk, length, max, []};
-ghost use Rattle.tomex_reservations.specs.Reservations.{Reserved, is_left, taken_at, taken_with, IsFirst};
+ghost use Rattle.std.specs.Prelude.{◌≡◌, ℕ, ◌+◌, ◌-◌, ◌^◌, ◌<◌, ◌≤◌, ◌↔◌, IfOk, IsTrue, OnErr, OnOk, length, max, []};
+ghost use Rattle.tomex_reservations.specs.Reservations.{Reserved, is_left, slot_at, taken_at, taken_with, IsFirst};
 
 use std::alloc::{AllocError, Allocator};
 use std::marker::Model;
@@ -260,5 +260,61 @@ impl<A: Allocator> ReservationTable<A> {
             self.slots.clear();
         }
         self.base = cycle;
+    }
+
+    /// Moves all that is taken to later cycles.
+    pub fn shift(&mut self, by: u64)
+        requires small { self.old.base + by < 2 ^ 64 }
+        ensures base { self.new.base ≡ self.old.base + by }
+        ensures moved { (l t : ℕ) → taken_at self.new l (t + by) ≡ taken_at self.old l t }
+    {
+        self.base += by;
+    }
+
+    /// Makes this a copy of another table's cycles from `from` on, in the memory that it has. Without memory for them
+    /// nothing is taken in it.
+    pub fn copy_from(&mut self, other: &ReservationTable<A>, from: u64) -> Result<(), AllocError>
+        requires later { other.now.base ≤ from }
+        ensures base { self.new.base ≡ from }
+        ensures same { OnOk result ((l t : ℕ) → from ≤ t → taken_at self.new l t ≡ taken_at other.now l t) }
+        ensures refused { OnErr result ((l t : ℕ) → taken_at self.new l t ≡ 0) }
+    {
+        self.base = from;
+        self.slots.clear();
+        let past = (from - other.base) as usize;
+        if past < other.slots.len() {
+            self.slots.extend_from_slice(&other.slots[past..])
+        } else {
+            Ok(())
+        }
+    }
+
+    /// The lines of a cycle.
+    fn slot(&self, cycle: u64) -> [u8; 8]
+        requires ahead { self.now.base ≤ cycle }
+        ensures { result ≡ slot_at self.now cycle }
+    {
+        match self.slots.get((cycle - self.base) as usize) {
+            None => [0; 8],
+            Some(slot) => *slot,
+        }
+    }
+
+    /// True if in each of the `ahead` cycles after `here` as much of each line is taken as in the other table as many
+    /// cycles after `there`.
+    pub fn looks_like(&self, here: u64, other: &ReservationTable<A>, there: u64, ahead: u64) -> bool
+        requires here { self.now.base ≤ here + 1 }
+        requires there { other.now.base ≤ there + 1 }
+        requires small { here + ahead < 2 ^ 64 }
+        requires other_small { there + ahead < 2 ^ 64 }
+        ensures { IsTrue result
+            ↔ ((l t : ℕ) → 0 < t → t ≤ ahead → taken_at self.now l (here + t) ≡ taken_at other.now l (there + t)) }
+    {
+        for later in 1..=ahead {
+            if self.slot(here + later) != other.slot(there + later) {
+                return false;
+            }
+        }
+        true
     }
 }

@@ -2,7 +2,8 @@
 
 use std::alloc::AllocError;
 use std::test::Fail;
-use tomex_reservations::{BUSES, ReservationTable};
+use tomex_reservations::{BUSES, ReservationTable, Stations};
+use tomex_rvdec::PoolId;
 use tomex_tests_fixtures::{Attempt, Heap, Try, refusals};
 
 /// The bus is taken in cycle 5.
@@ -49,5 +50,46 @@ impl Attempt for Reserving {
 #[test]
 fn a_reserved_bus_is_left_a_cycle_later(rt: HostRuntime) -> Result<(), Fail> {
     assert!(rt; refusals(rt.alloc(), &Reserving)? > Some(0));
+    Ok(())
+}
+
+/// A bus is taken in cycles 5 and 7, and the table is copied from cycle 6 on into one that is 10 cycles later.
+#[derive(Drop)]
+struct Copying;
+
+impl Attempt for Copying {
+    fn attempt(&self, heap: Heap) -> Result<Try, AllocError> {
+        let copies = heap.clone()?;
+        let mut table = ReservationTable::new(heap);
+        if table.take(BUSES, 5).is_err() || table.take(BUSES, 7).is_err() {
+            return Ok(Try::Refused);
+        }
+        let mut copy = ReservationTable::new(copies);
+        if copy.copy_from(&table, 6).is_err() {
+            return Ok(Try::right_if(!table.looks_like(5, &copy, 5, 2)));
+        }
+        copy.shift(10);
+        let is_alike = table.looks_like(5, &copy, 15, 100) && table.looks_like(7, &copy, 16, 0);
+        Ok(Try::right_if(is_alike && !table.looks_like(5, &copy, 16, 2)))
+    }
+}
+
+/// The copy looks like the table 10 cycles before, from cycle 6 on. Without memory it is empty.
+#[test]
+fn a_copied_table_is_the_same_some_cycles_later(rt: HostRuntime) -> Result<(), Fail> {
+    assert!(rt; refusals(rt.alloc(), &Copying)? > Some(0));
+    Ok(())
+}
+
+/// Stations are free as many cycles later as their ends are moved.
+#[test]
+fn moved_stations_are_free_later(rt: HostRuntime) -> Result<(), Fail> {
+    let mut stations = Stations::none();
+    stations.take(PoolId::Mul, 0, 9);
+    stations.shift(30);
+    let first = stations.first(PoolId::Mul, 1, 31);
+    assert_eq!(rt; first.cycle, 40);
+    let other = stations.first(PoolId::Mul, 2, 31);
+    assert!(rt; other.cycle == 31 && other.number == 1);
     Ok(())
 }
