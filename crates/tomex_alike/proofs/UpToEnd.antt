@@ -33,9 +33,9 @@ pub record LooksUpToEnd (config : Configuration) (w : ℕ) (g h : List Done) : T
   pub ends : (r : ℕ) → end_ahead config g r ≡ end_ahead config h r
   pub free : (pool : PoolId) (t k : ℕ) → t < ahead config g
       → is_free_ahead config pool g t k ≡ is_free_ahead config pool h t k
-  pub starts : (unit : UnitId) (t : ℕ) → t < ahead config g
+  pub starts : (unit : UnitId) (t : ℕ) → 0 < t → t < ahead config g
       → starts_ahead config unit g t ≡ starts_ahead config unit h t
-  pub results : (t : ℕ) → t < ahead config g → results_ahead config g t ≡ results_ahead config h t
+  pub results : (t : ℕ) → 0 < t → t < ahead config g → results_ahead config g t ≡ results_ahead config h t
   pub accesses : (i : ℕ) → i < w → lateness config g i ≡ lateness config h i
   pub older : (i : ℕ) → w ≤ i → (lateness config g i ≡ 0) × (lateness config h i ≡ 0)
 
@@ -57,13 +57,13 @@ looks_from config w g h good in_g in_h up =
         | inr l ↦ all_free pool g _ k (past_g t l) ∙ sym (all_free pool h _ k (past_h t l))
       ];
       starts = λ unit t z. elim (cases_lt t (ahead config g)) [
-        | inl l ↦ up.starts unit t l
+        | inl l ↦ up.starts unit t z l
         | inr l ↦
             starts_none g unit (greatest_end g) _ by_g (past_g t l)
             ∙ sym (starts_none h unit (greatest_end h) _ by_h (past_h t l))
       ];
       results = λ t z. elim (cases_lt t (ahead config g)) [
-        | inl l ↦ up.results t l
+        | inl l ↦ up.results t z l
         | inr l ↦
             results_none g (greatest_end g) _ by_g (past_g t l)
             ∙ sym (results_none h (greatest_end h) _ by_h (past_h t l))
@@ -75,7 +75,8 @@ looks_from config w g h good in_g in_h up =
     past : (n e t : ℕ) → e + 1 - n ≤ t → e < n + t
     past n e t l = omega arith
 
-access_by : (e : ℕ) (h : List Done) (i : ℕ) → AllBy e h → finish_of h i ≤ e
+-- each access has finished by the greatest end
+pub access_by : (e : ℕ) (h : List Done) (i : ℕ) → AllBy e h → finish_of h i ≤ e
 access_by e [] i by = omega arith
 access_by e (d ∷ h) zero by = elim (cases_Bool (is_memory d.step)) [
   | inl m ↦ rw m by.0.finish
@@ -110,8 +111,8 @@ idle_alike config w g h good in_g in_h e f issued width =
       address = no_address config g good in_g e ∙ sym (no_address config h good in_h f);
       ends = λ r. no_end config g good in_g e r ∙ sym (no_end config h good in_h f r);
       free = λ pool t k l. absurd (omega arith);
-      starts = λ unit t l. absurd (omega arith);
-      results = λ t l. absurd (omega arith);
+      starts = λ unit t z l. absurd (omega arith);
+      results = λ t z l. absurd (omega arith);
       accesses = λ i l. not_late config g good in_g e i ∙ sym (not_late config h good in_h f i);
       older = λ i l. (not_late config g good in_g e i, not_late config h good in_h f i);
     })

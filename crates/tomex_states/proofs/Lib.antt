@@ -5,4 +5,7 @@ pub mod Settled
 pub mod Nothing
 pub mod Windows
 pub mod Steps
-mod Rows
+pub mod Alike
+pub mod UnderWay
+pub mod Later
+pub mod Moved

@@ -4,6 +4,9 @@
 //! `specs/States.antt` says which histories a state shows, by the terms of `tomex_alike`.
 #![tactic(auto)]
 
+mod compare;
+mod keep;
+mod shift;
 mod state;
 
 pub use state::{State, Window};

@@ -66,7 +66,11 @@ impl Attempt for Copying {
         }
         let mut copy = ReservationTable::new(copies);
         if copy.copy_from(&table, 6).is_err() {
-            return Ok(Try::right_if(!table.looks_like(5, &copy, 5, 2)));
+            return Ok(if table.looks_like(5, &copy, 5, 2) {
+                Try::Wrong
+            } else {
+                Try::Refused
+            });
         }
         copy.shift(10);
         let is_alike = table.looks_like(5, &copy, 15, 100) && table.looks_like(7, &copy, 16, 0);
