@@ -1,25 +1,27 @@
 -- States that look alike show histories that do.
-use Rattle.std.proofs.Common.{ℕ, ◌+◌, ◌-◌, ◌<◌, ◌≤◌, ◌≡◌, ◌∙◌, true, false, arith, refl, sym, inl, inr, List, [], ◌∷◌}
-use Rattle.std.proofs.Common.{All, IfSome, Option, Some, None, max}
-use Rattle.std.specs.Prelude.{not, nat_lt, ◌&&◌}
+use Rattle.std.proofs.Common.{ℕ, ◌+◌, ◌<◌, ◌≤◌, ◌≡◌, ◌∙◌, true, false, arith, refl, sym, inl, inr, List, [], ◌∷◌}
+use Rattle.std.proofs.Common.{All, IfSome, Option, Some, None, get_or, length}
+use Rattle.std.specs.Prelude.{nat_lt, ◌&&◌}
 use Rattle.std.proofs.lemmas.Bool.{cases_Bool, cases_lt, and_parts, eqb-true, lt-ltb, le-ltb, ne_eqb}
 use Rattle.std.proofs.lemmas.List.Elements.{All-head, All-tail}
 use Rattle.tomex_rvdec.specs.declared.pool.PoolId.{PoolId}
+use Rattle.tomex_rvdec.specs.declared.pool.PoolId.TheVariants.{Alu, Mul, Div, Load, Store, Bru}
 use Rattle.tomex_rvexec.specs.Steps.{is_in, is_number, step_dest, step_pool}
 use Rattle.tomex_config.specs.Configuration.{Configuration, IsWithinLimits, stations_of}
-use Rattle.tomex_timing.specs.declared.recent.Latest.{Latest}
+use Rattle.tomex_config.specs.Cost.{all_pools}
 use Rattle.tomex_timing.specs.declared.times.Done.{Done}
 use Rattle.tomex_timing.specs.History.{writer_end}
 use Rattle.tomex_timing.specs.Issue.{first_issue}
-use Rattle.tomex_timing.specs.Recurrence.{AreTimed, IsTimed}
+use Rattle.tomex_timing.specs.Recurrence.{AreTimed}
 use Rattle.tomex_timing.specs.Station.{is_free, is_held}
 use Rattle.tomex_timing.proofs.Holders.{number_low}
 use Rattle.tomex_timing.proofs.Limits.{pool_is, stations_high}
-use Rattle.tomex_alike.specs.Alike.{LooksLike, address_ahead, ahead, end_ahead, first_access, is_free_ahead, issued_now}
-use Rattle.tomex_alike.specs.Alike.{lateness, results_ahead, starts_ahead, width_wait}
-use Rattle.tomex_alike.proofs.UpToEnd.{LooksUpToEnd, looks_from}
-use Rattle.tomex_states.specs.Reuse.{AreAlike, AreLatestAlike, CanBeKept, IsHistory, access_from, ahead_of, first_of}
-use Rattle.tomex_states.specs.States.{ShowsLatest, ShowsState}
+use Rattle.tomex_alike.specs.Alike.{LooksLike, ahead, end_ahead, first_access, is_free_ahead}
+use Rattle.tomex_alike.specs.Alike.{lateness}
+use Rattle.tomex_alike.proofs.UpToEnd.{looks_from}
+use Rattle.tomex_states.specs.Reuse.{AreAlike, AreAlikeTo, AreLatestAlike, AreStationsAlike, AreTablesAlike, CanBeKept, IsHistory}
+use Rattle.tomex_states.specs.Reuse.{access_from, ahead_of, first_of}
+use Rattle.tomex_states.specs.States.{ShowsState}
 use Rattle.tomex_states.specs.declared.state.State.{State}
 
 -- a register that the machine doesn't have is never written
@@ -137,3 +139,30 @@ module _ {A : Type 0} (config : Configuration) (a b : State A) (good : IsWithinL
         );
         older = λ i l. (none_older config g a shows_g kept_a i l, none_older config h b shows_h kept_b i l);
       })
+
+-- Two states look alike, by their first cycles.
+pub alike_by : {A : Type 0} (config : Configuration) (a b : State A) (n m ahead p q : ℕ) → n ≡ first_of config a
+    → m ≡ first_of config b → ahead ≡ ahead_of n a.recent.latest.end → p ≡ access_from config a
+    → q ≡ access_from config b → length a.recent.latest.ends ≡ 32 → length a.window.finishes ≡ 4
+    → AreLatestAlike n m a.recent.latest b.recent.latest
+    → AreAlikeTo (length a.recent.latest.ends) n m a.recent.latest.ends b.recent.latest.ends
+    → AreStationsAlike config n m a.recent.stations.ends b.recent.stations.ends
+    → AreTablesAlike ahead n m a.recent.table b.recent.table
+    → AreAlikeTo (length a.window.finishes) p q a.window.finishes b.window.finishes → AreAlike config a b
+alike_by config a b n m ahead p q here there end first other registers four latest ends stations table finishes = record {
+  latest = rw (← here, ← there) latest;
+  ends = rw (← here, ← there, ← registers) ends;
+  stations = rw (← here, ← there) stations;
+  table = rw (← here, ← there, ← end) table;
+  finishes = rw (← first, ← other, ← four) finishes;
+}
+
+-- what holds of the pools at all places holds of each
+pub of_all_pools : (P : PoolId → Type 0) → ((k : ℕ) (z : PoolId) → k < 6 → P (get_or all_pools k z))
+    → (pool : PoolId) → P pool
+of_all_pools P each Alu = each 0 Alu (omega arith)
+of_all_pools P each Mul = each 1 Alu (omega arith)
+of_all_pools P each Div = each 2 Alu (omega arith)
+of_all_pools P each Load = each 3 Alu (omega arith)
+of_all_pools P each Store = each 4 Alu (omega arith)
+of_all_pools P each Bru = each 5 Alu (omega arith)

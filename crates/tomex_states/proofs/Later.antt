@@ -1,17 +1,15 @@
 -- What is held, a number of cycles later.
-use Rattle.std.proofs.Common.{ℕ, zero, suc, ◌+◌, ◌-◌, ◌^◌, ◌<◌, ◌≤◌, ◌≡◌, ◌∙◌, true, false, arith, refl, sym, ap, inl}
-use Rattle.std.proofs.Common.{inr, All, List, [], ◌∷◌, length, map, max, set}
-use Rattle.std.specs.Prelude.{◌==◌, nat_le, nat_lt, slice_index}
-use Rattle.std.proofs.lemmas.Bool.{cases_Bool, cases_eq, cases_lt, eq-eqb, ne_eqb}
+use Rattle.std.proofs.Common.{ℕ, zero, suc, ◌+◌, ◌-◌, ◌<◌, ◌≤◌, ◌≡◌, ◌∙◌, arith, refl, inl}
+use Rattle.std.proofs.Common.{inr, All, List, length, map, set}
+use Rattle.std.specs.Prelude.{◌==◌, nat_lt, slice_index}
+use Rattle.std.proofs.lemmas.Bool.{cases_Bool}
 use Rattle.std.proofs.lemmas.Bool.Decides.{nat_tests}
 use Rattle.std.proofs.lemmas.List.{get_or-map, get_or-set_same, get_or-set_other, length-map, length-set}
 use Rattle.tomex_rvdec.specs.Parts.{place_of_unit}
 use Rattle.tomex_rvdec.specs.declared.pool.PoolId.{PoolId}
-use Rattle.tomex_rvdec.specs.declared.pool.UnitId.{UnitId}
 use Rattle.tomex_rvdec.proofs.Places.{pool_low}
 use Rattle.tomex_config.specs.Configuration.{Configuration}
 use Rattle.tomex_reservations.specs.Reservations.{Reserved, bus_line, end_at, station_place, taken_at}
-use Rattle.tomex_timing.specs.declared.accesses.Access.{Access}
 use Rattle.tomex_timing.specs.declared.recent.Latest.{Latest}
 use Rattle.tomex_timing.specs.declared.times.Done.{Done}
 use Rattle.tomex_timing.specs.Ahead.{Held, IsSettledBy}

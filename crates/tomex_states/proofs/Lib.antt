@@ -9,3 +9,4 @@ pub mod Alike
 pub mod UnderWay
 pub mod Later
 pub mod Moved
+pub mod Bounds

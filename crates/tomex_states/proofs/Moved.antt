@@ -1,6 +1,6 @@
 -- A state that is moved shows the history of the later place.
 use Rattle.std.proofs.Common.{ℕ, ◌+◌, ◌-◌, ◌<◌, ◌≤◌, ◌≡◌, ◌∙◌, arith, refl, sym, ap, inl, inr, All, List, [], ◌∷◌, ◌++◌}
-use Rattle.std.proofs.Common.{length, map, max, reverse}
+use Rattle.std.proofs.Common.{map, reverse}
 use Rattle.std.specs.Prelude.{nat_lt, slice_index}
 use Rattle.std.proofs.lemmas.List.{get_or-map, length-map, map-append, reverse-append}
 use Rattle.std.proofs.lemmas.Bool.{cases_Bool, cases_lt, le-ltb, lt-ltb}
@@ -21,10 +21,9 @@ use Rattle.tomex_timing.specs.Summary.{HoldsFrom}
 use Rattle.tomex_timing.proofs.Bound.{timed_by}
 use Rattle.tomex_timing.proofs.Histories.{are_timed}
 use Rattle.tomex_alike.specs.Alike.{LooksLike, first_access, lateness, results_in, starts_in}
-use Rattle.tomex_alike.proofs.Accesses.{finish_of}
 use Rattle.tomex_alike.proofs.Totals.{first_by_end}
 use Rattle.tomex_alike.proofs.UpToEnd.{access_by}
-use Rattle.tomex_states.specs.Reuse.{IsMoved, ShowsLater, access_from, accesses_under_way, ahead_of, latest_later}
+use Rattle.tomex_states.specs.Reuse.{IsMoved, access_from, accesses_under_way}
 use Rattle.tomex_states.specs.States.{IsWindow, ShowsState}
 use Rattle.tomex_states.specs.declared.state.State.{State}
 use Rattle.tomex_states.specs.declared.state.Window.{Window}
@@ -51,7 +50,7 @@ facts_back config steps facts are =
     rw are.are (reverse-map steps ∙ sym (facts_timed config (reverse steps)))
 
 -- the first cycle in which a next step may issue is at most the one after the greatest end
-first_by : (config : Configuration) (latest : Latest) → latest.issue ≤ latest.end → latest.branch ≤ latest.end
+pub first_by : (config : Configuration) (latest : Latest) → latest.issue ≤ latest.end → latest.branch ≤ latest.end
     → issue_from config latest ≤ latest.end + 1
 first_by config latest issue branch = elim (cases_Bool (nat_lt latest.issued config.width)) [
   | inl e ↦ rw e (omega arith)

@@ -1,9 +1,11 @@
 -- The accesses under way, from the facts of a run's steps and the finishes of its last accesses.
-use Rattle.std.proofs.Common.{ℕ, zero, suc, ◌+◌, ◌-◌, ◌<◌, ◌≤◌, ◌≡◌, ◌∙◌, Bool, true, false, arith, refl, sym, ap}
+use Rattle.std.proofs.Common.{ℕ, suc, ◌+◌, ◌-◌, ◌<◌, ◌≤◌, ◌≡◌, ◌∙◌, Bool, true, false, arith, refl, sym}
 use Rattle.std.proofs.Common.{inl, inr, All, List, [], ◌∷◌, ◌++◌, Option, Some, None, is_some, length, map}
+use Rattle.std.proofs.Common.{drop, get_or, reverse, take}
 use Rattle.std.specs.Prelude.{not, nat_le, nat_lt, slice_index, ◌&&◌, ◌||◌}
 use Rattle.std.specs.List.{list_all}
-use Rattle.std.proofs.lemmas.Bool.{cases_Bool, leb-true, leb-false, lt-ltb, or_right}
+use Rattle.std.proofs.lemmas.Bool.{cases_Bool, leb-true, leb-false, lt-leb, lt-ltb, or_right}
+use Rattle.std.proofs.lemmas.List.{append-nil, get_or-drop, length-drop, reverse-append, take_more}
 use Rattle.std.proofs.lemmas.List.Elements.{All-nil, All-cons, All-append}
 use Rattle.tomex_rvexec.proofs.Fields.{bytes_of_memory}
 use Rattle.tomex_rvexec.specs.Steps.{bytes_of, is_store, shares_byte}
@@ -124,3 +126,55 @@ under_way_by from e (finish ∷ finishes) (f ∷ facts) by = elim (cases_Bool (i
       (under_way_by from e finishes facts (λ i l. by (suc i) (omega arith))))
   | inr y ↦ rw y (under_way_by from e (finish ∷ finishes) facts by)
 ]
+
+-- none of those that have finished before is in the list
+pub none_under_way : (from : ℕ) (finishes : List ℕ) (facts : List Facts)
+    → ((i : ℕ) → i < length finishes → slice_index finishes i < from) → accesses_under_way from finishes facts ≡ []
+none_under_way from finishes [] past = refl
+none_under_way from [] (f ∷ facts) past = refl
+none_under_way from (finish ∷ finishes) (f ∷ facts) past = elim (cases_Bool (is_some f.bytes)) [
+  | inl y ↦ rw (
+    y,
+    not_late f.bytes (past 0 (omega arith)),
+    none_under_way from finishes facts (λ i l. past (suc i) (omega arith)),
+  ) refl
+  | inr y ↦ rw (y, none_under_way from (finish ∷ finishes) facts past) refl
+]
+  where
+    not_late : (x : Option ByteRange) → finish < from → access_under_way from finish f.is_store x ≡ []
+    not_late None l = refl
+    not_late (Some b) l = rw (lt-leb from finish l) refl
+
+-- The steps before a place, back from the youngest.
+
+back : (facts : List Facts) (q : ℕ) (z : Facts) → q < length facts
+    → reverse (take (q + 1) facts) ≡ get_or facts q z ∷ reverse (take q facts)
+back facts q z l = rw (take_more facts q z l) (reverse-append (take q facts) (get_or facts q z ∷ []))
+
+-- a step that is no access is passed by
+pub passed_by : (from : ℕ) (finishes : List ℕ) (facts : List Facts) (p : ℕ) (z : Facts) (accesses all : List Access)
+    → 0 < p → p ≤ length facts → (get_or facts (p - 1) z).bytes ≡ None
+    → accesses ++ accesses_under_way from finishes (reverse (take p facts)) ≡ all
+    → accesses ++ accesses_under_way from finishes (reverse (take (p - 1) facts)) ≡ all
+passed_by from finishes facts p z accesses all pos l none so_far =
+    let e : (p - 1) + 1 ≡ p = omega arith in
+    let last = rw e at (back facts (p - 1) z (omega arith)) in
+    let h = rw last at so_far in
+    rw (← skip finishes (get_or facts (p - 1) z) (reverse (take (p - 1) facts)) none) h
+  where
+    skip : (finishes : List ℕ) (f : Facts) (older : List Facts) → f.bytes ≡ None
+        → accesses_under_way from finishes (f ∷ older) ≡ accesses_under_way from finishes older
+    skip [] f [] none = refl
+    skip [] f (x ∷ older) none = refl
+    skip (finish ∷ finishes) f older none = rw none refl
+
+-- all are listed if those left have finished
+pub all_listed : (from n : ℕ) (finishes : List ℕ) (facts : List Facts) (accesses all : List Access)
+    → length finishes ≡ 4 → ((i : ℕ) → n ≤ i → i < 4 → slice_index finishes i < from)
+    → accesses ++ accesses_under_way from (drop n finishes) facts ≡ all → accesses ≡ all
+all_listed from n finishes facts accesses all size past so_far =
+    let long = length-drop n finishes in
+    let none : accesses_under_way from (drop n finishes) facts ≡ [] =
+    none_under_way from (drop n finishes) facts
+    (λ i l. rw (get_or-drop n finishes i 0) (past (n + i) (omega arith) (omega arith))) in
+    sym (append-nil accesses) ∙ rw none at so_far

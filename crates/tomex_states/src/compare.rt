@@ -85,7 +85,13 @@ fn is_pool_alike(
 }
 
 /// True if the stations that the machine has do.
-fn are_stations_alike(config: &Config, here: u64, there: u64, one: &Stations, other: &Stations) -> bool
+fn are_stations_alike(
+    config: &Config,
+    here: u64,
+    there: u64,
+    one: &Stations,
+    other: &Stations,
+) -> bool
     requires here { 0 < here }
     requires there { 0 < there }
     ensures { IsTrue result ↔ AreStationsAlike config.now here there one.now.ends other.now.ends }

@@ -69,10 +69,11 @@ fn list_under_way<A: Allocator>(
     accesses.clear();
     let count = window.count_under_way(from);
     let mut number = 0;
-    for step in facts.iter().rev() {
+    for place in (0..facts.len()).rev() {
         if number == count {
             break;
         }
+        let step = &facts[place];
         if let Some(bytes) = step.bytes {
             let finish = window.finishes[number];
             if finish >= from {

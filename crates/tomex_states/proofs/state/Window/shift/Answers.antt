@@ -1,5 +1,5 @@
 -- One more finish is moved.
-use Rattle.std.proofs.Common.{◌≡◌, ◌+◌, ◌<◌, length, get_or, arith}
+use Rattle.std.proofs.Common.{◌+◌, get_or, arith}
 use Rattle.std.proofs.lemmas.List.{get_or_default}
 use Rattle.std.proofs.lemmas.List.Edits.{map_over_more}
 use Rattle.tomex_states.proofs.state.Window.shift.Goals as goal
