@@ -10,3 +10,4 @@ pub mod UnderWay
 pub mod Later
 pub mod Moved
 pub mod Bounds
+pub mod Histories

@@ -1,8 +1,8 @@
 -- A state that is moved shows the history of the later place.
-use Rattle.std.proofs.Common.{ℕ, ◌+◌, ◌-◌, ◌<◌, ◌≤◌, ◌≡◌, ◌∙◌, arith, refl, sym, ap, inl, inr, All, List, [], ◌∷◌, ◌++◌}
-use Rattle.std.proofs.Common.{map, reverse}
+use Rattle.std.proofs.Common.{ℕ, ◌+◌, ◌-◌, ◌<◌, ◌≤◌, ◌≡◌, ◌∙◌, arith, refl, sym, ap, inl, inr, All, List}
+use Rattle.std.proofs.Common.{map}
 use Rattle.std.specs.Prelude.{nat_lt, slice_index}
-use Rattle.std.proofs.lemmas.List.{get_or-map, length-map, map-append, reverse-append}
+use Rattle.std.proofs.lemmas.List.{get_or-map, length-map}
 use Rattle.std.proofs.lemmas.Bool.{cases_Bool, cases_lt, le-ltb, lt-ltb}
 use Rattle.tomex_rvdec.specs.Parts.{place_of_unit}
 use Rattle.tomex_rvexec.specs.declared.step.Step.{Step}
@@ -16,7 +16,7 @@ use Rattle.tomex_timing.specs.History.{greatest_end}
 use Rattle.tomex_timing.specs.Issue.{first_issue}
 use Rattle.tomex_timing.specs.Recent.{AreFacts, facts_of, issue_from}
 use Rattle.tomex_timing.specs.Station.{is_free}
-use Rattle.tomex_timing.specs.Search.{history, timed_of}
+use Rattle.tomex_timing.specs.Search.{history}
 use Rattle.tomex_timing.specs.Summary.{HoldsFrom}
 use Rattle.tomex_timing.proofs.Bound.{timed_by}
 use Rattle.tomex_timing.proofs.Histories.{are_timed}
@@ -28,26 +28,9 @@ use Rattle.tomex_states.specs.States.{IsWindow, ShowsState}
 use Rattle.tomex_states.specs.declared.state.State.{State}
 use Rattle.tomex_states.specs.declared.state.Window.{Window}
 use Rattle.tomex_states.proofs.Alike.{access_is}
+use Rattle.tomex_states.proofs.Histories.{facts_back}
 use Rattle.tomex_states.proofs.Later.{IsLater, access_later, latest_shown, settled_later, station_later, taken_before}
 use Rattle.tomex_states.proofs.UnderWay.{AreFinishes, under_way_are, under_way_by}
-
--- the facts of a run's steps, back from the youngest, are those of its history
-facts_timed : (config : Configuration) (steps : List Step)
-    → map (λ d. facts_of d.step) (timed_of config steps) ≡ map facts_of steps
-facts_timed config [] = refl
-facts_timed config (s ∷ steps) = ap (λ facts. facts_of s ∷ facts) (facts_timed config steps)
-
-reverse-map : (steps : List Step) → reverse (map facts_of steps) ≡ map facts_of (reverse steps)
-reverse-map [] = refl
-reverse-map (s ∷ steps) =
-    reverse-append (facts_of s ∷ []) (map facts_of steps)
-    ∙ (ap (λ facts. facts ++ (facts_of s ∷ [])) (reverse-map steps)
-    ∙ (sym (map-append facts_of (reverse steps) (s ∷ [])) ∙ ap (map facts_of) (sym (reverse-append (s ∷ []) steps))))
-
-pub facts_back : (config : Configuration) (steps : List Step) (facts : List Facts) → AreFacts steps facts
-    → reverse facts ≡ map (λ d. facts_of d.step) (history config steps)
-facts_back config steps facts are =
-    rw are.are (reverse-map steps ∙ sym (facts_timed config (reverse steps)))
 
 -- the first cycle in which a next step may issue is at most the one after the greatest end
 pub first_by : (config : Configuration) (latest : Latest) → latest.issue ≤ latest.end → latest.branch ≤ latest.end

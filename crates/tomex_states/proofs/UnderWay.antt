@@ -18,6 +18,7 @@ use Rattle.tomex_timing.specs.Ahead.{is_past}
 use Rattle.tomex_timing.specs.History.{is_memory}
 use Rattle.tomex_timing.specs.Recent.{facts_of}
 use Rattle.tomex_timing.specs.Recurrence.{are_conflicts_finished, conflicts}
+use Rattle.tomex_timing.proofs.Apart.{older_apart}
 use Rattle.tomex_alike.proofs.Accesses.{finish_of, skip_access}
 use Rattle.tomex_states.specs.Reuse.{access_under_way, accesses_under_way, ahead_of}
 
@@ -39,11 +40,6 @@ same_finishes from d h finishes m are = record {
   last = λ i l. rw (skip_access (λ x. x.at.finish) 0 d h i m) at (are.last i l);
   older = λ i l. rw (skip_access (λ x. x.at.finish) 0 d h i m) at (are.older i l);
 }
-
--- a step that touches nothing blocks nothing
-untouched : (x y : Option ByteRange) → is_some x ≡ false → shares_byte x y ≡ false
-untouched None y e = refl
-untouched (Some b) y e = absurd (cc)
 
 -- an access that is in the list or over blocks a step as it does in the history
 one_past : (f : Facts) (x : Option ByteRange) (is_store : Bool) (from finish real t : ℕ) (rest : List Access)
@@ -77,8 +73,7 @@ all_over s from t (d ∷ h) l are = elim (cases_Bool (is_memory d.step)) [
       } in
       rw (one, all_over s from t h l rest) refl
   | inr m ↦
-      let none = untouched (bytes_of d.step) (bytes_of s) (bytes_of_memory d.step ∙ m) in
-      rw (none, all_over s from t h l (same_finishes from d h [] m are)) refl
+      rw (older_apart d.step s m, all_over s from t h l (same_finishes from d h [] m are)) refl
 ]
 
 -- so the list blocks a step as the history does
@@ -100,7 +95,7 @@ under_way_are s from t (finish ∷ finishes) (d ∷ h) l are = elim (cases_Bool 
       let nothing : is_some (bytes_of d.step) ≡ false = bytes_of_memory d.step ∙ m in
       let older =
       under_way_are s from t (finish ∷ finishes) h l (same_finishes from d h (finish ∷ finishes) m are) in
-      rw (nothing, untouched (bytes_of d.step) (bytes_of s) nothing) older
+      rw (nothing, older_apart d.step s m) older
 ]
 
 one_by : (from finish e : ℕ) (is_store : Bool) (x : Option ByteRange) → (from ≤ finish → finish ≤ e)
