@@ -1,5 +1,5 @@
--- Rounds of a loop, computed by the definitions: what is held after one round, moved to where the second one ends, shows
--- two rounds, though these leave other cycles.
+-- Rounds of a loop, computed by the definitions: what is held after one round, moved to where the second one ends,
+-- shows two rounds, though these leave other cycles.
 use Rattle.std.proofs.Common.{ℕ, ◌+◌, ◌-◌, ◌≡◌, ◌≢◌, ◌∙◌, arith, refl, sym, ap, List, [], ◌∷◌, ◌++◌, map, cond, ◌==◌}
 use Rattle.std.specs.List.{range_with_len}
 use Rattle.std.specs.Prelude.{slice_index}

@@ -1,4 +1,4 @@
--- They look alike, and may issue so many cycles apart.
+-- They look alike, and may issue that many cycles apart.
 use Rattle.std.proofs.Common.{rules, arith}
 use Rattle.tomex_tests_states.proofs.states.cycles_between.Goals as goal
 
