@@ -4,7 +4,7 @@ use crate::case::Case;
 use anyhow::Result;
 use std::alloc::{AllocError, Global};
 use std::str::from_utf8;
-use tomex_tests_whole_runs::Outcome;
+use tomex_tests_commands::Outcome;
 
 /// A line of a stream that is another one than wanted: its number from 1, and both lines.
 #[derive(Clone, Copy)]

@@ -8,7 +8,7 @@ use std::str::from_utf8;
 use std::sync::Wait;
 use std::thread::Threads;
 use tomex_streams::NoMeter;
-use tomex_tests_whole_runs::{Outcome, outcome_of};
+use tomex_tests_commands::{Outcome, outcome_of};
 
 /// The most bytes of standard output.
 const ROOM: usize = 1 << 24;

@@ -19,8 +19,8 @@ use Rattle.tomex_timing.proofs.Limits.{pool_is, stations_high}
 use Rattle.tomex_alike.specs.Alike.{LooksLike, ahead, end_ahead, first_access, is_free_ahead}
 use Rattle.tomex_alike.specs.Alike.{lateness}
 use Rattle.tomex_alike.proofs.UpToEnd.{looks_from}
-use Rattle.tomex_states.specs.Reuse.{AreAlike, AreAlikeTo, AreLatestAlike, AreStationsAlike, AreTablesAlike, CanBeKept, IsHistory}
-use Rattle.tomex_states.specs.Reuse.{access_from, ahead_of, first_of}
+use Rattle.tomex_states.specs.Reuse.{AreAlike, AreAlikeTo, AreLatestAlike, AreStationsAlike, AreTablesAlike, CanBeKept}
+use Rattle.tomex_states.specs.Reuse.{IsHistory, access_from, ahead_of, first_of}
 use Rattle.tomex_states.specs.States.{ShowsState}
 use Rattle.tomex_states.specs.declared.state.State.{State}
 
@@ -149,12 +149,12 @@ pub alike_by : {A : Type 0} (config : Configuration) (a b : State A) (n m ahead 
     → AreStationsAlike config n m a.recent.stations.ends b.recent.stations.ends
     → AreTablesAlike ahead n m a.recent.table b.recent.table
     → AreAlikeTo (length a.window.finishes) p q a.window.finishes b.window.finishes → AreAlike config a b
-alike_by config a b n m ahead p q here there end first other registers four latest ends stations table finishes = record {
+alike_by config a b n m ahead p q here there end first other registers four latest ends stations table window = record {
   latest = rw (← here, ← there) latest;
   ends = rw (← here, ← there, ← registers) ends;
   stations = rw (← here, ← there) stations;
   table = rw (← here, ← there, ← end) table;
-  finishes = rw (← first, ← other, ← four) finishes;
+  finishes = rw (← first, ← other, ← four) window;
 }
 
 -- what holds of the pools at all places holds of each

@@ -11,3 +11,4 @@ pub mod Later
 pub mod Moved
 pub mod Bounds
 pub mod Histories
+mod Rows

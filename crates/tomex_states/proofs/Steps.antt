@@ -1,9 +1,9 @@
 -- One step more of a run, by what shows the steps before it: then what is held shows the longer history, and the
 -- demands that are noted are those of it.
-use Rattle.std.proofs.Common.{ℕ, ◌+◌, ◌-◌, ◌^◌, ◌<◌, ◌≤◌, ◌≡◌, ◌∙◌, arith, refl, sym, ap, List, ◌∷◌, length, take, max}
+use Rattle.std.proofs.Common.{ℕ, ◌+◌, ◌-◌, ◌^◌, ◌<◌, ◌≡◌, ◌∙◌, arith, refl, sym, ap, List, ◌∷◌, length, take, max}
 use Rattle.std.proofs.Common.{◌==◌, count_by, inl, inr, true, false}
 use Rattle.std.specs.Prelude.{is_some}
-use Rattle.std.proofs.lemmas.Bool.{cases_Bool, cases_order}
+use Rattle.std.proofs.lemmas.Bool.{cases_Bool}
 use Rattle.std.proofs.lemmas.List.{length-take-le}
 use Rattle.tomex_rvexec.specs.declared.step.Step.{Step}
 use Rattle.tomex_rvexec.proofs.Fields.{bytes_of_memory}

@@ -1,8 +1,8 @@
 //! The output of `explain`, by whole runs of the program.
 
+use crate::{comes_to, comes_to_within, words_of};
 use std::test::Fail;
 use tomex_tests_fixtures::{ALL_REFUSALS, OVERLAP};
-use tomex_tests_whole_runs::{comes_to, comes_to_within, words_of};
 
 const NONE: &str = "tomex: no such refusal\n";
 

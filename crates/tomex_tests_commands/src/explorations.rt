@@ -1,5 +1,6 @@
 //! Runs of the commands on a study that can be seen from outside: how far they are, where refusals are explained, and
 //! outputs that fail on their way.
+use crate::{asks_within, outcome_of, words_of};
 use std::process::Abort;
 use std::sync::Wait;
 use std::sync::atomic::{AtomicU64, Ordering};
@@ -10,7 +11,6 @@ use tomex_tests_fixtures::front_report_of;
 use tomex_tests_fixtures::in_memory::Narrow;
 use tomex_tests_fixtures::programs::{LOOP, PRODUCT};
 use tomex_tests_fixtures::studies::{DROPPED, DROPPED_REPORT};
-use tomex_tests_whole_runs::{asks_within, outcome_of, words_of};
 
 /// Two rows, of two alu stations and of one.
 pub const PRICED: &str = "[[program]]\nname = \"mul\"\nfile = \"mul.bin\"\n[prices]\nalu = 10\n\

@@ -2,6 +2,7 @@
 //! eight ranges each, runs of 262,144 steps, and a front of 1,024 configurations. Nothing is
 //! refused.
 
+use crate::{Outcome, outcome_of, words_of};
 use std::alloc::{AllocError, Global};
 use std::process::Abort;
 use std::sync::Wait;
@@ -9,7 +10,6 @@ use std::test::Fail;
 use std::thread::Threads;
 use tomex_streams::NoMeter;
 use tomex_tests_fixtures::programs::LOOP;
-use tomex_tests_whole_runs::{Outcome, outcome_of, words_of};
 
 /// `lui x1,32; addi x1,x1,-2; nop; addi x1,x1,-1; bne x1,x0,-4; ebreak`: its loop is run 131,070 times, so the run
 /// has 262,144 steps.

@@ -1,11 +1,15 @@
 //! Tests of the program beside its golden cases: refused memory, workers and progress, outputs that fail on their
-//! way, names with control characters, faults of a line, and the greatest inputs.
+//! way, names with control characters, faults of a line, and the greatest inputs. And whole runs of the program over
+//! files in memory, which the golden cases share: their outcomes, compared with what is wanted, and the same with memory
+//! refused.
 #![tactic(auto)]
 
+mod comparing;
 #[cfg(test)]
 mod explain;
 #[cfg(test)]
 mod explorations;
+mod granting;
 #[cfg(test)]
 mod greatest;
 #[cfg(test)]
@@ -18,9 +22,16 @@ mod memory_of_studies;
 mod missing_row;
 #[cfg(test)]
 mod most_rows;
+mod outcome;
 #[cfg(test)]
 mod output;
 #[cfg(test)]
 mod page;
 #[cfg(test)]
 mod workers;
+
+pub use comparing::{
+    Asked, Refused, asks_within, comes_to, comes_to_within, each_comes_to, each_is_refused,
+};
+pub use granting::{each_is_granted, granted};
+pub use outcome::{Outcome, outcome_of, words_of};

@@ -1,6 +1,7 @@
 //! The text of a run, and whole runs on one program, that run out of memory. The command line takes
 //! other memory.
 
+use crate::each_is_granted;
 use std::alloc::AllocError;
 use std::test::Fail;
 use tomex_command::{RunRefusal, run_text};
@@ -8,7 +9,6 @@ use tomex_image::Window;
 use tomex_tests_fixtures::programs::{CALLS, ELF, PRODUCT};
 use tomex_tests_fixtures::studies::PRODUCT_STUDY;
 use tomex_tests_fixtures::{Attempt, Heap, Try, refusals};
-use tomex_tests_whole_runs::each_is_granted;
 
 /// Makes the text of the run.
 struct Text;

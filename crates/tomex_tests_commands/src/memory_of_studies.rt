@@ -1,5 +1,6 @@
 //! Whole runs on a study that run out of memory. The command line takes other memory.
 
+use crate::{each_is_granted, granted, words_of};
 use std::alloc::{AllocError, Global};
 use std::sync::Wait;
 use std::test::Fail;
@@ -7,7 +8,6 @@ use std::thread::Threads;
 use tomex_tests_fixtures::front_report_of;
 use tomex_tests_fixtures::programs::{LOOP, PRODUCT};
 use tomex_tests_fixtures::studies::{DROPPED, DROPPED_REPORT};
-use tomex_tests_whole_runs::{each_is_granted, granted, words_of};
 
 /// Lines on a whole study, and the least number of blocks that they need.
 static OF_DROPPED: [(&str, u64); 7] = [

@@ -1,13 +1,13 @@
 //! A row or a program that a study doesn't have is found before any row is evaluated.
 
 use crate::explorations::PRICED;
+use crate::{Outcome, outcome_of, words_of};
 use std::sync::Wait;
 use std::sync::atomic::{AtomicU64, Ordering};
 use std::test::Fail;
 use std::thread::Threads;
 use tomex_streams::Meter;
 use tomex_tests_fixtures::programs::PRODUCT;
-use tomex_tests_whole_runs::{Outcome, outcome_of, words_of};
 
 /// Counts the rows that are begun.
 #[derive(Drop)]

@@ -1,5 +1,6 @@
 //! Commands on 16,384 configurations, the most of a study. Nothing is refused. `all` and `explore` have golden cases.
 
+use crate::{Outcome, outcome_of, words_of};
 use std::alloc::{AllocError, Global};
 use std::process::Abort;
 use std::sync::Wait;
@@ -7,7 +8,6 @@ use std::test::Fail;
 use std::thread::Threads;
 use tomex_streams::NoMeter;
 use tomex_tests_fixtures::programs::PRODUCT;
-use tomex_tests_whole_runs::{Outcome, outcome_of, words_of};
 
 /// Configurations that differ in stations that the product doesn't use. By these prices each costs one more than the
 /// one before.

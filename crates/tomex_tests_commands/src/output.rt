@@ -1,8 +1,8 @@
 //! Output that no golden case can hold: names with control characters, and a device that is full on the way.
+use crate::{comes_to, comes_to_within};
 use std::alloc::{AllocError, Global};
 use std::test::Fail;
 use tomex_tests_fixtures::programs::PRODUCT;
-use tomex_tests_whole_runs::{comes_to, comes_to_within};
 
 /// Names, and how they are shown.
 static NAMES: [(&str, &str); 4] = [

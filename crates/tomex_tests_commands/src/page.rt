@@ -1,12 +1,12 @@
 //! Pages that no golden case holds: of a front with more rows than are shown, and of studies whose names have
 //! control characters or look like markup.
+use crate::outcome_of;
 use std::sync::Wait;
 use std::test::Fail;
 use std::thread::Threads;
 use tomex_streams::NoMeter;
 use tomex_tests_fixtures::programs::PRODUCT;
 use tomex_tests_fixtures::studies::PRODUCT_STUDY;
-use tomex_tests_whole_runs::outcome_of;
 
 /// 65 machines that cost nothing and differ in stations that the program doesn't use: all are on the front.
 const ALIKE: &str = "[[program]]\nname = \"mul\"\nfile = \"mul.bin\"\n[axes]\n\

@@ -1,6 +1,7 @@
 //! The commands on a whole study share its configurations among threads.
 
 use crate::explorations::PRICED;
+use crate::{outcome_of, words_of};
 use std::sync::Wait;
 use std::sync::atomic::{AtomicU64, Ordering};
 use std::test::Fail;
@@ -8,7 +9,6 @@ use std::thread;
 use std::thread::Threads;
 use tomex_streams::Meter;
 use tomex_tests_fixtures::programs::PRODUCT;
-use tomex_tests_whole_runs::{outcome_of, words_of};
 
 /// The most turns that a thread is held.
 const TURNS: u32 = 10_000_000;

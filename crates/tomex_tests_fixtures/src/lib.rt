@@ -12,6 +12,7 @@ pub mod machines;
 pub mod programs;
 mod random;
 mod refusing;
+pub mod runs;
 pub mod studies;
 #[cfg(test)]
 mod tests;

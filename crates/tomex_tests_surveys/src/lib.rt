@@ -2,8 +2,6 @@
 #![tactic(auto)]
 
 #[cfg(test)]
-mod random_studies;
-#[cfg(test)]
 mod surveys;
 #[cfg(test)]
 mod weights;

@@ -1,6 +1,5 @@
 //! The survey of a worked study, its rows as CSV, and its picture. The modules below are of random studies.
 
-use crate::random_studies::{program_of, study_on, surveyed};
 use std::alloc::Global;
 use std::test::Fail;
 use tomex_config::{Config, Prices};
@@ -8,6 +7,7 @@ use tomex_front_views::rows_picture;
 use tomex_study::Study;
 use tomex_tests_fixtures::machines::{PLAIN, config_of, priced};
 use tomex_tests_fixtures::programs::PRODUCT_WORDS;
+use tomex_tests_random::{program_of, study_on, surveyed};
 use tomex_texts::rows_report;
 
 mod evaluated;

@@ -3,13 +3,13 @@
 
 ghost use Rattle.std.specs.Prelude.{◌<◌, ◌≤◌};
 
-use crate::runs::{Program, random_config, random_run, run_of};
 use std::alloc::{AllocError, Global};
 use std::test::Fail;
 use tomex_config::{Config, Part};
 use tomex_floor::floors;
 use tomex_tests_fixtures::machines::one_unit_each;
 use tomex_tests_fixtures::programs::{LOOP_WORDS, PRODUCT_WORDS};
+use tomex_tests_fixtures::runs::{Program, random_config, random_run, run_of};
 use tomex_tests_fixtures::{Attempt, Heap, Random, Try, refusals};
 use tomex_timing::{Needs, Run};
 

@@ -1,9 +1,6 @@
-//! Tests of the recurrence: times, waits and needs of worked examples, the reservations of steps,
-//! floors and paths.
+//! Tests of the recurrence: times, waits and needs of worked examples, floors and paths.
 #![tactic(auto)]
 
-#[cfg(test)]
-mod blocks;
 #[cfg(test)]
 mod floors;
 #[cfg(test)]
@@ -12,9 +9,5 @@ mod needs;
 mod path_bounds;
 #[cfg(test)]
 mod paths;
-#[cfg(test)]
-mod reservations;
-#[cfg(test)]
-mod runs;
 #[cfg(test)]
 mod timings;

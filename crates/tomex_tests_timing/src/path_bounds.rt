@@ -3,13 +3,13 @@
 
 ghost use Rattle.std.specs.Prelude.{◌<◌};
 
-use crate::runs::{random_config, random_run};
 use std::alloc::Global;
 use std::test::Fail;
 use tomex_config::{Config, Part};
 use tomex_path::{Link, Reason, path};
 use tomex_rvdec::{PoolId, UnitId};
 use tomex_tests_fixtures::Random;
+use tomex_tests_fixtures::runs::{random_config, random_run};
 use tomex_timing::Needs;
 
 /// True if a machine can't shorten this wait by its parts.

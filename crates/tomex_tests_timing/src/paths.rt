@@ -3,7 +3,6 @@
 
 ghost use Rattle.std.specs.Prelude.{◌<◌, ◌≤◌};
 
-use crate::runs::{Program, random_config, random_run, run_of};
 use std::alloc::{AllocError, Global};
 use std::test::Fail;
 use tomex_config::{Config, Part};
@@ -11,6 +10,7 @@ use tomex_floor::floors;
 use tomex_path::{Link, Reason, path};
 use tomex_rvdec::{PoolId, UnitId};
 use tomex_tests_fixtures::machines::{config_of, one_unit_each, unit};
+use tomex_tests_fixtures::runs::{Program, random_config, random_run, run_of};
 use tomex_tests_fixtures::{Attempt, Heap, Random, Try, refusals};
 use tomex_timing::Run;
 

@@ -1,7 +1,6 @@
 //! All prices may be wrong by a row's printed percentage, and not by one percent more: each rival
 //! is tried at the prices that are worst against it.
 
-use crate::random_studies::{by_hand, holds_for, random_study, surveyed};
 use std::alloc::Global;
 use std::test::Fail;
 use tomex_config::Config;
@@ -10,6 +9,7 @@ use tomex_prices::{Price, percent, prices};
 use tomex_rvdec::{PoolId, UnitId};
 use tomex_study::{Study, Surveyed};
 use tomex_tests_fixtures::Random;
+use tomex_tests_random::{by_hand, holds_for, random_study, surveyed};
 
 /// The costs of a row and a rival if each price is multiplied by `up` if the row pays it more
 /// often, else by `down`.

@@ -2,7 +2,6 @@
 //! stays on the front if the shares add up to no more than the whole, and may leave it if they add
 //! up to more.
 
-use crate::random_studies::{by_hand, holds_for, random_study, surveyed};
 use std::alloc::Global;
 use std::test::Fail;
 use tomex_config::Config;
@@ -11,6 +10,7 @@ use tomex_prices::{Price, PriceRange, interval_of, prices, rows_with};
 use tomex_rvdec::{PoolId, UnitId};
 use tomex_study::{Study, Surveyed};
 use tomex_tests_fixtures::Random;
+use tomex_tests_random::{by_hand, holds_for, random_study, surveyed};
 
 /// A price, and its value after a move.
 type Moved = (Price, u64);

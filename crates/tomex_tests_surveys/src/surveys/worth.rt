@@ -1,7 +1,6 @@
 //! The table of a machine of a full grid: a line for each row that differs from it in one list, and
 //! the lines are true.
 
-use crate::random_studies::{by_hand, holds_for, random_study_on, surveyed};
 use std::alloc::Global;
 use std::test::Fail;
 use tomex_config::Config;
@@ -10,6 +9,7 @@ use tomex_rvdec::{PoolId, UnitId};
 use tomex_study::Study;
 use tomex_tests_fixtures::Random;
 use tomex_tests_fixtures::machines::{PLAIN, config_of, priced};
+use tomex_tests_random::{by_hand, holds_for, random_study_on, surveyed};
 use tomex_worth::worth_table;
 
 /// The lines of each table: the names, the machine itself, and as many as the lists' entries less one of each: a list

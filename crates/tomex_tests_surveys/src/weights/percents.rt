@@ -2,12 +2,12 @@
 //! that are worst against it.
 
 use super::plain::{Plain, stated};
-use crate::random_studies::{by_hand, holds_for, random_study, surveyed};
 use std::alloc::Global;
 use std::test::Fail;
 use tomex_pareto::FrontRow;
 use tomex_study::Surveyed;
 use tomex_tests_fixtures::Random;
+use tomex_tests_random::{by_hand, holds_for, random_study, surveyed};
 use tomex_weights::percent;
 
 /// A row's cycles if the weight of each program that takes more cycles on it than on the rival is multiplied by `up`,

@@ -21,8 +21,8 @@ returns-then-looks_like-clause-exact g c =
           | then-are_latest_alike u ↦ (
             λ e. alike_by c.args.config.now a b c.issue_from-here.result c.issue_from-there.result
                 c.ahead_of-ahead.result c.access_from.result c.access_from-then-looks_like.result here there
-                c.ahead_of-ahead.ensures p q registers four (c.are_latest_alike.ensures.0 (cc)) (u.are_alike.ensures.0 (cc))
-                (v.are_stations_alike.ensures.0 (cc)) (w.looks_like.ensures.0 (cc))
+                c.ahead_of-ahead.ensures p q registers four (c.are_latest_alike.ensures.0 (cc))
+                (u.are_alike.ensures.0 (cc)) (v.are_stations_alike.ensures.0 (cc)) (w.looks_like.ensures.0 (cc))
                 (c.are_alike-then-looks_like.ensures.0 e),
             λ alike. c.are_alike-then-looks_like.ensures.1 (rw (p, q, four) alike.finishes),
           )

@@ -6,7 +6,8 @@ use Rattle.tomex_states.proofs.state.State.move_by.Goals as goal
 pub shift-requires-clause-finishes : goal.shift-requires-clause-finishes
 shift-requires-clause-finishes g c =
     let some = c.requires.shows in
-    finishes_fit c.args.config.now c.args.by c.args.self.now some.0 c.requires.small some.2 c.keeps_limits.ensures some.1
+    finishes_fit c.args.config.now c.args.by c.args.self.now some.0 c.requires.small some.2 c.keeps_limits.ensures
+    some.1
 
 pub shift-requires-clause-older : goal.shift-requires-clause-older
 shift-requires-clause-older g c =

@@ -2,24 +2,25 @@
 
 ghost use Rattle.std.specs.Prelude.{◌<◌, ◌≤◌, length, IfOk};
 
+use crate::images::image_of;
+use crate::machines::config_of;
+use crate::random::Random;
 use std::alloc::Global;
 use std::test::Fail;
 use tomex_config::{Config, UnitOption};
 use tomex_rvexec::trace;
-use tomex_tests_fixtures::machines::config_of;
-use tomex_tests_fixtures::{Random, image_of};
 use tomex_timing::Run;
 
 /// A program, loaded at a base into memory of this size.
 #[derive(Clone, Copy)]
-pub(crate) struct Program {
+pub struct Program {
     pub base: u32,
     pub size: u32,
     pub words: &'static [u32],
 }
 
 /// The run of a program of at most 2000 steps.
-pub(crate) fn run_of(alloc: Global, program: &Program) -> Result<Run, Fail>
+pub fn run_of(alloc: Global, program: &Program) -> Result<Run, Fail>
     ensures { IfOk result (λ run. length run ≤ 2000) }
 {
     let image = image_of(alloc, program.base, program.size, program.words)?;
@@ -55,7 +56,7 @@ fn word(random: &mut Random) -> u32 {
 }
 
 /// The run of a program of 30 such instructions.
-pub(crate) fn random_run(random: &mut Random, alloc: Global) -> Result<Run, Fail>
+pub fn random_run(random: &mut Random, alloc: Global) -> Result<Run, Fail>
     ensures { IfOk result (λ run. length run ≤ 2000) }
 {
     let mut words = Vec::new(alloc);
@@ -84,7 +85,7 @@ fn option(random: &mut Random) -> UnitOption {
 }
 
 /// A configuration of few parts, or of many.
-pub(crate) fn random_config(random: &mut Random, most: u32) -> Result<Config, Fail>
+pub fn random_config(random: &mut Random, most: u32) -> Result<Config, Fail>
     requires { (0 < most) × (most < 256) }
 {
     let mut stations = [1; 6];

@@ -2,13 +2,13 @@
 
 ghost use Rattle.std.specs.Prelude.{◌<◌, ◌≤◌};
 
-use crate::runs::{Program, run_of};
 use std::alloc::{AllocError, Global};
 use std::test::Fail;
 use tomex_repeats::{Block, Blocks};
 use tomex_rvdec::{PoolId, UnitId};
 use tomex_rvexec::ByteRange;
 use tomex_tests_fixtures::programs::LOOP_WORDS;
+use tomex_tests_fixtures::runs::{Program, run_of};
 use tomex_tests_fixtures::{Attempt, Heap, Random, Try, refusals};
 use tomex_timing::Facts;
 

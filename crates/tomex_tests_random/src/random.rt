@@ -1,6 +1,6 @@
 //! Small studies that are made at random.
 
-use crate::random_studies::studies::{program_of, study_on};
+use crate::studies::{program_of, study_on};
 use std::alloc::Global;
 use std::test::Fail;
 use tomex_config::{Config, Prices, UnitOption};
