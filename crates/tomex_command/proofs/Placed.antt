@@ -1,43 +1,20 @@
 -- The place of a program of a study, and its file.
-use Rattle.std.proofs.Common.{◌≡◌, ◌<◌, ◌≤◌, ◌∙◌, ap, arith, ℕ, Bool, true, false, cond, List, [], ◌∷◌, length}
-use Rattle.std.proofs.Common.{Some, None, Err, map, refl, subst, sym}
-use Rattle.std.specs.Prelude.{nat_lt, slice_get, Result}
-use Rattle.std.specs.List.{find, position, position_or_len}
+use Rattle.std.proofs.Common.{◌≡◌, ◌∙◌, arith, ℕ, List, [], ◌∷◌, length, Some, None, Err, map, refl, subst, sym}
+use Rattle.std.specs.Prelude.{slice_get, Result}
+use Rattle.std.specs.List.{position}
 use Rattle.std.specs.Str.{bytes_eq}
-use Rattle.std.proofs.lemmas.Bool.{leb-true}
 use Rattle.std.proofs.lemmas.List.{length-map}
-use Rattle.std.proofs.lemmas.List.Folds.{find_at}
-use Rattle.std.proofs.lemmas.Option.{slice_get_past}
 use Rattle.tomex_config.specs.Configuration.{Configuration}
 use Rattle.tomex_study.specs.Program.{Workload}
 use Rattle.tomex_study.specs.Study.{DesignSpace}
 use Rattle.tomex_document.specs.Study.{AreProgramsOf}
 use Rattle.tomex_document.specs.Program.{ProgramEntry}
+use Rattle.tomex_views.proofs.Placed.{none_found}
 use Rattle.tomex_streams.specs.Files.{Known}
 use Rattle.tomex_command.specs.Chosen.{IsUnchosen}
 use Rattle.tomex_command.specs.StudyFiles.{IsStudyWith}
 use Rattle.tomex_command.specs.declared.failure.Failure.{Failure}
 use Rattle.tomex_command.specs.declared.failure.Failure.TheVariants.{NoSuchProgram}
-
-module _ {X : Type 0} (p : X → Bool) (xs : List X) where
-  -- what is found stands at the first place
-  pub found_at : (n : ℕ) → position p xs ≡ Some n → find p xs ≡ slice_get xs n
-  found_at n is = find_at p xs ∙ ap (λ (k : ℕ). slice_get xs k) (go (nat_lt (position_or_len p xs) (length xs)) is)
-    where
-      go : (b : Bool) → cond b (Some (position_or_len p xs)) None ≡ Some n → position_or_len p xs ≡ n
-      go true e = cc
-      go false e = absurd (cc)
-
-  -- if there is no place, none is found
-  none_found : position p xs ≡ None → find p xs ≡ None
-  none_found is =
-      find_at p xs ∙ slice_get_past xs (position_or_len p xs)
-      (go (nat_lt (position_or_len p xs) (length xs)) refl is)
-    where
-      go : (b : Bool) → nat_lt (position_or_len p xs) (length xs) ≡ b
-          → cond b (Some (position_or_len p xs)) None ≡ None → length xs ≤ position_or_len p xs
-      go true less e = absurd (cc)
-      go false less e = grind (arith)
 
 -- there are as many files as programs
 as_many_files : (entries : List ProgramEntry) (files : List (List ℕ)) (programs : List Workload)

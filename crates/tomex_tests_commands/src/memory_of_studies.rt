@@ -64,6 +64,27 @@ fn of_all_rows_of_a_study(rt: HostRuntime) -> Result<(), Fail> {
     each_is_granted(&rt, files.as_slice(), OF_TWELVE.as_slice())
 }
 
+/// Three programs on two machines.
+const THREE: &str = "[[program]]\nname = \"a\"\nfile = \"mul.bin\"\n\
+    [[program]]\nname = \"b\"\nfile = \"loop.bin\"\n\
+    [[program]]\nname = \"c\"\nfile = \"mul.bin\"\n[axes]\nalu = [1, 2]\n";
+
+/// Two of the programs are compared, and the third is dropped.
+static OF_THREE: [(&str, u64); 2] = [
+    ("tomex compare study a c", 20),
+    ("tomex compare study c b", 20),
+];
+
+#[test]
+fn of_two_programs_of_three(rt: HostRuntime) -> Result<(), Fail> {
+    let files = [
+        ("study", THREE.as_bytes()),
+        ("mul.bin", PRODUCT.as_slice()),
+        ("loop.bin", LOOP.as_slice()),
+    ];
+    each_is_granted(&rt, files.as_slice(), OF_THREE.as_slice())
+}
+
 /// The number of blocks that a line needs to make the report of the study.
 fn granted_to<R: AllocGlobal + Threads + Wait + Sync>(
     rt: &R,

@@ -1,3 +1,4 @@
 -- Lemmas of this crate.
 pub mod Placed
+mod TwoBuilds
 mod Unviewed

@@ -7,8 +7,7 @@ use Rattle.tomex_views.specs.StudyViews.{IsViewRefusal, IsWithoutSurvey, IsWitho
 use Rattle.tomex_views.specs.declared.study_view.StudyView.{StudyView}
 use Rattle.tomex_views.specs.declared.study_view.StudyView.TheVariants.{Survey, Choices}
 use Rattle.tomex_views.specs.declared.study_view.SurveyView.{SurveyView}
-use Rattle.tomex_views.specs.declared.study_view.SurveyView.TheVariants.{Table, Hull, Picture, RowsPicture, Rows}
-use Rattle.tomex_views.specs.declared.study_view.SurveyView.TheVariants.{Worth, Prices, Weights, Compare, Page}
+use Rattle.tomex_views.specs.declared.study_view.SurveyView.TheVariants.{Table}
 use Rattle.tomex_views.specs.declared.view_error.ViewError.{ViewError}
 use Rattle.tomex_views.specs.declared.view_error.ViewError.TheVariants.{Study, NoSuchRow, NoSuchProgram, TooLarge}
 use Rattle.tomex_views.specs.declared.view_error.ViewError.TheVariants.{Memory}
@@ -16,21 +15,10 @@ use Rattle.tomex_views.specs.declared.view_error.ViewError.TheVariants.{Memory}
 -- no view of a study has a refusal of the study itself
 none_of_study : (view : SurveyView) (s : DesignSpace) (x : StudyError) → IsWithoutSurvey view s (Study x) → ⊥
 none_of_study Table s x without = without
-none_of_study Hull s x without = without
-none_of_study Picture s x without = without
-none_of_study RowsPicture s x without = without
-none_of_study Rows s x without = without
-none_of_study (Worth row) s x without = without
-none_of_study Prices s x without = without
-none_of_study Weights s x without = without
-none_of_study (Compare old new) s x without = without
-none_of_study (Page name) s x without = without
+none_of_study view s x without = without
 
 pub unviewed : (view : StudyView) (bytes : List ℕ) (files : List (List ℕ)) (s : DesignSpace) (e : ViewError)
     → IsStudyOf bytes files s → IsWithoutText view s e → IsViewRefusal view bytes files e
 unviewed (Survey view) bytes files s (Study x) stands without = absurd (none_of_study view s x without)
 unviewed (Choices view) bytes files s (Study x) stands without = absurd without
-unviewed view bytes files s NoSuchRow stands without = (s, stands, without)
-unviewed view bytes files s NoSuchProgram stands without = (s, stands, without)
-unviewed view bytes files s TooLarge stands without = (s, stands, without)
-unviewed view bytes files s Memory stands without = (s, stands, without)
+unviewed view bytes files s error stands without = (s, stands, without)

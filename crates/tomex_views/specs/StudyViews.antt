@@ -2,6 +2,7 @@
 use Rattle.std.specs.Prelude.{◌≡◌, ℕ, ◌&&◌, is_some, nat_le, not, Bool, true, false, List, [], length, Option, Some}
 use Rattle.std.specs.List.{position}
 use Rattle.std.specs.Str.{bytes_eq}
+use Rattle.tomex_study.specs.Selection.{with_only}
 use Rattle.tomex_study.specs.Study.{DesignSpace}
 use Rattle.tomex_document.specs.Study.{IsStudyOf, IsStudyRefusal}
 use Rattle.tomex_front_views.specs.FrontTable.{front_table_of, hull_table_of}
@@ -63,6 +64,11 @@ lacks_row view s = false
 abbrev pub lacks_program : SurveyView → DesignSpace → Bool
 lacks_program (Compare old new) s = not (is_some (place_of old.now s) && is_some (place_of new.now s))
 lacks_program view s = false
+
+-- the study that a view is made of: two builds are compared by themselves
+abbrev pub needed : SurveyView → DesignSpace → DesignSpace
+needed (Compare old new) s = with_only old.now new.now s
+needed view s = s
 
 -- the study has a text: it has a configuration with this number, or programs of these names, and its table of prices
 -- isn't too large

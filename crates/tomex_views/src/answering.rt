@@ -5,6 +5,7 @@ ghost use Rattle.tomex_views.specs.StudyViews.{IsSurveyText, IsTextFrom, IsTextO
 ghost use Rattle.tomex_views.specs.StudyViews.{IsWithoutText};
 
 use crate::crew::Crew;
+use crate::needs::needed;
 use crate::study_view::{ChoicesView, StudyView, SurveyView};
 use crate::texts::{lacks_program, lacks_row, text_of_choices, text_of_survey};
 use crate::view_error::ViewError;
@@ -15,27 +16,29 @@ use tomex_document::study_in;
 use tomex_study::{Gate, Study};
 use tomex_survey::survey;
 
-/// A view of a study's front or of all its rows. A missing row or program is found before any row is evaluated.
+/// A view of a study's front or of all its rows. A missing row or program is found before any row is evaluated, and
+/// programs that make no difference aren't evaluated.
 fn survey_text<R: Threads + Sync, A: Allocator + Clone + Send + Sync + Drop, G: Gate + Sync>(
     rt: &R,
     alloc: A,
     heap: Global,
-    study: &Study<A>,
+    study: Study<A>,
     crew: Crew<'_, G>,
     view: SurveyView<'_>,
 ) -> Result<Vec<u8, A>, ViewError>
     requires some_workers { 1 ≤ crew.workers }
     requires few_workers { crew.workers ≤ 32 }
-    ensures text { IfOk result (λ text. IsSurveyText view.entry study.now text.items) }
-    ensures refused { IfErr result (IsWithoutSurvey view.entry study.now) }
+    ensures text { IfOk result (λ text. IsSurveyText view.entry study text.items) }
+    ensures refused { IfErr result (IsWithoutSurvey view.entry study) }
 {
-    if lacks_row(study, view) {
+    if lacks_row(&study, view) {
         return Err(ViewError::NoSuchRow);
     }
-    if lacks_program(study, view) {
+    if lacks_program(&study, view) {
         return Err(ViewError::NoSuchProgram);
     }
-    let surveyed = survey(rt, alloc.clone()?, study, crew.workers, crew.gate)?;
+    let study = needed(study, view);
+    let surveyed = survey(rt, alloc.clone()?, &study, crew.workers, crew.gate)?;
     text_of_survey(alloc, heap, &surveyed, view)
 }
 
@@ -61,18 +64,18 @@ fn text_of<R: Threads + Sync, A: Allocator + Clone + Send + Sync + Drop, G: Gate
     rt: &R,
     alloc: A,
     heap: Global,
-    study: &Study<A>,
+    study: Study<A>,
     crew: Crew<'_, G>,
     view: StudyView<'_>,
 ) -> Result<Vec<u8, A>, ViewError>
     requires some_workers { 1 ≤ crew.workers }
     requires few_workers { crew.workers ≤ 32 }
-    ensures text { IfOk result (λ text. IsTextOf view.entry study.now text.items) }
-    ensures refused { IfErr result (IsWithoutText view.entry study.now) }
+    ensures text { IfOk result (λ text. IsTextOf view.entry study text.items) }
+    ensures refused { IfErr result (IsWithoutText view.entry study) }
 {
     match view {
         StudyView::Survey(view) => survey_text(rt, alloc, heap, study, crew, view),
-        StudyView::Choices(view) => Ok(choices_text(rt, alloc, heap, study, crew, view)?),
+        StudyView::Choices(view) => Ok(choices_text(rt, alloc, heap, &study, crew, view)?),
     }
 }
 
@@ -97,5 +100,5 @@ pub fn answer_view<R: Threads + Sync, A: Allocator + Clone + Send + Sync + Drop,
         (λ e. IsViewRefusal view.entry study.now (map (λ f. f.items) files.now) e) }
 {
     let study = study_in(&alloc, heap, study, files)?;
-    text_of(rt, alloc, heap, &study, crew, view)
+    text_of(rt, alloc, heap, study, crew, view)
 }

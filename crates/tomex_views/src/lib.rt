@@ -5,6 +5,7 @@
 
 mod answering;
 mod crew;
+mod needs;
 mod study_view;
 mod texts;
 mod view_error;

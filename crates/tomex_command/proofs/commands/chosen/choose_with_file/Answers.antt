@@ -8,8 +8,8 @@ use Rattle.std.proofs.lemmas.Result.{err_from_is_err_and}
 use Rattle.tomex_study.specs.Program.{Workload}
 use Rattle.std.specs.Option.{ok_or}
 use Rattle.tomex_command.specs.declared.failure.Failure.TheVariants as failures
-use Rattle.tomex_views.proofs.Placed.{place_inside}
-use Rattle.tomex_command.proofs.Placed.{found_at, without_program}
+use Rattle.tomex_views.proofs.Placed.{found_at, place_inside}
+use Rattle.tomex_command.proofs.Placed.{without_program}
 use Rattle.tomex_command.proofs.commands.chosen.choose_with_file.Goals as goal
 
 -- a program has this name
