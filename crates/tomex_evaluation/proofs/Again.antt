@@ -1,16 +1,16 @@
 -- One block from the table: another one of its number was evaluated, and the run looked then as it looks now. So it
 -- looks as it looked after that one, as many cycles have passed, and the block asks for nothing new.
-use Rattle.std.proofs.Common.{ℕ, zero, suc, ◌+◌, ◌-◌, ◌<◌, ◌≤◌, ◌≡◌, ◌==◌, ◌∙◌, arith, refl, sym, List, length, map, false}
+use Rattle.std.proofs.Common.{ℕ, zero, suc, ◌+◌, ◌-◌, ◌≤◌, ◌≡◌, ◌==◌, ◌∙◌, arith, refl, sym, List, length, map}
+use Rattle.std.proofs.Common.{false}
 use Rattle.std.specs.List.{Contains}
 use Rattle.std.proofs.lemmas.Bool.{ne_eqb}
 use Rattle.tomex_rvexec.specs.declared.step.Step.{Step}
 use Rattle.tomex_config.specs.Configuration.{Configuration}
 use Rattle.tomex_config.specs.declared.part.Part.{Part}
 use Rattle.tomex_timing.specs.declared.demands.Demands.{Demands}
-use Rattle.tomex_timing.specs.Needs.{peak, stalls}
+use Rattle.tomex_timing.specs.Needs.{stalls}
 use Rattle.tomex_timing.specs.Recent.{facts_of}
-use Rattle.tomex_alike.specs.Alike.{LooksLike, lateness}
-use Rattle.tomex_alike.specs.Laws.{AsksForNothingNew, ComesBack, RepeatsItself, first_issue_at, history_to, window_to}
+use Rattle.tomex_alike.specs.Laws.{AsksForNothingNew, ComesBack, first_issue_at, history_to, window_to}
 use Rattle.tomex_alike.proofs.Runs.{no_less, runs_ask_for_nothing_new, runs_repeat}
 use Rattle.tomex_alike.proofs.Same.{another_window, looks_sym, looks_trans}
 use Rattle.tomex_repeats.specs.Blocks.{Blocks}
@@ -20,7 +20,7 @@ use Rattle.tomex_repeats.proofs.SameBlocks.{pair_of}
 use Rattle.tomex_states.specs.States.{AreNoted}
 use Rattle.tomex_evaluation.specs.Places.{IsBack, IsCut, WentThrough}
 use Rattle.tomex_evaluation.proofs.Asked.{noted_still}
-use Rattle.tomex_evaluation.proofs.Row.{IsBlock, block_is}
+use Rattle.tomex_evaluation.proofs.Row.{block_is}
 
 -- After a block the run looks as at place q, so many cycles after the first one before the block, and what was noted
 -- before it holds still.

@@ -1,6 +1,7 @@
 -- Where an evaluation begins, where it ends, and how its evaluator comes to the run's next step.
-use Rattle.std.proofs.Common.{ℕ, ◌+◌, ◌-◌, ◌<◌, ◌≤◌, ◌≡◌, ◌^◌, ◌∙◌, arith, refl, sym, ap, subst, List, [], drop, get_or, length}
-use Rattle.std.proofs.Common.{map, take, None, IfSome}
+use Rattle.std.proofs.Common.{ℕ, ◌+◌, ◌-◌, ◌<◌, ◌≤◌, ◌≡◌, ◌^◌, arith, sym, ap, subst, List, [], get_or}
+use Rattle.std.proofs.Common.{length}
+use Rattle.std.proofs.Common.{take, None}
 use Rattle.std.proofs.Math.Seq.{drop-length, take-length}
 use Rattle.std.specs.Prelude.{slice_index}
 use Rattle.tomex_rvexec.specs.declared.step.Step.{Step}
@@ -19,10 +20,10 @@ use Rattle.tomex_states.specs.Reuse.{CanBeKept, IsCopy, ShowsLater, ShowsTheSame
 use Rattle.tomex_states.specs.States.{AreNoted, ShowsState}
 use Rattle.tomex_states.specs.declared.state.State.{State}
 use Rattle.tomex_states.proofs.Histories.{facts_to}
-use Rattle.tomex_evaluation.specs.Known.{AreKnown, IsAt, IsBefore, IsInKept}
+use Rattle.tomex_evaluation.specs.Known.{AreKnown, IsBefore}
 use Rattle.tomex_evaluation.specs.Places.{IsBack, IsCut}
 use Rattle.tomex_evaluation.specs.declared.evaluation.Evaluation.{Evaluation}
-use Rattle.tomex_evaluation.specs.declared.evaluation.Standing.TheVariants.{Evaluated, Kept}
+use Rattle.tomex_evaluation.specs.declared.evaluation.Standing.TheVariants.{Evaluated}
 use Rattle.tomex_evaluation.specs.declared.known.Known.{Known}
 use Rattle.tomex_evaluation.proofs.Keeping.{known_none}
 use Rattle.tomex_evaluation.proofs.Row.{as_long, end_at_most, first_at_most}

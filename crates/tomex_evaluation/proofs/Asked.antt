@@ -7,14 +7,13 @@ use Rattle.tomex_rvdec.specs.declared.pool.PoolId.TheVariants as pools
 use Rattle.tomex_rvdec.specs.declared.pool.UnitId.{UnitId}
 use Rattle.tomex_rvdec.specs.declared.pool.UnitId.TheVariants as units
 use Rattle.tomex_config.specs.Configuration.{Configuration}
-use Rattle.tomex_config.specs.Cost.{all_units}
 use Rattle.tomex_config.specs.declared.part.Part.{Part}
 use Rattle.tomex_config.specs.declared.part.Part.TheVariants.{Stations, Units, Buses, Width}
 use Rattle.tomex_timing.specs.declared.demands.Demands.{Demands}
 use Rattle.tomex_timing.specs.declared.need.Need.{Need}
 use Rattle.tomex_timing.specs.declared.needs.Needs.{Needs}
 use Rattle.tomex_timing.specs.declared.times.Done.{Done}
-use Rattle.tomex_timing.specs.Demands.{AreDemands, demand_from, demands_of}
+use Rattle.tomex_timing.specs.Demands.{demand_from, demands_of}
 use Rattle.tomex_timing.specs.History.{greatest_end, last_issue}
 use Rattle.tomex_timing.specs.Needs.{AreNeeds, need_of, no_need, peak, stalls, stalls_by}
 use Rattle.tomex_timing.specs.Demands.{with_total}

@@ -1,6 +1,7 @@
 -- What is known stays known as the run goes on, and one more state or entry becomes known.
-use Rattle.std.proofs.Common.{ℕ, ◌+◌, ◌*◌, ◌-◌, ◌^◌, ◌<◌, ◌≤◌, ◌≡◌, ◌⊎◌, ◌∙◌, arith, refl, sym, ap, inl, inr, List, [], ◌∷◌, ◌++◌}
-use Rattle.std.proofs.Common.{Option, Some, None, get_or, length, replicate, set, take}
+use Rattle.std.proofs.Common.{ℕ, ◌+◌, ◌*◌, ◌-◌, ◌^◌, ◌<◌, ◌≤◌, ◌≡◌, ◌⊎◌, ◌∙◌, arith, refl, sym, ap, inl, inr, List, []}
+use Rattle.std.proofs.Common.{◌∷◌, ◌++◌}
+use Rattle.std.proofs.Common.{Some, None, get_or, length, replicate, set, take}
 use Rattle.std.proofs.Math.Nat.{mul_comm}
 use Rattle.std.proofs.lemmas.Bool.{cases_eq, cases_lt}
 use Rattle.std.proofs.lemmas.List.{get_or-append_right, get_or-replicate, get_or-set_other, get_or-set_same}
@@ -14,7 +15,7 @@ use Rattle.tomex_repeats.specs.Blocks.{Blocks}
 use Rattle.tomex_states.specs.Reuse.{CanBeKept, IsCopy}
 use Rattle.tomex_states.specs.States.{ShowsState}
 use Rattle.tomex_states.specs.declared.state.State.{State}
-use Rattle.tomex_evaluation.specs.Kept.{HasForgotten, HasOneMore, entry_of, entry_place}
+use Rattle.tomex_evaluation.specs.Kept.{HasOneMore, entry_of, entry_place}
 use Rattle.tomex_evaluation.specs.Known.{AreKnown, IsEntry}
 use Rattle.tomex_evaluation.specs.Places.{WentThrough}
 use Rattle.tomex_evaluation.specs.declared.known.Known.{Known}
@@ -132,7 +133,8 @@ module _ {A : Type 0} (config : Configuration) (steps : List Step) (run : Blocks
               let old : entry_of before v number ≡ Some next =
               sym (get_or_append_left before.next.items (replicate before.different None) None
               (entry_place before.different v number) (omega (arith, in_row, so.rows))) ∙ sym there_is ∙ e in
-              entry_kept config steps run i places (i ∷ []) v number next k (so.entries v number next k (omega arith) old)
+              let entry = so.entries v number next k (omega arith) old in
+              entry_kept config steps run i places (i ∷ []) v number next k entry
           | inr k ↦
               let past : length before.next.items ≤ entry_place before.different v number =
               rw k (omega (arith, so.rows)) in

@@ -1,6 +1,7 @@
 -- A state that is given a number among the kept ones: what is known then.
-use Rattle.std.proofs.Common.{ℕ, ◌+◌, ◌<◌, ◌≤◌, ◌≡◌, ◌∙◌, arith, refl, sym, inl, inr, List, [], ◌∷◌, ◌++◌, Option, Some, None}
-use Rattle.std.proofs.Common.{IfSome, get_or, length}
+use Rattle.std.proofs.Common.{ℕ, ◌<◌, ◌≤◌, ◌≡◌, ◌∙◌, arith, refl, sym, inl, inr, List, [], ◌∷◌, ◌++◌, Option, Some}
+use Rattle.std.proofs.Common.{None}
+use Rattle.std.proofs.Common.{IfSome, length}
 use Rattle.std.proofs.lemmas.List.{get_or_append_left, get_or_push, length_push}
 use Rattle.std.specs.Prelude.{slice_index}
 use Rattle.tomex_rvexec.specs.declared.step.Step.{Step}
@@ -12,7 +13,7 @@ use Rattle.tomex_states.specs.States.{ShowsState}
 use Rattle.tomex_states.specs.declared.state.State.{State}
 use Rattle.tomex_evaluation.specs.Kept.{IsNumbered}
 use Rattle.tomex_evaluation.specs.Known.{AreKnown, IsInKept}
-use Rattle.tomex_evaluation.specs.Places.{IsBack, IsCut}
+use Rattle.tomex_evaluation.specs.Places.{IsCut}
 use Rattle.tomex_evaluation.specs.declared.known.Known.{Known}
 use Rattle.tomex_evaluation.proofs.Keeping.{known_more, known_none}
 use Rattle.tomex_evaluation.proofs.Shown.{history_is, none_older}

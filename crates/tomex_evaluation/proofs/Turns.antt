@@ -1,7 +1,8 @@
 -- One block more: from the table, or evaluated.
-use Rattle.std.proofs.Common.{ℕ, ◌+◌, ◌-◌, ◌*◌, ◌<◌, ◌≤◌, ◌≡◌, ◌^◌, ◌∙◌, arith, refl, sym, ap, List, [], ◌∷◌, Option, Some, None}
+use Rattle.std.proofs.Common.{ℕ, ◌+◌, ◌<◌, ◌≤◌, ◌≡◌, ◌^◌, arith, refl, sym, List, Option}
+use Rattle.std.proofs.Common.{Some, None}
 use Rattle.std.proofs.Common.{IfSome}
-use Rattle.std.proofs.Common.{drop, get_or, length, map, set, slice_get, take}
+use Rattle.std.proofs.Common.{drop, get_or, length, slice_get}
 use Rattle.std.specs.List.{Contains}
 use Rattle.std.specs.Prelude.{slice_index}
 use Rattle.std.proofs.lemmas.List.Elements.{Contains-get_or}
@@ -35,8 +36,8 @@ block_there run k b get =
     (Contains-get_or run.blocks k b (slice_get_within run.blocks k b get))
 
 -- after a block the next step issues no earlier
-pub passes : (config : Configuration) (steps : List Step) (run : Blocks) (b : Block) → IsCut config steps run → Contains run.blocks b
-    → first_issue_at config steps b.first ≤ first_issue_at config steps b.end
+pub passes : (config : Configuration) (steps : List Step) (run : Blocks) (b : Block) → IsCut config steps run
+    → Contains run.blocks b → first_issue_at config steps b.first ≤ first_issue_at config steps b.end
 passes config steps run b cut there =
     let block = block_is config steps run cut b there in
     (no_less config steps cut.limits b.first b.end (omega (arith, block.some)) block.within).first
@@ -79,7 +80,8 @@ module _ {A : Type 0} (config : Configuration) (steps : List Step) (run : Blocks
       let block = block_is config steps run before.cut b there in
       let at = before.at in
       let in_kept : IsInKept config steps at.places i v = rw stands at at.stands in
-      let so = at.known.entries v b.number next in_kept.number (omega (arith, block.number, at.known.different)) entry in
+      let number : b.number < e.known.different = omega (arith, block.number, at.known.different) in
+      let so = at.known.entries v b.number next in_kept.number number entry in
       let first : b.first ≡ i = row.0 in
       let again : IsAgain config steps (slice_index at.places next.state) i b.end next.passed =
       rw first at (block_again config steps run before.cut b (slice_index at.places v)

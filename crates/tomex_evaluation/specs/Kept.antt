@@ -1,5 +1,5 @@
 -- The states that are kept, and the entries of the table.
-use Rattle.std.specs.Prelude.{ℕ, ◌+◌, ◌*◌, ◌^◌, ◌<◌, ◌≡◌, ◌⊎◌, List, [], ◌∷◌, ◌++◌, Option, Some, None, length}
+use Rattle.std.specs.Prelude.{ℕ, ◌+◌, ◌*◌, ◌^◌, ◌<◌, ◌≡◌, ◌⊎◌, [], ◌∷◌, ◌++◌, Option, Some, None, length}
 use Rattle.std.specs.Prelude.{replicate, slice_index_or, slice_set}
 use Rattle.tomex_config.specs.Configuration.{Configuration}
 use Rattle.tomex_states.specs.Reuse.{CanBeKept, IsCopy, LookAlike, ShowsSome, ShowsTheSame}

@@ -1,6 +1,6 @@
 -- What is known of a run up to a place: the states that are kept, and what followed them; and where the evaluation of
 -- the run is.
-use Rattle.std.specs.Prelude.{ℕ, ◌+◌, ◌*◌, ◌^◌, ◌<◌, ◌≤◌, ◌≡◌, List, Option, Some, None, IfSome, drop, length}
+use Rattle.std.specs.Prelude.{ℕ, ◌*◌, ◌^◌, ◌<◌, ◌≤◌, ◌≡◌, List, Option, Some, IfSome, drop, length}
 use Rattle.std.specs.Prelude.{slice_index, slice_index_or}
 use Rattle.tomex_rvexec.specs.declared.step.Step.{Step}
 use Rattle.tomex_config.specs.Configuration.{Configuration}

@@ -4,7 +4,6 @@ use Rattle.std.proofs.lemmas.List.Elements.{Contains-get_or}
 use Rattle.tomex_repeats.specs.declared.blocks.Block.{Block}
 use Rattle.tomex_evaluation.proofs.Arrivals.{demands_there}
 use Rattle.tomex_evaluation.proofs.Row.{row_next}
-use Rattle.tomex_evaluation.proofs.Turns.{before_next}
 use Rattle.tomex_evaluation.proofs.demands.demands_by_blocks.Goals as goal
 
 abbrev nothing : Block

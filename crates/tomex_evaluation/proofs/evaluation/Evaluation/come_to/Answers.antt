@@ -1,11 +1,9 @@
 -- A copy of the kept state is moved to this place.
 use Rattle.std.proofs.Common.{◌-◌, arith, refl}
 use Rattle.tomex_alike.specs.Laws.{history_to}
-use Rattle.tomex_timing.specs.History.{greatest_end}
 use Rattle.std.specs.Prelude.{slice_index}
-use Rattle.tomex_states.specs.declared.state.State.{State}
 use Rattle.tomex_evaluation.specs.Known.{IsInKept}
-use Rattle.tomex_evaluation.proofs.Arrivals.{IsKeptOf, comes, ends_small, first_passed, kept_of, moves}
+use Rattle.tomex_evaluation.proofs.Arrivals.{comes, ends_small, first_passed, kept_of, moves}
 use Rattle.tomex_evaluation.proofs.Shown.{history_is}
 use Rattle.tomex_evaluation.proofs.evaluation.Evaluation.come_to.Goals as goal
 

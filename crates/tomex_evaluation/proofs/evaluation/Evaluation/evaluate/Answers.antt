@@ -92,7 +92,8 @@ overflow_sub-passed g c =
     let time = c.first_issue-time.ensures (history_to config steps b.end) shows in
     let e = record c.come_to.new.self { state = c.evaluate.new.self; demands = c.evaluate.new.demands } in
     let same = time_is g.row.A.Denot c.find_or_keep.new.self e c.in_ok-to.ensures.rest in
-    omega (arith, time, same, c.in_ok-come_to.ensures.at.time, passes config steps run b c.requires.cut c.requires.block)
+    let up = passes config steps run b c.requires.cut c.requires.block in
+    omega (arith, time, same, c.in_ok-come_to.ensures.at.time, up)
 
 pub note-requires : goal.note-requires
 note-requires g c =

@@ -1,7 +1,7 @@
 -- Each turn goes through one block of the table.
-use Rattle.std.proofs.Common.{◌≡◌, ◌≤◌, ◌+◌, arith, refl, sym}
+use Rattle.std.proofs.Common.{◌≡◌, ◌+◌, arith, refl, sym}
 use Rattle.std.proofs.lemmas.Option.{slice_get_read}
-use Rattle.tomex_evaluation.proofs.Turns.{entry_is_there, followed, time_small}
+use Rattle.tomex_evaluation.proofs.Turns.{followed, time_small}
 use Rattle.tomex_evaluation.proofs.evaluation.Evaluation.follow.Goals as goal
 use Rattle.tomex_evaluation.specs.declared.evaluation.Standing.TheVariants.{Kept}
 

@@ -2,8 +2,6 @@
 use Rattle.std.proofs.Common.{◌-◌, ◌≤◌, length}
 use Rattle.tomex_evaluation.specs.Known.{IsBefore}
 use Rattle.tomex_evaluation.specs.declared.evaluation.Standing.TheVariants.{Kept}
-use Rattle.tomex_evaluation.proofs.Turns.{followed}
-use Rattle.tomex_evaluation.proofs.Numbered.{known_as}
 use Rattle.tomex_evaluation.proofs.evaluation.Evaluation.follow.Given as goal
 
 abbrev pub invariant-loop-block : goal.invariant-loop-block

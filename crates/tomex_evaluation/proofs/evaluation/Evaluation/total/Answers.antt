@@ -1,8 +1,7 @@
 -- The kept state's greatest end is as far after its first cycle.
-use Rattle.std.proofs.Common.{◌≡◌, ◌∙◌, ap, arith, length, sym}
+use Rattle.std.proofs.Common.{◌≡◌, arith, length, sym}
 use Rattle.std.specs.Prelude.{slice_index}
 use Rattle.tomex_alike.specs.Laws.{history_to}
-use Rattle.tomex_timing.specs.History.{greatest_end}
 use Rattle.tomex_evaluation.specs.Known.{IsInKept}
 use Rattle.tomex_evaluation.proofs.Arrivals.{ends_back, ends_small, ends_there, first_passed, kept_of}
 use Rattle.tomex_evaluation.proofs.Turns.{place_within, time_small}
