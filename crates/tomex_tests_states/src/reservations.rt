@@ -2,8 +2,7 @@
 
 use std::alloc::AllocError;
 use std::test::Fail;
-use tomex_reservations::{BUSES, ReservationTable, Stations};
-use tomex_rvdec::PoolId;
+use tomex_reservations::{BUSES, ReservationTable};
 use tomex_tests_fixtures::{Attempt, Heap, Try, refusals};
 
 /// The bus is taken in cycle 5.
@@ -82,18 +81,5 @@ impl Attempt for Copying {
 #[test]
 fn a_copied_table_is_the_same_some_cycles_later(rt: HostRuntime) -> Result<(), Fail> {
     assert!(rt; refusals(rt.alloc(), &Copying)? > Some(0));
-    Ok(())
-}
-
-/// Stations are free as many cycles later as their ends are moved.
-#[test]
-fn moved_stations_are_free_later(rt: HostRuntime) -> Result<(), Fail> {
-    let mut stations = Stations::none();
-    stations.take(PoolId::Mul, 0, 9);
-    stations.shift(30);
-    let first = stations.first(PoolId::Mul, 1, 31);
-    assert_eq!(rt; first.cycle, 40);
-    let other = stations.first(PoolId::Mul, 2, 31);
-    assert!(rt; other.cycle == 31 && other.number == 1);
     Ok(())
 }
