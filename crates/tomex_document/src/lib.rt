@@ -1,6 +1,6 @@
 //! Studies, read from their bytes and those of the files that they name, or the first test that they fail: the document
 //! in TOML, whose places and keys are tested one after another, and then its programs.
-//! Tests: tomex_tests_documents.
+//! Tests: tomex_tests_studies.
 #![tactic(auto)]
 
 mod document;

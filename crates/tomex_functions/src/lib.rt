@@ -1,6 +1,6 @@
 //! The functions of a program, as texts show them, where in them the cycles of a run go, and how many cycles each
 //! function takes in two builds of a program.
-//! Tests: tomex_cases, tomex_tests_symbols.
+//! Tests: tomex_cases, tomex_tests_in_order.
 #![tactic(auto)]
 
 mod builds;

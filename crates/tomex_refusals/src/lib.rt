@@ -1,5 +1,5 @@
 //! The program's refusals: what each means, the usual causes, and what to do.
-//! Tests: tomex_tests_refusals.
+//! Tests: tomex_tests_lines.
 #![tactic(auto)]
 
 mod commands;

@@ -1,6 +1,6 @@
 //! The claim: a study is read from its bytes, explored by workers, and its front run again and reported. And the same
 //! report, with each configuration run to its end on one thread.
-//! Tests: tomex_tests_reports, tomex_tests_memory.
+//! Tests: tomex_tests_reports.
 #![tactic(auto)]
 
 mod answer_error;

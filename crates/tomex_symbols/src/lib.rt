@@ -1,5 +1,5 @@
 //! The symbols of an ELF file, and which of them has an address: the function of a pc.
-//! Tests: tomex_tests_symbols.
+//! Tests: tomex_tests_in_order.
 #![tactic(auto)]
 
 mod functions;

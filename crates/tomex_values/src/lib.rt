@@ -1,6 +1,6 @@
 //! Values of a TOML document: the table, number or list under a key, and the refusals, which name
 //! place and key.
-//! Tests: tomex_tests_documents.
+//! Tests: tomex_tests_studies.
 #![tactic(auto)]
 
 mod error;
