@@ -1,5 +1,5 @@
-//! The program `tomex_cases`: golden cases, run through the whole program over files in memory. With `--renew` it writes
-//! what the program prints into the archives.
+//! The program `tomex_cases`: golden cases, run through the whole program over files in memory. With `--renew` it
+//! writes what the program prints into the archives.
 #![tactic(auto)]
 
 mod archive;
@@ -15,8 +15,8 @@ use running::run_cases;
 use std::env;
 use std::process::ExitCode;
 
-/// Runs the cases or commands that the words name, or all cases. After the word `--renew` it renews those that the other
-/// words name.
+/// Runs the cases or commands that the words name, or all cases. After the word `--renew` it renews those that the
+/// other words name.
 fn main(rt: HostRuntime) -> Result<ExitCode> {
     let words: Vec<String> = env::args(&rt)?.skip(1).collect(rt.alloc())?;
     match words.as_slice() {

@@ -1,7 +1,7 @@
 //! Tests of the program beside its golden cases: refused memory, workers and progress, outputs that fail on their
 //! way, names with control characters, faults of a line, and the greatest inputs. And whole runs of the program over
-//! files in memory, which the golden cases share: their outcomes, compared with what is wanted, and the same with memory
-//! refused.
+//! files in memory, which the golden cases share: their outcomes, compared with what is wanted, and the same with
+//! memory refused.
 #![tactic(auto)]
 
 mod comparing;
