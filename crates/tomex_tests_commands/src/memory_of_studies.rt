@@ -71,8 +71,8 @@ const THREE: &str = "[[program]]\nname = \"a\"\nfile = \"mul.bin\"\n\
 
 /// Two of the programs are compared, and the third is dropped.
 static OF_THREE: [(&str, u64); 2] = [
-    ("tomex compare study a c", 20),
-    ("tomex compare study c b", 20),
+    ("tomex compare study a c", 14),
+    ("tomex compare study c b", 14),
 ];
 
 #[test]
