@@ -22,7 +22,7 @@ use Rattle.tomex_evaluation.specs.Places.{IsBack, IsCut, WentThrough}
 use Rattle.tomex_evaluation.proofs.Asked.{noted_still}
 use Rattle.tomex_evaluation.proofs.Row.{block_is}
 
--- After a block the run looks as at place q, so many cycles after the first one before the block, and what was noted
+-- After a block the run looks as at place q, `passed` cycles after the first one before the block, and what was noted
 -- before it holds still.
 pub record IsAgain (config : Configuration) (steps : List Step) (q i end passed : ℕ) : Type 0 where
   pub after : IsBack config steps q end

@@ -21,7 +21,7 @@ abbrev pub IsBack : Configuration → List Step → (p i : ℕ) → Type 0
 IsBack config steps p i = LooksLike config 4 (history_to config steps p) (history_to config steps i)
 
 -- Before place i the run went through a block with this number. It looked as at place p before the block and as at
--- place q after it, and the first cycle in which the next step may issue was so many cycles later.
+-- place q after it, and the first cycle in which the next step may issue was `passed` cycles later.
 pub record WentThrough (config : Configuration) (steps : List Step) (run : Blocks) (i p number q passed : ℕ)
     : Type 0 where
   pub block : Block

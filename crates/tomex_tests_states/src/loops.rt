@@ -55,7 +55,7 @@ fn word(random: &mut Random, body: Body) -> u32 {
     }
 }
 
-/// `bne x9,x0` back over so many instructions.
+/// `bne x9,x0` back over this number of instructions.
 fn branch_back(over: u32) -> u32
     requires { over < 1000 }
 {
@@ -65,7 +65,7 @@ fn branch_back(over: u32) -> u32
     0x00049063 | high | low
 }
 
-/// The run of a loop with so many instructions in its body, and so many rounds: `addi x9,x0,rounds; addi x10,x0,first;`
+/// The run of a loop of this length, with this number of rounds: `addi x9,x0,rounds; addi x10,x0,first;`
 /// the body; `addi x10,x10,4; addi x9,x9,-1; bne x9,x0; ebreak`.
 pub(crate) fn random_loop(
     alloc: Global,
