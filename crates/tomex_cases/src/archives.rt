@@ -4,12 +4,13 @@ use anyhow::{Context, Result, ensure};
 use std::fs;
 use std::rt::Files;
 
-/// The archives, one a command.
-pub const COMMANDS: [&str; 22] = [
+/// The archives, one a command, and those of forms that several commands have.
+pub const COMMANDS: [&str; 23] = [
     "all",
     "animate",
     "choices",
     "compare",
+    "config",
     "explore",
     "find",
     "front",

@@ -8,4 +8,4 @@ mod Left
 mod Placed
 mod Reached
 mod Reading
-mod Reported
+mod Shown

@@ -12,7 +12,7 @@ use Rattle.tomex_study.specs.Program.{Workload, IsProgram}
 use Rattle.tomex_sweep.proofs.Machines.{Advances, advanced_from}
 use Rattle.tomex_plateaus.proofs.Totals.{ends_at_most}
 use Rattle.tomex_texts.specs.TablesText.{tables_text_of}
-use Rattle.tomex_command.specs.TablesLines.{IsTextAfter}
+use Rattle.tomex_command.specs.RunViews.{IsTextAfter}
 
 -- the state of a machine of the program on the configuration after that
 pub record HasAdvanced (config : Configuration) (p : Workload) (to : ℕ) (n : Seen) : Type 0 where

@@ -4,7 +4,7 @@ use Rattle.tomex_views.specs.StudyViews.{IsViewRefusal}
 use Rattle.tomex_views.specs.declared.study_view.StudyView.{StudyView}
 use Rattle.tomex_views.specs.declared.view_error.ViewError.{ViewError}
 use Rattle.tomex_views.specs.declared.view_error.ViewError.TheVariants.{Study, NoSuchRow, NoSuchProgram, TooLarge}
-use Rattle.tomex_views.specs.declared.view_error.ViewError.TheVariants.{Memory}
+use Rattle.tomex_views.specs.declared.view_error.ViewError.TheVariants.{NoSuchChoice, SeveralRows, Memory}
 use Rattle.tomex_command.specs.declared.failure.Failure.{Failure}
 use Rattle.tomex_streams.specs.Files.{Known}
 use Rattle.tomex_command.specs.Statuses.{failure_of_view}
@@ -17,6 +17,10 @@ refused : (view : StudyView) (file : List ℕ → Known) (name bytes : List ℕ)
 refused view file name bytes contents (Study error) sources refusal =
     λ other. inr (record { bytes = bytes; contents = contents; sources = sources; refused = refusal })
 refused view file name bytes contents NoSuchRow sources refusal =
+    record { bytes = bytes; contents = contents; sources = sources; without = refusal }
+refused view file name bytes contents (NoSuchChoice choice) sources refusal =
+    record { bytes = bytes; contents = contents; sources = sources; without = refusal }
+refused view file name bytes contents (SeveralRows n) sources refusal =
     record { bytes = bytes; contents = contents; sources = sources; without = refusal }
 refused view file name bytes contents NoSuchProgram sources refusal =
     record { bytes = bytes; contents = contents; sources = sources; without = refusal }

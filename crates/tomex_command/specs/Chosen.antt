@@ -1,51 +1,45 @@
--- The configuration and the program that a line chooses of a study, by a number and a name.
+-- The run that a line chooses of a study: a configuration and a program by their names, and the program's file.
 use Rattle.std.specs.Prelude.{◌≡◌, ℕ, List, slice_get, Some, None}
 use Rattle.std.specs.List.{position}
 use Rattle.std.specs.Str.{bytes_eq}
+use Rattle.tomex_rvexec.specs.Run.{start_of}
+use Rattle.tomex_rvexec.specs.Trace.{steps_from}
+use Rattle.tomex_rvexec.specs.declared.step.Step.{Step}
 use Rattle.tomex_config.specs.Configuration.{Configuration}
 use Rattle.tomex_study.specs.Program.{Workload}
 use Rattle.tomex_study.specs.Study.{DesignSpace, program_named}
+use Rattle.tomex_front_views.specs.RowName.{IsNoRow, row_named}
+use Rattle.tomex_front_views.specs.declared.row_name.RowError.TheVariants as rows
+use Rattle.tomex_front_views.specs.declared.row_name.RowName.{RowName}
+use Rattle.tomex_front_views.specs.declared.row_name.RowName.TheVariants as names
 use Rattle.tomex_command.specs.declared.failure.Failure.{Failure}
-use Rattle.tomex_command.specs.declared.failure.Failure.TheVariants.{NoSuchRow, NoSuchProgram}
+use Rattle.tomex_command.specs.declared.failure.Failure.TheVariants.{NoSuchChoice, NoSuchRow, SeveralRows}
+use Rattle.tomex_command.specs.declared.failure.Failure.TheVariants.{NoSuchProgram, Memory}
+use Rattle.tomex_command_line.specs.declared.line.config.ConfigName.{ConfigName}
+use Rattle.tomex_command_line.specs.declared.line.config.ConfigName.TheVariants.{Number, Choices}
 use Rattle.tomex_command_line.specs.declared.line.one_run.OneRun.{OneRun}
 use Rattle.tomex_streams.specs.Files.{Known}
-use Rattle.tomex_command.specs.StudyFiles.{IsStudyIn, IsStudyFailure, IsStudyWith}
+use Rattle.tomex_command.specs.StudyFiles.{IsStudyIn, IsStudyWith}
 
--- the configuration of that number, and the program of that name
-pub record IsChosen (study : DesignSpace) (number : ℕ) (name : List ℕ) (config : Configuration) (program : Workload)
-    : Type 0 where
-  pub config_is : slice_get study.rows number ≡ Some config
-  pub program_is : program_named name study.programs ≡ Some program
-
--- there is the configuration, and no program of that name
-pub record IsWithoutProgram (study : DesignSpace) (number : ℕ) (name : List ℕ) : Type 0 where
+-- a configuration with its number, a program, and the bytes of the program's file
+pub record RunChoice : Type 0 where
+  pub number : ℕ
   pub config : Configuration
-  pub config_is : slice_get study.rows number ≡ Some config
-  pub program_is : program_named name study.programs ≡ None
+  pub program : Workload
+  pub file : List ℕ
 
--- why a study has not both: the configuration is looked for first
-abbrev pub IsUnchosen : DesignSpace → ℕ → List ℕ → Failure → Type 0
-IsUnchosen study number name NoSuchRow = slice_get study.rows number ≡ None
-IsUnchosen study number name NoSuchProgram = IsWithoutProgram study number name
-IsUnchosen study number name _ = ⊥
+abbrev pub run_choice : ℕ → Configuration → Workload → List ℕ → RunChoice
+run_choice number config program file =
+    record { number = number; config = config; program = program; file = file }
 
--- the configuration and the program of the study of a file
-pub record IsChosenIn (file : List ℕ → Known) (study : List ℕ) (number : ℕ) (name : List ℕ) (config : Configuration)
-    (program : Workload) : Type 0 where
-  pub space : DesignSpace
-  pub of_files : IsStudyIn file study space
-  pub chosen : IsChosen space number name config program
+-- the steps of the program's run
+abbrev pub steps_in : RunChoice → List Step
+steps_in choice = steps_from choice.program.limit (start_of choice.program.image)
 
--- the study of a file has not both, for this reason
-abbrev pub IsUnchosenIn : (List ℕ → Known) → List ℕ → ℕ → List ℕ → Failure → Type 0
-IsUnchosenIn file study number name failure =
-    (space : DesignSpace) × IsStudyIn file study space × IsUnchosen space number name failure
-
--- when each failure comes: the whole study first, then the configuration, then the program
-abbrev pub IsChoiceFailure : (List ℕ → Known) → List ℕ → ℕ → List ℕ → Failure → Type 0
-IsChoiceFailure file study number name NoSuchRow = IsUnchosenIn file study number name NoSuchRow
-IsChoiceFailure file study number name NoSuchProgram = IsUnchosenIn file study number name NoSuchProgram
-IsChoiceFailure file study number name failure = IsStudyFailure file study failure
+-- the name of a row, as the line has it
+abbrev pub row_name : ConfigName → RowName
+row_name (Number number) = names.Number number
+row_name (Choices word) = names.Choices word
 
 -- the file of the first program with this name; files are in the order of the programs
 pub record IsFileOf (study : DesignSpace) (contents : List (List ℕ)) (name : List ℕ) (bytes : List ℕ) : Type 0 where
@@ -53,26 +47,39 @@ pub record IsFileOf (study : DesignSpace) (contents : List (List ℕ)) (name : L
   pub place_is : position (λ p. bytes_eq p.name name) study.programs ≡ Some place
   pub bytes_are : slice_get contents place ≡ Some bytes
 
--- the study of the run's file has its configuration and its program, and this holds of them
-pub record IsOfRun (file : List ℕ → Known) (run : OneRun) (Holds : Configuration → Workload → Type 0) : Type 0 where
-  pub config : Configuration
-  pub program : Workload
-  pub chosen : IsChosenIn file run.study.now run.config run.program.now config program
-  pub holds : Holds config program
-
--- the same, and it holds of the bytes of the program's file too
-pub record IsOfFile (file : List ℕ → Known) (run : OneRun) (Holds : Configuration → Workload → List ℕ → Type 0)
+-- the configuration and the program of these names, and the program's file
+pub record IsChosen (study : DesignSpace) (contents : List (List ℕ)) (run : OneRun) (choice : RunChoice)
     : Type 0 where
+  pub row_is : row_named study (row_name run.config) ≡ Some choice.number
+  pub config_is : slice_get study.rows choice.number ≡ Some choice.config
+  pub program_is : program_named run.program.now study.programs ≡ Some choice.program
+  pub of_program : IsFileOf study contents run.program.now choice.file
+
+-- there is the configuration, and no program of that name
+pub record IsWithoutProgram (study : DesignSpace) (run : OneRun) : Type 0 where
+  pub number : ℕ
+  pub row_is : row_named study (row_name run.config) ≡ Some number
+  pub program_is : program_named run.program.now study.programs ≡ None
+
+-- why a study has not both: the configuration is looked for first; memory may run out at any time
+abbrev pub IsUnchosen : DesignSpace → OneRun → Failure → Type 0
+IsUnchosen study run (NoSuchChoice choice) = IsNoRow study (row_name run.config) (rows.NoSuchChoice choice)
+IsUnchosen study run NoSuchRow = IsNoRow study (row_name run.config) rows.NoSuchRow
+IsUnchosen study run (SeveralRows n) = IsNoRow study (row_name run.config) (rows.SeveralRows n)
+IsUnchosen study run NoSuchProgram = IsWithoutProgram study run
+IsUnchosen study run Memory = Unit {0}
+IsUnchosen study run _ = ⊥
+
+-- the study of the run's files has the configuration and the program, and this holds of them
+pub record IsOfRun (file : List ℕ → Known) (run : OneRun) (Holds : RunChoice → Type 0) : Type 0 where
   pub space : DesignSpace
   pub contents : List (List ℕ)
   pub of_files : IsStudyWith file run.study.now space contents
-  pub config : Configuration
-  pub program : Workload
-  pub chosen : IsChosen space run.config run.program.now config program
-  pub bytes : List ℕ
-  pub of_program : IsFileOf space contents run.program.now bytes
-  pub holds : Holds config program bytes
+  pub choice : RunChoice
+  pub chosen : IsChosen space contents run choice
+  pub holds : Holds choice
 
--- when each failure comes before anything is asked of the run
-abbrev pub IsRunFailure : (List ℕ → Known) → OneRun → Failure → Type 0
-IsRunFailure file run failure = IsChoiceFailure file run.study.now run.config run.program.now failure
+-- it has not both, for this reason
+abbrev pub IsUnchosenIn : (List ℕ → Known) → OneRun → Failure → Type 0
+IsUnchosenIn file run failure =
+    (space : DesignSpace) × IsStudyIn file run.study.now space × IsUnchosen space run failure

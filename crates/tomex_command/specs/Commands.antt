@@ -13,36 +13,34 @@ use Rattle.tomex_views.specs.declared.study_view.ChoicesView.TheVariants as choi
 use Rattle.tomex_views.specs.declared.study_view.StudyView.TheVariants as views
 use Rattle.tomex_views.specs.declared.study_view.SurveyView.TheVariants as surveys
 use Rattle.tomex_streams.specs.Files.{Known}
-use Rattle.tomex_command.specs.AnimateLines.{IsAnimateOf, IsAnimateFailure}
 use Rattle.tomex_command.specs.ExplainLines.{IsExplanation, IsExplainFailure}
 use Rattle.tomex_command.specs.FindLines.{IsFindOf, IsFindFailure}
 use Rattle.tomex_command.specs.FunctionsLines.{IsFunctionsFailure, IsFunctionsOf}
 use Rattle.tomex_command.specs.FrontLines.{IsAllFailure, IsExploreFailure, IsReportOf}
 use Rattle.tomex_streams.specs.Sinks.{Seen, IsWhole, IsCut}
-use Rattle.tomex_command.specs.PathLines.{IsPathOf, IsPathFailure}
-use Rattle.tomex_command.specs.PipelineLines.{IsPipelineOf, IsPipelineFailure}
 use Rattle.tomex_command.specs.RunLines.{IsRunOf, IsRunFailure}
+use Rattle.tomex_command.specs.Chosen.{row_name}
+use Rattle.tomex_command.specs.RunViews.{IsRunViewFailure, IsRunViewOf}
+use Rattle.tomex_command.specs.declared.commands.run_view.RunView.TheVariants as runs
 use Rattle.tomex_command.specs.ViewLines.{IsViewFailure, IsViewOf, page_view, plot_view, table_view}
-use Rattle.tomex_command.specs.StallsLines.{IsStallsOf, IsStallsFailure}
-use Rattle.tomex_command.specs.TablesLines.{IsTablesOf, IsTablesFailure}
 use Rattle.tomex_command.specs.Reporting.{IsFailureReported, IsSaid, IsFaultReported}
-use Rattle.tomex_command.specs.TimesLines.{IsTimesOf, IsTimesFailure}
 
 -- this text is what the line asks for, given the files by their names
 abbrev pub IsDone : (List ℕ → Known) → Line → List ℕ → Type 0
 IsDone file (Run line) text = IsRunOf file line text
-IsDone file (Times line) text = IsTimesOf file line text
-IsDone file (Stalls line) text = IsStallsOf file line text
-IsDone file (Path line) text = IsPathOf file line text
-IsDone file (Pipeline line) text = IsPipelineOf file line text
-IsDone file (Tables line) text = IsTablesOf file line text
-IsDone file (Animate line) text = IsAnimateOf file line text
+IsDone file (Times line) text = IsRunViewOf (runs.Times line) file text
+IsDone file (Stalls line) text = IsRunViewOf (runs.Stalls line) file text
+IsDone file (Path line) text = IsRunViewOf (runs.Path line) file text
+IsDone file (Pipeline line) text = IsRunViewOf (runs.Pipeline line) file text
+IsDone file (Tables line) text = IsRunViewOf (runs.Tables line) file text
+IsDone file (Animate line) text = IsRunViewOf (runs.Animate line) file text
 IsDone file (All line) text = IsReportOf file line.study.now text
 IsDone file (Explore line) text = IsReportOf file line.study.now text
 IsDone file (Front line) text = IsViewOf (views.Survey (table_view line.hull)) file line.explore.study.now text
 IsDone file (Plot line) text = IsViewOf (views.Survey (plot_view line.all)) file line.explore.study.now text
 IsDone file (Rows line) text = IsViewOf (views.Survey surveys.Rows) file line.study.now text
-IsDone file (Worth line) text = IsViewOf (views.Survey (surveys.Worth line.config)) file line.explore.study.now text
+IsDone file (Worth line) text =
+    IsViewOf (views.Survey (surveys.Worth (row_name line.config))) file line.explore.study.now text
 IsDone file (Choices line) text = IsViewOf (views.Choices choices.Table) file line.study.now text
 IsDone file (Prices line) text = IsViewOf (views.Survey surveys.Prices) file line.study.now text
 IsDone file (Weights line) text = IsViewOf (views.Survey surveys.Weights) file line.study.now text
@@ -56,12 +54,12 @@ IsDone file (Explain line) text = IsExplanation (option_map string_bytes line.re
 -- the line has no text, for this reason
 abbrev pub IsFailure : (List ℕ → Known) → Line → Failure → Type 0
 IsFailure file (Run line) failure = IsRunFailure file line failure
-IsFailure file (Times line) failure = IsTimesFailure file line failure
-IsFailure file (Stalls line) failure = IsStallsFailure file line failure
-IsFailure file (Path line) failure = IsPathFailure file line failure
-IsFailure file (Pipeline line) failure = IsPipelineFailure file line failure
-IsFailure file (Tables line) failure = IsTablesFailure file line failure
-IsFailure file (Animate line) failure = IsAnimateFailure file line failure
+IsFailure file (Times line) failure = IsRunViewFailure (runs.Times line) file failure
+IsFailure file (Stalls line) failure = IsRunViewFailure (runs.Stalls line) file failure
+IsFailure file (Path line) failure = IsRunViewFailure (runs.Path line) file failure
+IsFailure file (Pipeline line) failure = IsRunViewFailure (runs.Pipeline line) file failure
+IsFailure file (Tables line) failure = IsRunViewFailure (runs.Tables line) file failure
+IsFailure file (Animate line) failure = IsRunViewFailure (runs.Animate line) file failure
 IsFailure file (All line) failure = IsAllFailure file line.study.now failure
 IsFailure file (Explore line) failure = IsExploreFailure file line.study.now failure
 IsFailure file (Front line) failure =
@@ -70,7 +68,7 @@ IsFailure file (Plot line) failure =
     IsViewFailure (views.Survey (plot_view line.all)) file line.explore.study.now failure
 IsFailure file (Rows line) failure = IsViewFailure (views.Survey surveys.Rows) file line.study.now failure
 IsFailure file (Worth line) failure =
-    IsViewFailure (views.Survey (surveys.Worth line.config)) file line.explore.study.now failure
+    IsViewFailure (views.Survey (surveys.Worth (row_name line.config))) file line.explore.study.now failure
 IsFailure file (Choices line) failure = IsViewFailure (views.Choices choices.Table) file line.study.now failure
 IsFailure file (Prices line) failure = IsViewFailure (views.Survey surveys.Prices) file line.study.now failure
 IsFailure file (Weights line) failure = IsViewFailure (views.Survey surveys.Weights) file line.study.now failure

@@ -1,10 +1,11 @@
 -- What is said of failures, and of lines that ask for no command.
 use Rattle.std.specs.Prelude.{◌≡◌, ◌⊎◌, ℕ, List, ◌++◌, codes, string_bytes}
+use Rattle.std.specs.Fmt.{decimal}
 use Rattle.tomex_command.specs.declared.failure.Failure.{Failure}
 use Rattle.tomex_command.specs.declared.failure.Failure.TheVariants.{BadWindow, Run, Study, NoSuchRow}
 use Rattle.tomex_command.specs.declared.failure.Failure.TheVariants.{NoSuchProgram, NoSymbols, CyclePastEnd, NoSuchStep}
 use Rattle.tomex_command.specs.declared.failure.Failure.TheVariants.{PictureTooLarge, TableTooLarge, CannotRead}
-use Rattle.tomex_command.specs.declared.failure.Failure.TheVariants.{CannotWrite, NoSuchChoice}
+use Rattle.tomex_command.specs.declared.failure.Failure.TheVariants.{CannotWrite, NoSuchChoice, SeveralRows}
 use Rattle.tomex_command.specs.declared.failure.Failure.TheVariants.{NoSuchRefusal, Memory, Worker}
 use Rattle.tomex_arguments.specs.declared.fault.LineFault.{LineFault}
 use Rattle.tomex_arguments.specs.declared.fault.LineFault.TheVariants.{Help, Usage}
@@ -19,6 +20,7 @@ IsTextOf BadWindow text = text ≡ codes "bad window"
 IsTextOf (Run refusal) text = Unit {0}
 IsTextOf (Study error) text = Unit {0}
 IsTextOf NoSuchRow text = text ≡ codes "no such row"
+IsTextOf (SeveralRows n) text = text ≡ codes "several rows: " ++ decimal n
 IsTextOf NoSuchProgram text = text ≡ codes "no such program"
 IsTextOf NoSymbols text = text ≡ codes "no symbols"
 IsTextOf CyclePastEnd text = text ≡ codes "cycle past the end"

@@ -9,6 +9,8 @@ use Rattle.tomex_animate.specs.declared.animation_error.AnimationError.{Animatio
 use Rattle.tomex_animate.specs.declared.animation_error.AnimationError.TheVariants as animations
 use Rattle.tomex_front_views.specs.declared.finding.FindError.{FindError}
 use Rattle.tomex_front_views.specs.declared.finding.FindError.TheVariants as searches
+use Rattle.tomex_front_views.specs.declared.row_name.RowError.{RowError}
+use Rattle.tomex_front_views.specs.declared.row_name.RowError.TheVariants as rows
 use Rattle.tomex_functions.specs.declared.functions_error.FunctionsError.{FunctionsError}
 use Rattle.tomex_functions.specs.declared.functions_error.FunctionsError.TheVariants as functions
 use Rattle.tomex_refusals.specs.declared.explaining.ExplainError.{ExplainError}
@@ -23,7 +25,7 @@ use Rattle.tomex_command.specs.declared.failure.Failure.{Failure}
 use Rattle.tomex_command.specs.declared.failure.Failure.TheVariants.{BadWindow, Run, Study, NoSuchRow}
 use Rattle.tomex_command.specs.declared.failure.Failure.TheVariants.{NoSuchProgram, NoSymbols, CyclePastEnd, NoSuchStep}
 use Rattle.tomex_command.specs.declared.failure.Failure.TheVariants.{PictureTooLarge, TableTooLarge, CannotRead}
-use Rattle.tomex_command.specs.declared.failure.Failure.TheVariants.{CannotWrite, NoSuchChoice}
+use Rattle.tomex_command.specs.declared.failure.Failure.TheVariants.{CannotWrite, NoSuchChoice, SeveralRows}
 use Rattle.tomex_command.specs.declared.failure.Failure.TheVariants.{NoSuchRefusal, Memory, Worker}
 
 -- 1 for input that is refused, 3 if memory, a thread, a file or a device is refused
@@ -34,6 +36,7 @@ status_of_failure (Run refusal) = 1
 status_of_failure (Study studies.Memory) = 3
 status_of_failure (Study error) = 1
 status_of_failure NoSuchRow = 1
+status_of_failure (SeveralRows n) = 1
 status_of_failure NoSuchProgram = 1
 status_of_failure NoSymbols = 1
 status_of_failure CyclePastEnd = 1
@@ -57,6 +60,8 @@ failure_of_answer (answers.Sweep sweeps.Worker) = Worker
 abbrev pub failure_of_view : ViewError → Failure
 failure_of_view (views.Study error) = Study error
 failure_of_view views.NoSuchRow = NoSuchRow
+failure_of_view (views.NoSuchChoice choice) = NoSuchChoice choice
+failure_of_view (views.SeveralRows n) = SeveralRows n
 failure_of_view views.NoSuchProgram = NoSuchProgram
 failure_of_view views.TooLarge = TableTooLarge
 failure_of_view views.Memory = Memory
@@ -82,6 +87,13 @@ abbrev pub failure_of_search : FindError → Failure
 failure_of_search (searches.NoSuchChoice choice) = NoSuchChoice choice
 failure_of_search searches.NoSuchRow = NoSuchRow
 failure_of_search searches.Memory = Memory
+
+-- the failure if a name is that of no configuration
+abbrev pub failure_of_row : RowError → Failure
+failure_of_row (rows.NoSuchChoice choice) = NoSuchChoice choice
+failure_of_row rows.NoSuchRow = NoSuchRow
+failure_of_row (rows.SeveralRows n) = SeveralRows n
+failure_of_row rows.Memory = Memory
 
 -- the failure that a refused page of a run becomes
 abbrev pub failure_of_animation : AnimationError → Failure

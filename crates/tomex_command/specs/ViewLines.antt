@@ -12,7 +12,8 @@ use Rattle.tomex_views.specs.declared.view_error.ViewError.{ViewError}
 use Rattle.tomex_views.specs.declared.view_error.ViewError.TheVariants as errors
 use Rattle.tomex_command.specs.StudyFiles.{AreSources, IsStudyFailure}
 use Rattle.tomex_command.specs.declared.failure.Failure.{Failure}
-use Rattle.tomex_command.specs.declared.failure.Failure.TheVariants.{NoSuchRow, NoSuchProgram, TableTooLarge}
+use Rattle.tomex_command.specs.declared.failure.Failure.TheVariants.{NoSuchChoice, NoSuchRow, SeveralRows}
+use Rattle.tomex_command.specs.declared.failure.Failure.TheVariants.{NoSuchProgram, TableTooLarge}
 use Rattle.tomex_streams.specs.Files.{Known}
 
 -- the view that `front` prints: the whole front, or its hull
@@ -50,7 +51,9 @@ pub record IsWithoutView (view : StudyView) (file : List ℕ → Known) (name : 
 -- when each failure comes: those of the study, then that it has no such row or program, then that its table is too
 -- large
 abbrev pub IsViewFailure : StudyView → (List ℕ → Known) → List ℕ → Failure → Type 0
+IsViewFailure view file name (NoSuchChoice choice) = IsWithoutView view file name (errors.NoSuchChoice choice)
 IsViewFailure view file name NoSuchRow = IsWithoutView view file name errors.NoSuchRow
+IsViewFailure view file name (SeveralRows n) = IsWithoutView view file name (errors.SeveralRows n)
 IsViewFailure view file name NoSuchProgram = IsWithoutView view file name errors.NoSuchProgram
 IsViewFailure view file name TableTooLarge = IsWithoutView view file name errors.TooLarge
 IsViewFailure view file name failure = IsStudyFailure file name failure

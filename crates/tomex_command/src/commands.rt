@@ -1,6 +1,7 @@
 //! A whole run of the program, over any files and sinks: what it prints, and its exit status.
 //!
-//! Each command's text has a file here. A further command is a further file, and a line in `text_of`.
+//! Views of a study have one text (`view.rt`), and so have views of one run of it (`run_view.rt`); each other command's
+//! text has a file here. A further command is a further view or file, and a line in `text_of`.
 
 ghost use Rattle.std.specs.Prelude.{◌≡◌, ◌≤◌, ◌⊎◌, map, string_bytes, IfOk, IfErr, OnOk};
 ghost use Rattle.tomex_command.specs.Commands.{IsDone, IsFailure, IsCarriedOut, IsLeft, IsEnd};
@@ -16,30 +17,26 @@ pub mod path;
 pub mod pipeline;
 pub mod reading;
 pub mod run;
+pub mod run_view;
 pub mod stalls;
 pub mod study;
 pub mod tables;
-pub mod times;
 pub mod view;
 
 use crate::failure::Failure;
 use crate::heaps::Heaps;
 use crate::reporting::{report_failure, report_line_fault};
 use all::text_of_all;
-use animate::text_of_animate;
+use chosen::row_name;
 use explain::text_of_explain;
 use explore::text_of_explore;
 use find::text_of_find;
 use functions::text_of_functions;
-use path::text_of_path;
-use pipeline::text_of_pipeline;
 use run::text_of_run;
-use stalls::text_of_stalls;
+use run_view::{RunView, text_of_run_view};
 use std::alloc::{Allocator, Global};
 use std::sync::Wait;
 use std::thread::Threads;
-use tables::text_of_tables;
-use times::text_of_times;
 use tomex_command_line::{Line, read_line};
 use tomex_streams::{Files, Meter, Sink, write_all_of};
 use tomex_views::{ChoicesView, StudyView, SurveyView};
@@ -64,12 +61,12 @@ fn text_of<
 {
     match line {
         Line::Run(line) => text_of_run(alloc, heap, line, files),
-        Line::Times(line) => text_of_times(alloc, heap, line, files),
-        Line::Stalls(line) => text_of_stalls(alloc, heap, line, files),
-        Line::Path(line) => text_of_path(alloc, heap, line, files),
-        Line::Pipeline(line) => text_of_pipeline(alloc, heap, line, files),
-        Line::Tables(line) => text_of_tables(alloc, heap, line, files),
-        Line::Animate(line) => text_of_animate(alloc, heap, line, files),
+        Line::Times(run) => text_of_run_view(alloc, heap, RunView::Times(run), files),
+        Line::Stalls(line) => text_of_run_view(alloc, heap, RunView::Stalls(line), files),
+        Line::Path(line) => text_of_run_view(alloc, heap, RunView::Path(line), files),
+        Line::Pipeline(line) => text_of_run_view(alloc, heap, RunView::Pipeline(line), files),
+        Line::Tables(line) => text_of_run_view(alloc, heap, RunView::Tables(line), files),
+        Line::Animate(line) => text_of_run_view(alloc, heap, RunView::Animate(line), files),
         Line::All(line) => text_of_all(rt, alloc, heap, line, files, meter),
         Line::Explore(line) => text_of_explore(rt, alloc, heap, line, files, meter),
         Line::Front(line) => {
@@ -85,7 +82,7 @@ fn text_of<
             text_of_view(rt, alloc, heap, line, files, meter, view)
         }
         Line::Worth(line) => {
-            let view = StudyView::Survey(SurveyView::Worth(line.config as usize));
+            let view = StudyView::Survey(SurveyView::Worth(row_name(line.config)));
             text_of_view(rt, alloc, heap, line.explore, files, meter, view)
         }
         Line::Choices(line) => {

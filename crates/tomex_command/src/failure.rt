@@ -3,13 +3,13 @@ ghost use Rattle.std.specs.Prelude.{◌≡◌};
 ghost use Rattle.tomex_command.specs.declared.failure.Failure.TheVariants as failures;
 ghost use Rattle.tomex_command.specs.Statuses.{failure_of_animation, failure_of_answer, failure_of_explanation};
 ghost use Rattle.tomex_command.specs.Statuses.{failure_of_excerpt, failure_of_functions, failure_of_picture};
-ghost use Rattle.tomex_command.specs.Statuses.{failure_of_search, failure_of_view};
+ghost use Rattle.tomex_command.specs.Statuses.{failure_of_row, failure_of_search, failure_of_view};
 ghost use Rattle.tomex_command.specs.Statuses.{status_of_failure};
 
 use crate::run::RunRefusal;
 use std::alloc::{AllocError, AllocFailed};
 use tomex_animate::AnimationError;
-use tomex_front_views::FindError;
+use tomex_front_views::{FindError, RowError};
 use tomex_functions::FunctionsError;
 use tomex_refusals::ExplainError;
 use tomex_report::{AnswerError, StudyError};
@@ -26,8 +26,10 @@ pub enum Failure {
     Run(RunRefusal),
     /// The study is refused, or a program of it.
     Study(StudyError),
-    /// The study has no configuration of that number.
+    /// The study has no configuration of that number, or with all of the choices.
     NoSuchRow,
+    /// This many configurations of the study have all of the choices.
+    SeveralRows(usize),
     /// The study has no program of that name.
     NoSuchProgram,
     /// The program's file has no symbols.
@@ -65,7 +67,8 @@ impl Failure {
             Failure::Run(_) => 1,
             Failure::Study(StudyError::Memory) => 3,
             Failure::Study(_) => 1,
-            Failure::NoSuchRow | Failure::NoSuchProgram | Failure::NoSymbols => 1,
+            Failure::NoSuchRow | Failure::SeveralRows(_) => 1,
+            Failure::NoSuchProgram | Failure::NoSymbols => 1,
             Failure::CyclePastEnd => 1,
             Failure::NoSuchStep | Failure::PictureTooLarge | Failure::TableTooLarge => 1,
             Failure::NoSuchChoice(_) | Failure::NoSuchRefusal => 1,
@@ -125,6 +128,8 @@ impl From<ViewError> for Failure {
         match error {
             ViewError::Study(error) => Failure::Study(error),
             ViewError::NoSuchRow => Failure::NoSuchRow,
+            ViewError::NoSuchChoice(choice) => Failure::NoSuchChoice(choice),
+            ViewError::SeveralRows(rows) => Failure::SeveralRows(rows),
             ViewError::NoSuchProgram => Failure::NoSuchProgram,
             ViewError::TooLarge => Failure::TableTooLarge,
             ViewError::Memory => Failure::Memory,
@@ -185,6 +190,19 @@ impl From<FindError> for Failure {
             FindError::NoSuchChoice(choice) => Failure::NoSuchChoice(choice),
             FindError::NoSuchRow => Failure::NoSuchRow,
             FindError::Memory => Failure::Memory,
+        }
+    }
+}
+
+impl From<RowError> for Failure {
+    ghost from_gives = { λ error failure. failure ≡ failure_of_row error };
+
+    fn from(error: RowError) -> Failure {
+        match error {
+            RowError::NoSuchChoice(choice) => Failure::NoSuchChoice(choice),
+            RowError::NoSuchRow => Failure::NoSuchRow,
+            RowError::SeveralRows(rows) => Failure::SeveralRows(rows),
+            RowError::Memory => Failure::Memory,
         }
     }
 }

@@ -60,6 +60,7 @@ fn text_of(heap: Global, failure: &Failure) -> Result<String, AllocError>
         Failure::Run(refusal) => format!(in heap; "{refusal}"),
         Failure::Study(error) => format!(in heap; "{error}"),
         Failure::NoSuchRow => String::from_str(heap, "no such row"),
+        Failure::SeveralRows(rows) => format!(in heap; "several rows: {rows}"),
         Failure::NoSuchProgram => String::from_str(heap, "no such program"),
         Failure::NoSymbols => String::from_str(heap, "no symbols"),
         Failure::CyclePastEnd => String::from_str(heap, "cycle past the end"),

@@ -5,3 +5,4 @@ mod Lines
 mod Plain
 mod PassedOn
 mod Taken
+mod ConfigWords

@@ -4,7 +4,7 @@ use Rattle.clap.specs.Words.{App, Rule, Shape, Text, new_app, new_rule, with_rul
 use Rattle.clap.specs.Simple.{new_shape, on_top}
 use Rattle.clap.specs.declared.builder.action.ArgAction.TheVariants.{Append, SetTrue}
 use Rattle.clap.specs.declared.builder.value_parser.ValueParser.TheVariants as parsers
-use Rattle.tomex_command_line.specs.Limits.{last_cycle, last_row, most_steps}
+use Rattle.tomex_command_line.specs.Limits.{last_cycle, most_steps}
 
 -- a word that a command needs, in its place
 abbrev pub word_rule : Text → Rule
@@ -32,6 +32,10 @@ option_rule name least greatest default = record (new_rule name) {
 abbrev pub flag_rule : Text → Rule
 flag_rule name = record (new_rule name) { long = Some name; action = Some SetTrue }
 
+-- a configuration, which a command needs, in its place: any word for the parser
+abbrev pub config_rule : Rule
+config_rule = word_rule (codes "CONFIG")
+
 -- a command on a study: `NAME STUDY ..`
 abbrev pub study_app : Text → App
 study_app name = with_rule (new_app name) (word_rule (codes "STUDY"))
@@ -39,7 +43,7 @@ study_app name = with_rule (new_app name) (word_rule (codes "STUDY"))
 -- a command on one run of a study: `NAME STUDY CONFIG PROGRAM ..`
 abbrev pub one_run_app : Text → App
 one_run_app name =
-    with_rule (with_rule (study_app name) (numeral_rule (codes "CONFIG") 0 last_row)) (word_rule (codes "PROGRAM"))
+    with_rule (with_rule (study_app name) config_rule) (word_rule (codes "PROGRAM"))
 
 -- a command on two builds of a program, after its other words: `.. OLD NEW`
 abbrev pub with_builds : App → App
@@ -61,27 +65,27 @@ run_shape = record (new_shape (codes "run")) {
 -- `times STUDY CONFIG PROGRAM`
 abbrev pub times_shape : Shape
 times_shape = record (new_shape (codes "times")) {
-  rules = word_rule (codes "STUDY") ∷ numeral_rule (codes "CONFIG") 0 last_row ∷ word_rule (codes "PROGRAM") ∷ [];
+  rules = word_rule (codes "STUDY") ∷ config_rule ∷ word_rule (codes "PROGRAM") ∷ [];
 }
 
 -- `stalls STUDY CONFIG PROGRAM [--by-pc] [--by-function]`
 abbrev pub stalls_shape : Shape
 stalls_shape = record (new_shape (codes "stalls")) {
-  rules = word_rule (codes "STUDY") ∷ numeral_rule (codes "CONFIG") 0 last_row ∷ word_rule (codes "PROGRAM")
+  rules = word_rule (codes "STUDY") ∷ config_rule ∷ word_rule (codes "PROGRAM")
       ∷ flag_rule (codes "by-pc") ∷ flag_rule (codes "by-function") ∷ [];
 }
 
 -- `path STUDY CONFIG PROGRAM [--links] [--by-pc] [--by-function]`
 abbrev pub path_shape : Shape
 path_shape = record (new_shape (codes "path")) {
-  rules = word_rule (codes "STUDY") ∷ numeral_rule (codes "CONFIG") 0 last_row ∷ word_rule (codes "PROGRAM")
+  rules = word_rule (codes "STUDY") ∷ config_rule ∷ word_rule (codes "PROGRAM")
       ∷ flag_rule (codes "links") ∷ flag_rule (codes "by-pc") ∷ flag_rule (codes "by-function") ∷ [];
 }
 
 -- `pipeline STUDY CONFIG PROGRAM [--from N] [--steps N] [--konata]`
 abbrev pub pipeline_shape : Shape
 pipeline_shape = record (new_shape (codes "pipeline")) {
-  rules = word_rule (codes "STUDY") ∷ numeral_rule (codes "CONFIG") 0 last_row ∷ word_rule (codes "PROGRAM")
+  rules = word_rule (codes "STUDY") ∷ config_rule ∷ word_rule (codes "PROGRAM")
       ∷ option_rule (codes "from") 1 most_steps (codes "1")
       ∷ option_rule (codes "steps") 1 most_steps (codes "32")
       ∷ flag_rule (codes "konata") ∷ [];
@@ -90,14 +94,14 @@ pipeline_shape = record (new_shape (codes "pipeline")) {
 -- `tables STUDY CONFIG PROGRAM CYCLE`
 abbrev pub tables_shape : Shape
 tables_shape = record (new_shape (codes "tables")) {
-  rules = word_rule (codes "STUDY") ∷ numeral_rule (codes "CONFIG") 0 last_row ∷ word_rule (codes "PROGRAM")
+  rules = word_rule (codes "STUDY") ∷ config_rule ∷ word_rule (codes "PROGRAM")
       ∷ numeral_rule (codes "CYCLE") 0 last_cycle ∷ [];
 }
 
 -- `animate STUDY CONFIG PROGRAM [--from CYCLE] [--cycles N]`
 abbrev pub animate_shape : Shape
 animate_shape = record (new_shape (codes "animate")) {
-  rules = word_rule (codes "STUDY") ∷ numeral_rule (codes "CONFIG") 0 last_row ∷ word_rule (codes "PROGRAM")
+  rules = word_rule (codes "STUDY") ∷ config_rule ∷ word_rule (codes "PROGRAM")
       ∷ option_rule (codes "from") 1 last_cycle (codes "1")
       ∷ option_rule (codes "cycles") 1 256 (codes "64") ∷ [];
 }
@@ -134,7 +138,7 @@ rows_shape = exploring_shape (codes "rows")
 abbrev pub worth_shape : Shape
 worth_shape = record (new_shape (codes "worth")) {
   rules = word_rule (codes "STUDY") ∷ option_rule (codes "workers") 1 32 (codes "1")
-      ∷ numeral_rule (codes "CONFIG") 0 last_row ∷ [];
+      ∷ config_rule ∷ [];
 }
 
 abbrev pub choices_shape : Shape
@@ -156,7 +160,7 @@ compare_shape = record (new_shape (codes "compare")) {
 -- `functions STUDY CONFIG OLD NEW`
 abbrev pub functions_shape : Shape
 functions_shape = record (new_shape (codes "functions")) {
-  rules = word_rule (codes "STUDY") ∷ numeral_rule (codes "CONFIG") 0 last_row
+  rules = word_rule (codes "STUDY") ∷ config_rule
       ∷ word_rule (codes "OLD") ∷ word_rule (codes "NEW") ∷ [];
 }
 

@@ -1,9 +1,14 @@
 -- The values that each command asks for, by the rows of what `clap` is specified to find in a line's words; and that
 -- the rows ask for none.
-use Rattle.std.specs.Prelude.{ℕ, Bool, List, codes, Option}
+use Rattle.std.specs.Prelude.{◌≡◌, ◌≤◌, ◌==◌, ℕ, Bool, true, false, List, codes, Ok, Option}
+use Rattle.std.specs.List.{list_any}
+use Rattle.std.specs.Str.Parse.{ParsesUnsigned}
+use Rattle.std.specs.declared.num.ParseIntError.{ParseIntError}
 use Rattle.clap.specs.Words.{Row}
 use Rattle.tomex_arguments.specs.Values.{AreEach, AreWords, IsFlag, IsNumber, IsWord}
 use Rattle.tomex_command_line.specs.Limits.{last_cycle, last_row, most_steps}
+use Rattle.tomex_command_line.specs.declared.line.config.ConfigName.{ConfigName}
+use Rattle.tomex_command_line.specs.declared.line.config.ConfigName.TheVariants.{Number, Choices}
 
 -- the values of `run`
 pub record IsRunAsked (rows : List Row) (image : List ℕ) (base size limit : ℕ) : Type 0 where
@@ -15,28 +20,50 @@ pub record IsRunAsked (rows : List Row) (image : List ℕ) (base size limit : �
 abbrev pub IsNoRun : List Row → Type 0
 IsNoRun rows = (image : List ℕ) (base size limit : ℕ) → IsRunAsked rows image base size limit → ⊥
 
+-- the word of CONFIG is a number in decimal
+pub record IsConfigNumber (rows : List Row) (number : ℕ) : Type 0 where
+  pub word : List ℕ
+  pub is_word : IsWord rows (codes "CONFIG") word
+  pub no_choices : list_any (λ b. b == 61) word ≡ false
+  pub parsed : ParsesUnsigned {E = ParseIntError} 32 10 word (Ok number)
+  pub within : number ≤ last_row
+
+-- or it is choices: there is a `=` in it
+pub record AreConfigChoices (rows : List Row) (word : List ℕ) : Type 0 where
+  pub is_word : IsWord rows (codes "CONFIG") word
+  pub choices : list_any (λ b. b == 61) word ≡ true
+
+-- the configuration that CONFIG names
+abbrev pub IsConfigAsked : List Row → ConfigName → Type 0
+IsConfigAsked rows (Number number) = IsConfigNumber rows number
+IsConfigAsked rows (Choices word) = AreConfigChoices rows word.now
+
+abbrev pub IsNoConfig : List Row → Type 0
+IsNoConfig rows = (config : ConfigName) → IsConfigAsked rows config → ⊥
+
 -- the values of a command on one run of a study
-pub record IsOneRunAsked (rows : List Row) (study : List ℕ) (config : ℕ) (program : List ℕ) : Type 0 where
+pub record IsOneRunAsked (rows : List Row) (study : List ℕ) (config : ConfigName) (program : List ℕ) : Type 0 where
   pub is_study : IsWord rows (codes "STUDY") study
-  pub is_config : IsNumber rows (codes "CONFIG") 0 last_row config
+  pub is_config : IsConfigAsked rows config
   pub is_program : IsWord rows (codes "PROGRAM") program
 
 abbrev pub IsNoOneRun : List Row → Type 0
-IsNoOneRun rows = (study : List ℕ) (config : ℕ) (program : List ℕ) → IsOneRunAsked rows study config program → ⊥
+IsNoOneRun rows = (study : List ℕ) (config : ConfigName) (program : List ℕ)
+    → IsOneRunAsked rows study config program → ⊥
 
 -- the values of `stalls`
-pub record IsStallsAsked (rows : List Row) (study : List ℕ) (config : ℕ) (program : List ℕ)
+pub record IsStallsAsked (rows : List Row) (study : List ℕ) (config : ConfigName) (program : List ℕ)
     (by_pc by_function : Bool) : Type 0 where
   pub of_run : IsOneRunAsked rows study config program
   pub is_by_pc : IsFlag rows (codes "by-pc") by_pc
   pub is_by_function : IsFlag rows (codes "by-function") by_function
 
 abbrev pub IsNoStalls : List Row → Type 0
-IsNoStalls rows = (study : List ℕ) (config : ℕ) (program : List ℕ) (by_pc by_function : Bool)
+IsNoStalls rows = (study : List ℕ) (config : ConfigName) (program : List ℕ) (by_pc by_function : Bool)
     → IsStallsAsked rows study config program by_pc by_function → ⊥
 
 -- the values of `path`
-pub record IsPathAsked (rows : List Row) (study : List ℕ) (config : ℕ) (program : List ℕ)
+pub record IsPathAsked (rows : List Row) (study : List ℕ) (config : ConfigName) (program : List ℕ)
     (links by_pc by_function : Bool) : Type 0 where
   pub of_run : IsOneRunAsked rows study config program
   pub is_links : IsFlag rows (codes "links") links
@@ -44,11 +71,12 @@ pub record IsPathAsked (rows : List Row) (study : List ℕ) (config : ℕ) (prog
   pub is_by_function : IsFlag rows (codes "by-function") by_function
 
 abbrev pub IsNoPath : List Row → Type 0
-IsNoPath rows = (study : List ℕ) (config : ℕ) (program : List ℕ) (links by_pc by_function : Bool)
+IsNoPath rows = (study : List ℕ) (config : ConfigName) (program : List ℕ) (links by_pc by_function : Bool)
     → IsPathAsked rows study config program links by_pc by_function → ⊥
 
 -- the values of `pipeline`
-pub record IsPipelineAsked (rows : List Row) (study : List ℕ) (config : ℕ) (program : List ℕ) (from steps : ℕ)
+pub record IsPipelineAsked (rows : List Row) (study : List ℕ) (config : ConfigName) (program : List ℕ)
+    (from steps : ℕ)
     (konata : Bool) : Type 0 where
   pub of_run : IsOneRunAsked rows study config program
   pub is_from : IsNumber rows (codes "from") 1 most_steps from
@@ -56,27 +84,28 @@ pub record IsPipelineAsked (rows : List Row) (study : List ℕ) (config : ℕ) (
   pub is_konata : IsFlag rows (codes "konata") konata
 
 abbrev pub IsNoPipeline : List Row → Type 0
-IsNoPipeline rows = (study : List ℕ) (config : ℕ) (program : List ℕ) (from steps : ℕ) (konata : Bool)
+IsNoPipeline rows = (study : List ℕ) (config : ConfigName) (program : List ℕ) (from steps : ℕ) (konata : Bool)
     → IsPipelineAsked rows study config program from steps konata → ⊥
 
 -- the values of `tables`
-pub record IsTablesAsked (rows : List Row) (study : List ℕ) (config : ℕ) (program : List ℕ) (cycle : ℕ) : Type 0 where
+pub record IsTablesAsked (rows : List Row) (study : List ℕ) (config : ConfigName) (program : List ℕ)
+    (cycle : ℕ) : Type 0 where
   pub of_run : IsOneRunAsked rows study config program
   pub is_cycle : IsNumber rows (codes "CYCLE") 0 last_cycle cycle
 
 abbrev pub IsNoTables : List Row → Type 0
-IsNoTables rows = (study : List ℕ) (config : ℕ) (program : List ℕ) (cycle : ℕ)
+IsNoTables rows = (study : List ℕ) (config : ConfigName) (program : List ℕ) (cycle : ℕ)
     → IsTablesAsked rows study config program cycle → ⊥
 
 -- the values of `animate`
-pub record IsAnimateAsked (rows : List Row) (study : List ℕ) (config : ℕ) (program : List ℕ)
+pub record IsAnimateAsked (rows : List Row) (study : List ℕ) (config : ConfigName) (program : List ℕ)
     (from cycles : ℕ) : Type 0 where
   pub of_run : IsOneRunAsked rows study config program
   pub is_from : IsNumber rows (codes "from") 1 last_cycle from
   pub is_cycles : IsNumber rows (codes "cycles") 1 256 cycles
 
 abbrev pub IsNoAnimate : List Row → Type 0
-IsNoAnimate rows = (study : List ℕ) (config : ℕ) (program : List ℕ) (from cycles : ℕ)
+IsNoAnimate rows = (study : List ℕ) (config : ConfigName) (program : List ℕ) (from cycles : ℕ)
     → IsAnimateAsked rows study config program from cycles → ⊥
 
 -- the value of `all`
@@ -119,12 +148,12 @@ abbrev pub IsNoPlot : List Row → Type 0
 IsNoPlot rows = (study : List ℕ) (workers : ℕ) (all : Bool) → IsPlotAsked rows study workers all → ⊥
 
 -- the values of `worth`
-pub record IsWorthAsked (rows : List Row) (study : List ℕ) (config workers : ℕ) : Type 0 where
+pub record IsWorthAsked (rows : List Row) (study : List ℕ) (config : ConfigName) (workers : ℕ) : Type 0 where
   pub of_study : IsExploreAsked rows study workers
-  pub is_config : IsNumber rows (codes "CONFIG") 0 last_row config
+  pub is_config : IsConfigAsked rows config
 
 abbrev pub IsNoWorth : List Row → Type 0
-IsNoWorth rows = (study : List ℕ) (config workers : ℕ) → IsWorthAsked rows study config workers → ⊥
+IsNoWorth rows = (study : List ℕ) (config : ConfigName) (workers : ℕ) → IsWorthAsked rows study config workers → ⊥
 
 -- the two builds of a program
 pub record AreBuildsAsked (rows : List Row) (old new : List ℕ) : Type 0 where
@@ -143,13 +172,14 @@ abbrev pub IsNoCompare : List Row → Type 0
 IsNoCompare rows = (study old new : List ℕ) (workers : ℕ) → IsCompareAsked rows study old new workers → ⊥
 
 -- the values of `functions`
-pub record IsFunctionsAsked (rows : List Row) (study : List ℕ) (config : ℕ) (old new : List ℕ) : Type 0 where
+pub record IsFunctionsAsked (rows : List Row) (study : List ℕ) (config : ConfigName) (old new : List ℕ) : Type 0 where
   pub is_study : IsWord rows (codes "STUDY") study
-  pub is_config : IsNumber rows (codes "CONFIG") 0 last_row config
+  pub is_config : IsConfigAsked rows config
   pub are_builds : AreBuildsAsked rows old new
 
 abbrev pub IsNoFunctions : List Row → Type 0
-IsNoFunctions rows = (study : List ℕ) (config : ℕ) (old new : List ℕ) → IsFunctionsAsked rows study config old new → ⊥
+IsNoFunctions rows = (study : List ℕ) (config : ConfigName) (old new : List ℕ)
+    → IsFunctionsAsked rows study config old new → ⊥
 
 -- the values of `find`
 pub record IsFindAsked (rows : List Row) (study : List ℕ) (choices : List (List ℕ)) : Type 0 where

@@ -9,6 +9,7 @@ pub use line::all::AllLine;
 pub use line::animate::AnimateLine;
 pub use line::builds::Builds;
 pub use line::compare::CompareLine;
+pub use line::config::ConfigName;
 pub use line::explain::ExplainLine;
 pub use line::explore::ExploreLine;
 pub use line::find::FindLine;

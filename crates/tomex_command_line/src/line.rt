@@ -17,6 +17,7 @@ pub mod builds;
 mod choices;
 mod command_name;
 pub mod compare;
+pub mod config;
 pub mod explain;
 pub mod explore;
 pub mod find;

@@ -5,3 +5,4 @@ pub mod Dots
 pub mod RowsPlot
 pub mod LinkedPlot
 pub mod Find
+pub mod RowName

@@ -31,7 +31,7 @@ impl From<AllocError> for FindError {
 }
 
 /// The first choice that no row has.
-fn first_unhad<A: Allocator>(
+pub(crate) fn first_unhad<A: Allocator>(
     heap: Global,
     study: &Study<A>,
     words: &[String],
@@ -50,7 +50,7 @@ fn first_unhad<A: Allocator>(
 
 /// The rows that have all choices, by number.
 #[tactic(auto, unfolding(crate::specs::Find::found_in))]
-fn found_in<A: Allocator>(
+pub(crate) fn found_in<A: Allocator>(
     heap: Global,
     study: &Study<A>,
     words: &[String],

@@ -10,6 +10,7 @@ words_of those.NoSuchChoice = codes "no such choice"
 words_of those.BadWindow = codes "bad window"
 words_of those.TooLong = codes "too long"
 words_of those.NoSuchRow = codes "no such row"
+words_of those.SeveralRows = codes "several rows"
 words_of those.NoSuchProgram = codes "no such program"
 words_of those.NoSymbols = codes "no symbols"
 words_of those.NoSuchStep = codes "no such step"
@@ -25,6 +26,7 @@ words_of those.NoSuchRefusal = codes "no such refusal"
 abbrev pub form_of : CommandRefusal → List ℕ
 form_of those.CannotRead = codes "cannot read NAME"
 form_of those.NoSuchChoice = codes "no such choice: CHOICE"
+form_of those.SeveralRows = codes "several rows: N"
 form_of other = words_of other
 
 abbrev pub cannot_read : List ℕ
@@ -38,8 +40,9 @@ abbrev pub no_such_choice : List ℕ
 no_such_choice =
     codes "No configuration of the study has CHOICE. A choice is NAME=NUMBER, as alu=4: a\n"
     ++ (codes "name of a column of `tomex find STUDY` or `tomex explore STUDY`, and a number\n"
-    ++ (codes "that some configuration has there, as it is printed. Each choice is a word of\n"
-    ++ codes "its own, without commas. A unit's option is two: mul_units=1 mul_latency=3.\n"))
+    ++ (codes "that some configuration has there, as it is printed. For `tomex find` each\n"
+    ++ (codes "choice is a word of its own; in CONFIG commas join them, without spaces. A\n"
+    ++ codes "unit's option is two choices: mul_units=1 and mul_latency=3.\n")))
 
 abbrev pub bad_window : List ℕ
 bad_window =
@@ -56,8 +59,14 @@ too_long =
 abbrev pub no_such_row : List ℕ
 no_such_row =
     codes "CONFIG is no configuration of the study. They are numbered from 0: `tomex find\n"
-    ++ (codes "STUDY` lists them all, and `tomex front STUDY` those on the front. If `tomex\n"
-    ++ codes "find` itself says so, no configuration has all of the choices at once.\n")
+    ++ (codes "STUDY` lists them all, and `tomex front STUDY` those on the front. If CONFIG\n"
+    ++ codes "has choices, or `tomex find` says so, no configuration has all of them at once.\n")
+
+abbrev pub several_rows : List ℕ
+several_rows =
+    codes "The choices that CONFIG names fit N configurations of the study. `tomex find\n"
+    ++ (codes "STUDY` lists them, with the same choices as words of their own: add one in\n"
+    ++ codes "which they differ, as alu=4,buses=1, or write a configuration's number.\n")
 
 abbrev pub no_such_program : List ℕ
 no_such_program =
@@ -120,6 +129,7 @@ advice_of those.NoSuchChoice = no_such_choice
 advice_of those.BadWindow = bad_window
 advice_of those.TooLong = too_long
 advice_of those.NoSuchRow = no_such_row
+advice_of those.SeveralRows = several_rows
 advice_of those.NoSuchProgram = no_such_program
 advice_of those.NoSymbols = no_symbols
 advice_of those.NoSuchStep = no_such_step

@@ -19,7 +19,8 @@ use Rattle.tomex_refusals.specs.Studies as of_studies
 abbrev pub all_refusals : List Refusal
 all_refusals =
     Command commands.CannotRead ∷ Command commands.NoSuchChoice ∷ Command commands.BadWindow ∷ Command commands.TooLong
-    ∷ Command commands.NoSuchRow ∷ Command commands.NoSuchProgram ∷ Command commands.NoSymbols
+    ∷ Command commands.NoSuchRow ∷ Command commands.SeveralRows ∷ Command commands.NoSuchProgram
+    ∷ Command commands.NoSymbols
     ∷ Command commands.NoSuchStep ∷ Command commands.PictureTooLarge ∷ Command commands.TableTooLarge
     ∷ Command commands.CyclePastEnd ∷ Command commands.CannotWrite ∷ Command commands.ThreadRefused
     ∷ Command commands.OutOfMemory ∷ Command commands.NoSuchRefusal

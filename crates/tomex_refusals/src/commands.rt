@@ -14,8 +14,10 @@ pub enum CommandRefusal {
     BadWindow,
     /// A run has more instructions than it may have.
     TooLong,
-    /// The study has no configuration of that number.
+    /// The study has no configuration of that number, or with all of the choices.
     NoSuchRow,
+    /// The study has several configurations with these choices.
+    SeveralRows,
     /// The study has no program of that name.
     NoSuchProgram,
     /// The program's file has no symbols.
@@ -48,8 +50,9 @@ of the study, or write the names as they are seen from where you are.
 const NO_SUCH_CHOICE: &str =
     "No configuration of the study has CHOICE. A choice is NAME=NUMBER, as alu=4: a
 name of a column of `tomex find STUDY` or `tomex explore STUDY`, and a number
-that some configuration has there, as it is printed. Each choice is a word of
-its own, without commas. A unit's option is two: mul_units=1 mul_latency=3.
+that some configuration has there, as it is printed. For `tomex find` each
+choice is a word of its own; in CONFIG commas join them, without spaces. A
+unit's option is two choices: mul_units=1 and mul_latency=3.
 ";
 
 const BAD_WINDOW: &str = "The address of memory, `--base`, or its number of bytes, `--size`, is no
@@ -65,8 +68,14 @@ ever.
 
 const NO_SUCH_ROW: &str =
     "CONFIG is no configuration of the study. They are numbered from 0: `tomex find
-STUDY` lists them all, and `tomex front STUDY` those on the front. If `tomex
-find` itself says so, no configuration has all of the choices at once.
+STUDY` lists them all, and `tomex front STUDY` those on the front. If CONFIG
+has choices, or `tomex find` says so, no configuration has all of them at once.
+";
+
+const SEVERAL_ROWS: &str =
+    "The choices that CONFIG names fit N configurations of the study. `tomex find
+STUDY` lists them, with the same choices as words of their own: add one in
+which they differ, as alu=4,buses=1, or write a configuration's number.
 ";
 
 const NO_SUCH_PROGRAM: &str =
@@ -134,6 +143,7 @@ impl CommandRefusal {
             CommandRefusal::BadWindow => "bad window",
             CommandRefusal::TooLong => "too long",
             CommandRefusal::NoSuchRow => "no such row",
+            CommandRefusal::SeveralRows => "several rows",
             CommandRefusal::NoSuchProgram => "no such program",
             CommandRefusal::NoSymbols => "no symbols",
             CommandRefusal::NoSuchStep => "no such step",
@@ -154,6 +164,7 @@ impl CommandRefusal {
         match self {
             CommandRefusal::CannotRead => "cannot read NAME",
             CommandRefusal::NoSuchChoice => "no such choice: CHOICE",
+            CommandRefusal::SeveralRows => "several rows: N",
             other => other.words(),
         }
     }
@@ -168,6 +179,7 @@ impl CommandRefusal {
             CommandRefusal::BadWindow => BAD_WINDOW,
             CommandRefusal::TooLong => TOO_LONG,
             CommandRefusal::NoSuchRow => NO_SUCH_ROW,
+            CommandRefusal::SeveralRows => SEVERAL_ROWS,
             CommandRefusal::NoSuchProgram => NO_SUCH_PROGRAM,
             CommandRefusal::NoSymbols => NO_SYMBOLS,
             CommandRefusal::NoSuchStep => NO_SUCH_STEP,

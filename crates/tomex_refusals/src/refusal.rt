@@ -23,12 +23,13 @@ pub enum Refusal {
 
 impl Refusal {
     /// All refusals, in the order in which they are looked for: those with a name in them first.
-    pub const ALL: [Refusal; 37] = [
+    pub const ALL: [Refusal; 38] = [
         Refusal::Command(CommandRefusal::CannotRead),
         Refusal::Command(CommandRefusal::NoSuchChoice),
         Refusal::Command(CommandRefusal::BadWindow),
         Refusal::Command(CommandRefusal::TooLong),
         Refusal::Command(CommandRefusal::NoSuchRow),
+        Refusal::Command(CommandRefusal::SeveralRows),
         Refusal::Command(CommandRefusal::NoSuchProgram),
         Refusal::Command(CommandRefusal::NoSymbols),
         Refusal::Command(CommandRefusal::NoSuchStep),

@@ -5,7 +5,7 @@ use std::alloc::{AllocError, Global};
 use std::process::Abort;
 use std::test::Fail;
 use tomex_arguments::LineFault;
-use tomex_command_line::{Line, OneRun, read_line};
+use tomex_command_line::{ConfigName, Line, OneRun, read_line};
 
 /// The words of a line, split at each space.
 fn words(alloc: Global, line: &str) -> Result<Vec<String>, AllocError> {
@@ -16,15 +16,27 @@ fn words(alloc: Global, line: &str) -> Result<Vec<String>, AllocError> {
     Ok(words)
 }
 
+/// A configuration's number, or its choices in brackets.
+fn config_text(alloc: Global, config: ConfigName) -> Result<String, AllocError> {
+    match config {
+        ConfigName::Number(number) => format!(in alloc; "{number}"),
+        ConfigName::Choices(word) => format!(in alloc; "[{word}]"),
+    }
+}
+
+/// The study, the configuration and the program of a run.
+fn run_text(alloc: Global, run: OneRun) -> Result<String, AllocError> {
+    let config = config_text(alloc, run.config)?;
+    format!(in alloc; "{} {config} {}", run.study, run.program)
+}
+
 /// The kind of a command, the file that it reads, and its numbers and flags.
 fn line_text(alloc: Global, line: &Line) -> Result<String, AllocError> {
     match line {
         Line::Run(run) => {
             format!(in alloc; "run {} {} {} {}", run.image, run.base, run.size, run.limit)
         }
-        Line::Times(times) => {
-            format!(in alloc; "times {} {} {}", times.study, times.config, times.program)
-        }
+        Line::Times(times) => format!(in alloc; "times {}", run_text(alloc, *times)?),
         Line::All(all) => format!(in alloc; "all {}", all.study),
         Line::Explore(explore) => {
             format!(in alloc; "explore {} {}", explore.study, explore.workers)
@@ -47,7 +59,8 @@ fn line_on_all_rows(alloc: Global, line: &Line) -> Result<String, AllocError> {
         Line::Rows(rows) => format!(in alloc; "rows {} {}", rows.study, rows.workers),
         Line::Worth(worth) => {
             let (study, workers) = (worth.explore.study, worth.explore.workers);
-            format!(in alloc; "worth {study} {} {workers}", worth.config)
+            let config = config_text(alloc, worth.config)?;
+            format!(in alloc; "worth {study} {config} {workers}")
         }
         Line::Choices(choices) => {
             format!(in alloc; "choices {} {}", choices.study, choices.workers)
@@ -73,59 +86,34 @@ fn line_on_all_rows(alloc: Global, line: &Line) -> Result<String, AllocError> {
 fn line_on_a_program(alloc: Global, line: &Line) -> Result<String, AllocError> {
     match line {
         Line::Stalls(stalls) => {
-            let OneRun {
-                study,
-                config,
-                program,
-            } = stalls.run;
-            format!(in alloc;
-                "stalls {study} {config} {program} {} {}",
-                stalls.by_pc, stalls.by_function
-            )
+            let run = run_text(alloc, stalls.run)?;
+            format!(in alloc; "stalls {run} {} {}", stalls.by_pc, stalls.by_function)
         }
         Line::Path(path) => {
-            let OneRun {
-                study,
-                config,
-                program,
-            } = path.run;
+            let run = run_text(alloc, path.run)?;
             format!(in alloc;
-                "path {study} {config} {program} {} {} {}",
+                "path {run} {} {} {}",
                 path.links, path.by_pc, path.by_function
             )
         }
         Line::Pipeline(pipeline) => {
-            let OneRun {
-                study,
-                config,
-                program,
-            } = pipeline.run;
+            let run = run_text(alloc, pipeline.run)?;
             format!(in alloc;
-                "pipeline {study} {config} {program} {} {} {}",
+                "pipeline {run} {} {} {}",
                 pipeline.from, pipeline.steps, pipeline.konata
             )
         }
         Line::Tables(tables) => {
-            let OneRun {
-                study,
-                config,
-                program,
-            } = tables.run;
-            format!(in alloc; "tables {study} {config} {program} {}", tables.cycle)
+            let run = run_text(alloc, tables.run)?;
+            format!(in alloc; "tables {run} {}", tables.cycle)
         }
         Line::Animate(animate) => {
-            let OneRun {
-                study,
-                config,
-                program,
-            } = animate.run;
-            format!(in alloc;
-                "animate {study} {config} {program} {} {}",
-                animate.from, animate.cycles
-            )
+            let run = run_text(alloc, animate.run)?;
+            format!(in alloc; "animate {run} {} {}", animate.from, animate.cycles)
         }
         Line::Functions(functions) => {
-            let (study, config, builds) = (functions.study, functions.config, functions.builds);
+            let config = config_text(alloc, functions.config)?;
+            let (study, builds) = (functions.study, functions.builds);
             format!(in alloc; "functions {study} {config} {} {}", builds.old, builds.new)
         }
         Line::Find(find) => format!(in alloc; "find {} {:?}", find.study, find.choices),
@@ -158,7 +146,7 @@ fn text_of(alloc: Global, line: &str) -> Result<String, AllocError> {
 }
 
 /// Lines, and the beginnings of their results.
-static READ: [(&str, &str); 95] = [
+static READ: [(&str, &str); 100] = [
     ("run mul.bin", "run mul.bin 0 65536 262144"),
     (
         "run a --base 4294967292 --size 4 --limit 1",
@@ -166,6 +154,9 @@ static READ: [(&str, &str); 95] = [
     ),
     ("times study 0 a", "times study 0 a"),
     ("times study 16383 -- -a", "times study 16383 -a"),
+    ("times study alu=2,mul=1 a", "times study [alu=2,mul=1] a"),
+    ("times study = a", "times study [=] a"),
+    ("times study +7 a", "times study 7 a"),
     ("stalls study 0 a", "stalls study 0 a false false"),
     ("stalls study 0 a --by-pc", "stalls study 0 a true false"),
     (
@@ -261,6 +252,7 @@ static READ: [(&str, &str); 95] = [
     ("rows -h", "help Prints the cycles of every configuration"),
     ("worth a 0", "worth a 0 1"),
     ("worth --workers=32 a 16383", "worth a 16383 32"),
+    ("worth a row=3", "worth a [row=3] 1"),
     ("worth --help", "help Prints what each change"),
     ("worth -h", "help Prints what one more"),
     ("choices a", "choices a 1"),
@@ -277,6 +269,7 @@ static READ: [(&str, &str); 95] = [
     ("compare --help", "help Prints how many cycles"),
     ("compare -h", "help Prints on which configurations"),
     ("functions a 16383 b c", "functions a 16383 b c"),
+    ("functions a x=y b c", "functions a [x=y] b c"),
     ("functions --help", "help Prints, for one of the study"),
     ("functions -h", "help Prints what each function takes"),
     ("page a", "page a 1 false"),
@@ -358,7 +351,7 @@ fn help_is_whole(rt: HostRuntime) -> Result<(), Fail> {
     Ok(())
 }
 
-static REFUSED: [&str; 49] = [
+static REFUSED: [&str; 41] = [
     "run a --base 4294967293",
     "run a --base -4",
     "run a --base 0x10",
@@ -369,8 +362,6 @@ static REFUSED: [&str; 49] = [
     "run a --limit 262145",
     "run a b",
     "run",
-    "times study 16384 a",
-    "times study 0x1 a",
     "times study 0",
     "choices",
     "weights",
@@ -379,16 +370,12 @@ static REFUSED: [&str; 49] = [
     "compare study a",
     "compare study a b c",
     "functions study 0 a",
-    "functions study 16384 a b",
-    "stalls study 16384 a",
     "stalls study 0",
     "stalls study 0 a --by-pc 1",
     "stalls study 0 a --by-pc --by-pc",
     "stalls study 0 a --by-function=1",
     "stalls study 0 a --by-function --by-function",
-    "path study 16384 a",
     "path study 0 a --links --links",
-    "pipeline study 16384 a",
     "pipeline study 0",
     "pipeline study 0 a --from 0",
     "pipeline study 0 a --from 262145",
@@ -400,14 +387,27 @@ static REFUSED: [&str; 49] = [
     "animate study 0 a --from 17563649",
     "animate study 0 a --cycles 0",
     "animate study 0 a --cycles 257",
-    "animate study 16384 a",
     "animate study 0",
-    "tables study 16384 a 0",
     "tables study 0 a 17563649",
     "tables study 0 a -1",
     "tables study 0 a 0x1",
     "tables study 0 a",
     "explain --b",
+];
+
+/// Lines whose CONFIG is neither a number within bounds nor choices.
+static NO_CONFIG: [&str; 11] = [
+    "times study 16384 a",
+    "times study 0x1 a",
+    "functions study 16384 a b",
+    "stalls study 16384 a",
+    "path study 16384 a",
+    "pipeline study 16384 a",
+    "animate study 16384 a",
+    "tables study 16384 a 0",
+    "worth study 16384",
+    "worth study alu",
+    "path study alu,mul a",
 ];
 
 /// The end of the text of a mistake.
@@ -423,6 +423,15 @@ fn is_mistaken(alloc: Global) -> Result<bool, AllocError> {
 fn lines_are_refused(rt: HostRuntime) -> Result<(), Fail> {
     for line in &REFUSED {
         is_within(&rt, rt.alloc(), line, "usage error: ", SEE_HELP)?;
+    }
+    for line in &NO_CONFIG {
+        is_within(
+            &rt,
+            rt.alloc(),
+            line,
+            "usage error: CONFIG missing",
+            " or out of range\n",
+        )?;
     }
     assert!(rt; is_mistaken(rt.alloc())?);
     Ok(())

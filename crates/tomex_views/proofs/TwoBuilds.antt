@@ -9,7 +9,7 @@ use Rattle.tomex_study.specs.Selection.{with_only}
 use Rattle.tomex_study.specs.Study.{DesignSpace, IsStudy, program_named}
 use Rattle.tomex_study.proofs.Selection.{found_by_first, found_by_second}
 use Rattle.tomex_views.proofs.Placed.{found_at, none_found, there_with_found}
-use Rattle.tomex_views.specs.StudyViews.{IsSurveyText, IsWithoutSurvey, compared, lacks_row, needed, place_of}
+use Rattle.tomex_views.specs.StudyViews.{IsSurveyText, IsWithoutSurvey, compared, needed, place_of}
 use Rattle.tomex_views.specs.declared.study_view.SurveyView.{SurveyView}
 use Rattle.tomex_views.specs.declared.study_view.SurveyView.TheVariants.{Table, Compare}
 use Rattle.tomex_views.specs.declared.view_error.ViewError.{ViewError}
@@ -106,10 +106,6 @@ pub without_needed : (view : SurveyView) (s : DesignSpace) (error : ViewError)
 without_needed (Compare old new) s NoSuchProgram without = sym (lack_same s old.now new.now) ∙ without
 without_needed (Compare old new) s error without = without
 without_needed view s error without = without
-
-pub lacks_same_row : (view : SurveyView) (s : DesignSpace) → lacks_row view (needed view s) ≡ lacks_row view s
-lacks_same_row (Compare old new) s = refl
-lacks_same_row view s = refl
 
 -- a view that isn't of two builds is made of the whole study
 pub needs_all : (view : SurveyView) (s : DesignSpace)

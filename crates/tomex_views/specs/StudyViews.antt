@@ -1,5 +1,5 @@
 -- The texts of a study's views, and when there is none: of the study, and from its bytes and files.
-use Rattle.std.specs.Prelude.{◌≡◌, ℕ, ◌&&◌, is_some, nat_le, not, Bool, true, false, List, [], length, Option, Some}
+use Rattle.std.specs.Prelude.{◌≡◌, ℕ, ◌&&◌, is_some, not, Bool, true, false, List, [], Option, Some, None}
 use Rattle.std.specs.List.{position}
 use Rattle.std.specs.Str.{bytes_eq}
 use Rattle.tomex_study.specs.Selection.{with_only}
@@ -7,7 +7,10 @@ use Rattle.tomex_study.specs.Study.{DesignSpace}
 use Rattle.tomex_document.specs.Study.{IsStudyOf, IsStudyRefusal}
 use Rattle.tomex_front_views.specs.FrontTable.{front_table_of, hull_table_of}
 use Rattle.tomex_front_views.specs.Plot.{front_picture_of}
+use Rattle.tomex_front_views.specs.RowName.{IsNoRow, row_named}
 use Rattle.tomex_front_views.specs.RowsPlot.{rows_picture_of}
+use Rattle.tomex_front_views.specs.declared.row_name.RowError.{RowError}
+use Rattle.tomex_front_views.specs.declared.row_name.RowError.TheVariants as rows
 use Rattle.tomex_texts.specs.RowsReport.{rows_text_of}
 use Rattle.tomex_worth.specs.Worth.{worth_table_of}
 use Rattle.tomex_prices.specs.PricesTable.{is_too_large, prices_table_of}
@@ -26,7 +29,7 @@ use Rattle.tomex_views.specs.declared.study_view.SurveyView.TheVariants.{Table, 
 use Rattle.tomex_views.specs.declared.study_view.SurveyView.TheVariants.{Worth, Prices, Weights, Compare, Page}
 use Rattle.tomex_views.specs.declared.view_error.ViewError.{ViewError}
 use Rattle.tomex_views.specs.declared.view_error.ViewError.TheVariants.{Study, NoSuchRow, NoSuchProgram, TooLarge}
-use Rattle.tomex_views.specs.declared.view_error.ViewError.TheVariants.{Memory}
+use Rattle.tomex_views.specs.declared.view_error.ViewError.TheVariants.{NoSuchChoice, SeveralRows, Memory}
 
 -- the place of the first program of that name
 abbrev pub place_of : List ℕ → DesignSpace → Option ℕ
@@ -37,6 +40,11 @@ abbrev pub compared : DesignSpace → (old new : Option ℕ) → List ℕ
 compared s (Some old) (Some new) = compare_table_of s old new
 compared s _ _ = []
 
+-- the table of what changes bring on a row, which has to be there
+abbrev pub worth_of : DesignSpace → Option ℕ → List ℕ
+worth_of s (Some row) = worth_table_of s row
+worth_of s None = []
+
 -- the text of a study's front, or of all its rows
 abbrev pub survey_text : SurveyView → DesignSpace → List ℕ
 survey_text Table s = front_table_of s
@@ -44,7 +52,7 @@ survey_text Hull s = hull_table_of s
 survey_text Picture s = front_picture_of s
 survey_text RowsPicture s = rows_picture_of s
 survey_text Rows s = rows_text_of s
-survey_text (Worth row) s = worth_table_of s row
+survey_text (Worth name) s = worth_of s (row_named s name)
 survey_text Prices s = prices_table_of s
 survey_text Weights s = weights_table_of s
 survey_text (Compare old new) s = compared s (place_of old.now s) (place_of new.now s)
@@ -54,11 +62,6 @@ survey_text (Page name) s = page_of false name.now s
 abbrev pub choices_text : ChoicesView → DesignSpace → List ℕ
 choices_text choices.Table s = choices_table_of s
 choices_text (choices.Page name) s = page_of true name.now s
-
--- the view is of a configuration that the study doesn't have
-abbrev pub lacks_row : SurveyView → DesignSpace → Bool
-lacks_row (Worth row) s = nat_le (length s.rows) row
-lacks_row view s = false
 
 -- the view is of a program that the study doesn't have
 abbrev pub lacks_program : SurveyView → DesignSpace → Bool
@@ -70,10 +73,10 @@ abbrev pub needed : SurveyView → DesignSpace → DesignSpace
 needed (Compare old new) s = with_only old.now new.now s
 needed view s = s
 
--- the study has a text: it has a configuration with this number, or programs of these names, and its table of prices
--- isn't too large
+-- the study has a text: it has a configuration of this name, or programs of these names, and its table of prices isn't
+-- too large
 abbrev pub HasSurvey : SurveyView → DesignSpace → Type 0
-HasSurvey (Worth row) s = lacks_row (Worth row) s ≡ false
+HasSurvey (Worth name) s = is_some (row_named s name) ≡ true
 HasSurvey Prices s = is_too_large s ≡ false
 HasSurvey (Compare old new) s = lacks_program (Compare old new) s ≡ false
 HasSurvey view s = Unit {0}
@@ -85,7 +88,9 @@ pub record IsSurveyText (view : SurveyView) (s : DesignSpace) (text : List ℕ) 
 
 -- why a study has no such text; or out of memory
 abbrev pub IsWithoutSurvey : SurveyView → DesignSpace → ViewError → Type 0
-IsWithoutSurvey (Worth row) s NoSuchRow = lacks_row (Worth row) s ≡ true
+IsWithoutSurvey (Worth name) s (NoSuchChoice choice) = IsNoRow s name (rows.NoSuchChoice choice)
+IsWithoutSurvey (Worth name) s NoSuchRow = IsNoRow s name rows.NoSuchRow
+IsWithoutSurvey (Worth name) s (SeveralRows n) = IsNoRow s name (rows.SeveralRows n)
 IsWithoutSurvey Prices s TooLarge = is_too_large s ≡ true
 IsWithoutSurvey (Compare old new) s NoSuchProgram = lacks_program (Compare old new) s ≡ true
 IsWithoutSurvey view s Memory = Unit {0}
@@ -118,3 +123,9 @@ IsViewRefusal view bytes files error = IsWithoutTextFrom view bytes files error
 abbrev pub error_of_prices : PricesError → ViewError
 error_of_prices prices.TooLarge = TooLarge
 error_of_prices prices.Memory = Memory
+
+abbrev pub error_of_row : RowError → ViewError
+error_of_row (rows.NoSuchChoice choice) = NoSuchChoice choice
+error_of_row rows.NoSuchRow = NoSuchRow
+error_of_row (rows.SeveralRows n) = SeveralRows n
+error_of_row rows.Memory = Memory

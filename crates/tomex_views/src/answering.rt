@@ -6,8 +6,9 @@ ghost use Rattle.tomex_views.specs.StudyViews.{IsWithoutText};
 
 use crate::crew::Crew;
 use crate::needs::needed;
+use crate::numbered::numbered;
 use crate::study_view::{ChoicesView, StudyView, SurveyView};
-use crate::texts::{lacks_program, lacks_row, text_of_choices, text_of_survey};
+use crate::texts::{lacks_program, text_of_choices, text_of_survey};
 use crate::view_error::ViewError;
 use std::alloc::{AllocError, Allocator, Global};
 use std::thread::Threads;
@@ -31,15 +32,13 @@ fn survey_text<R: Threads + Sync, A: Allocator + Clone + Send + Sync + Drop, G: 
     ensures text { IfOk result (λ text. IsSurveyText view.entry study text.items) }
     ensures refused { IfErr result (IsWithoutSurvey view.entry study) }
 {
-    if lacks_row(&study, view) {
-        return Err(ViewError::NoSuchRow);
-    }
-    if lacks_program(&study, view) {
+    let numbered = numbered(heap, &study, view)?;
+    if lacks_program(&study, numbered) {
         return Err(ViewError::NoSuchProgram);
     }
-    let study = needed(study, view);
+    let study = needed(study, numbered);
     let surveyed = survey(rt, alloc.clone()?, &study, crew.workers, crew.gate)?;
-    text_of_survey(alloc, heap, &surveyed, view)
+    text_of_survey(alloc, heap, &surveyed, numbered)
 }
 
 /// A view of a study with what its lists lack.

@@ -6,6 +6,7 @@
 mod answering;
 mod crew;
 mod needs;
+mod numbered;
 mod study_view;
 mod texts;
 mod view_error;

@@ -1,5 +1,7 @@
 //! The views of a study.
 
+use tomex_front_views::RowName;
+
 /// A view of a study's front or of all its rows.
 #[derive(Clone, Copy)]
 pub enum SurveyView<'a> {
@@ -13,8 +15,8 @@ pub enum SurveyView<'a> {
     RowsPicture,
     /// Each row, in CSV.
     Rows,
-    /// The gain from each change of one list on the configuration of this number, as a table.
-    Worth(usize),
+    /// The gain from each change of one list on the configuration of this name, as a table.
+    Worth(RowName<'a>),
     /// The prices with which each row of the front stays on it, as a table.
     Prices,
     /// The weights of the programs with which each row is on the front, as a table.

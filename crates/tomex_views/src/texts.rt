@@ -2,7 +2,7 @@
 
 ghost use Rattle.std.specs.Prelude.{◌≡◌, ◌<◌, false, true, length, IfErr, IfOk, IfSome, IsErrOf};
 ghost use Rattle.tomex_prices.specs.PricesTable.{is_too_large};
-ghost use Rattle.tomex_views.specs.StudyViews.{choices_text, lacks_program, lacks_row, place_of};
+ghost use Rattle.tomex_views.specs.StudyViews.{choices_text, lacks_program, place_of};
 ghost use Rattle.tomex_views.specs.StudyViews.{IsSurveyText, IsWithoutSurvey};
 
 use crate::study_view::{ChoicesView, SurveyView};
@@ -11,7 +11,7 @@ use std::alloc::{AllocError, Allocator, Global};
 use tomex_choices::WeighedChoices;
 use tomex_choices_table::choices_table;
 use tomex_compare::compare_table;
-use tomex_front_views::{front_picture, front_table, hull_table, rows_picture};
+use tomex_front_views::{RowName, front_picture, front_table, hull_table, row_named, rows_picture};
 use tomex_page::{page_with_choices, study_page};
 use tomex_prices::prices_table;
 use tomex_study::{Study, Surveyed};
@@ -48,6 +48,20 @@ fn compared<A: Allocator>(
     Ok(compare_table(alloc, heap, surveyed, old, new)?)
 }
 
+/// The gains from changes on the configuration of this name.
+fn worth<A: Allocator>(
+    alloc: A,
+    heap: Global,
+    surveyed: &Surveyed<'_, A>,
+    name: RowName<'_>,
+) -> Result<Vec<u8, A>, ViewError>
+    ensures text { IfOk result (λ text. IsSurveyText (SurveyView.Worth name.entry) surveyed.now text.items) }
+    ensures refused { IfErr result (IsWithoutSurvey (SurveyView.Worth name.entry) surveyed.now) }
+{
+    let row = row_named(heap, surveyed.study(), name)?;
+    Ok(worth_table(alloc, heap, surveyed, row)?)
+}
+
 /// A view of a study's front or of all its rows.
 pub(crate) fn text_of_survey<A: Allocator + Clone>(
     alloc: A,
@@ -55,7 +69,6 @@ pub(crate) fn text_of_survey<A: Allocator + Clone>(
     surveyed: &Surveyed<'_, A>,
     view: SurveyView<'_>,
 ) -> Result<Vec<u8, A>, ViewError>
-    requires { lacks_row view surveyed.now ≡ false }
     ensures text { IfOk result (λ text. IsSurveyText view.entry surveyed.now text.items) }
     ensures refused { IfErr result (IsWithoutSurvey view.entry surveyed.now) }
     ensures large { view.entry ≡ SurveyView.Prices → is_too_large surveyed.now ≡ true
@@ -67,7 +80,7 @@ pub(crate) fn text_of_survey<A: Allocator + Clone>(
         SurveyView::Picture => Ok(front_picture(alloc, heap, surveyed)?),
         SurveyView::RowsPicture => Ok(rows_picture(alloc, heap, surveyed)?),
         SurveyView::Rows => Ok(rows_report(alloc, heap, surveyed)?),
-        SurveyView::Worth(row) => Ok(worth_table(alloc, heap, surveyed, row)?),
+        SurveyView::Worth(name) => worth(alloc, heap, surveyed, name),
         SurveyView::Prices => Ok(prices_table(alloc, heap, surveyed)?),
         SurveyView::Weights => Ok(weights_table(alloc, heap, surveyed)?),
         SurveyView::Compare(old, new) => compared(alloc, heap, surveyed, old, new),
@@ -87,16 +100,6 @@ pub(crate) fn text_of_choices<A: Allocator + Clone>(
     match view {
         ChoicesView::Table => choices_table(alloc, heap, weighed),
         ChoicesView::Page(name) => page_with_choices(alloc, heap, name, weighed),
-    }
-}
-
-/// True if the view is of a configuration that the study doesn't have.
-pub(crate) fn lacks_row<A: Allocator>(study: &Study<A>, view: SurveyView<'_>) -> bool
-    ensures { result ≡ lacks_row view.entry study.now }
-{
-    match view {
-        SurveyView::Worth(row) => study.rows().len() <= row,
-        _ => false,
     }
 }
 

@@ -1,12 +1,13 @@
 //! Why a study has no text in a view.
 
 ghost use Rattle.std.specs.Prelude.{◌≡◌};
-ghost use Rattle.tomex_views.specs.StudyViews.{error_of_prices};
+ghost use Rattle.tomex_views.specs.StudyViews.{error_of_prices, error_of_row};
 ghost use Rattle.tomex_views.specs.declared.view_error.ViewError.TheVariants.{Memory, Study};
 
 use std::alloc::AllocError;
 use thiserror::Error;
 use tomex_document::StudyError;
+use tomex_front_views::RowError;
 use tomex_prices::PricesError;
 
 /// Why a study has no text in a view.
@@ -15,9 +16,15 @@ pub enum ViewError {
     /// The bytes and the files are refused.
     #[error(transparent)]
     Study(StudyError),
-    /// They are a study without a configuration of this number.
+    /// They are a study without a configuration of this number, or with all of these choices.
     #[error("no such row")]
     NoSuchRow,
+    /// They are a study none of whose configurations has this choice. Carries it as written.
+    #[error("no such choice: {0}")]
+    NoSuchChoice(String),
+    /// They are a study with this many configurations that have all of the choices.
+    #[error("several rows: {0}")]
+    SeveralRows(usize),
     /// They are a study without a program of one of the names.
     #[error("no such program")]
     NoSuchProgram,
@@ -34,6 +41,19 @@ impl From<StudyError> for ViewError {
 
     fn from(error: StudyError) -> Self {
         ViewError::Study(error)
+    }
+}
+
+impl From<RowError> for ViewError {
+    ghost from_gives = { λ error e. e ≡ error_of_row error };
+
+    fn from(error: RowError) -> Self {
+        match error {
+            RowError::NoSuchChoice(choice) => ViewError::NoSuchChoice(choice),
+            RowError::NoSuchRow => ViewError::NoSuchRow,
+            RowError::SeveralRows(rows) => ViewError::SeveralRows(rows),
+            RowError::Memory => ViewError::Memory,
+        }
     }
 }
 

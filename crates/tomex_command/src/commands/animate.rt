@@ -1,34 +1,30 @@
-//! The command `animate`.
+//! What `animate` prints.
 ghost use Rattle.std.specs.Prelude.{IfOk, IfErr};
-ghost use Rattle.tomex_command.specs.AnimateLines.{IsAnimateOf, IsAnimateFailure};
+ghost use Rattle.tomex_command.specs.RunViews.{IsNotShown, IsShown};
 
-use super::chosen::choose_in;
-use super::study::study_in;
+use super::chosen::ChosenRun;
+use super::run_view::RunView;
 use crate::failure::Failure;
 use std::alloc::{Allocator, Global};
 use tomex_animate::animation;
 use tomex_command_line::AnimateLine;
-use tomex_streams::Files;
 
-/// The page that `animate` prints. The cycle is tested last.
-pub fn text_of_animate<F: Files, A: Allocator + Clone>(
+/// The page of a run, which has the study's name as it stands in the line.
+pub fn animate_text<A: Allocator + Clone>(
     alloc: A,
     heap: Global,
+    chosen: &ChosenRun<'_, A>,
     line: AnimateLine<'_>,
-    files: &F,
 ) -> Result<Vec<u8, A>, Failure>
-    ensures text { IfOk result (λ text. IsAnimateOf (F.file files.now) line.entry text.items) }
-    ensures failure { IfErr result
-        (λ failure. IsAnimateFailure (F.file files.now) line.entry failure) }
+    ensures text { IfOk result (λ text. IsShown (RunView.Animate line.entry) chosen.now text.items) }
+    ensures failure { IfErr result (λ failure. IsNotShown failure (RunView.Animate line.entry) chosen.now) }
 {
-    let study = study_in(alloc.clone()?, heap, files, line.run.study)?;
-    let chosen = choose_in(&study, line.run)?;
     Ok(animation(
         alloc,
         heap,
         line.run.study,
         chosen.program,
-        line.run.config as usize,
+        chosen.number,
         chosen.config,
         line.from,
         line.cycles,

@@ -2,42 +2,42 @@
 ghost use Rattle.std.specs.Prelude.{◌≡◌, IfOk, IfErr, length, map};
 ghost use Rattle.std.specs.List.{position};
 ghost use Rattle.std.specs.Str.{bytes_eq};
-ghost use Rattle.tomex_command.specs.Chosen.{IsChosen, IsFileOf, IsUnchosen};
+ghost use Rattle.tomex_command.specs.Chosen.{IsChosen, IsUnchosen, row_name};
 
 use super::study::Studied;
 use crate::failure::Failure;
-use std::alloc::Allocator;
-use tomex_command_line::OneRun;
+use std::alloc::{Allocator, Global};
+use std::marker::Model;
+use tomex_command_line::{ConfigName, OneRun};
 use tomex_config::Config;
+use tomex_front_views::{RowName, row_named};
 use tomex_study::{Program, Study};
 
-/// A configuration of a study, and a program that runs on it.
+/// A configuration of a study with its number, a program that runs on it, and the bytes of the program's file.
 #[derive(Drop)]
-pub struct Chosen<'s, A: Allocator> {
-    pub config: &'s Config,
-    pub program: &'s Program<A>,
-}
-
-/// The configuration and the program of a run. The configuration is looked for first.
-pub fn choose_in<'s, A: Allocator>(
-    study: &'s Study<A>,
-    run: OneRun<'_>,
-) -> Result<Chosen<'s, A>, Failure>
-    ensures chosen { IfOk result
-        (λ chosen. IsChosen study.now run.entry.config run.entry.program.now chosen.config.now chosen.program.now) }
-    ensures unchosen { IfErr result (λ failure. IsUnchosen study.now run.entry.config run.entry.program.now failure) }
-{
-    let config = study.config(run.config as usize).ok_or(Failure::NoSuchRow)?;
-    let program = study.program(run.program).ok_or(Failure::NoSuchProgram)?;
-    Ok(Chosen { config, program })
-}
-
-/// A configuration of a study, a program that runs on it, and the bytes of the program's file.
-#[derive(Drop)]
-pub struct ChosenFile<'s, A: Allocator> {
+pub struct ChosenRun<'s, A: Allocator> {
+    pub number: usize,
     pub config: &'s Config,
     pub program: &'s Program<A>,
     pub file: &'s [u8],
+}
+
+impl<'s, A: Allocator> Model for ChosenRun<'s, A> {
+    ghost use Rattle.tomex_command.specs.Chosen.{RunChoice, run_choice};
+
+    ghost Value = { RunChoice };
+
+    ghost view = { λ c. run_choice c.number c.config.now c.program.now c.file.now };
+}
+
+/// The name of a row, as the line has it.
+pub fn row_name(config: ConfigName<'_>) -> RowName<'_>
+    ensures { result ≡ row_name config.entry }
+{
+    match config {
+        ConfigName::Number(number) => RowName::Number(number as usize),
+        ConfigName::Choices(word) => RowName::Choices(word),
+    }
 }
 
 /// The place of the first program of that name.
@@ -51,26 +51,23 @@ fn place_of<A: Allocator>(study: &Study<A>, name: &str) -> Option<usize>
 }
 
 /// The configuration, the program and its file. The configuration is looked for first.
-pub fn choose_with_file<'s, A: Allocator>(
+pub fn choose<'s, A: Allocator>(
+    heap: Global,
     studied: &'s Studied<A>,
     run: OneRun<'_>,
-) -> Result<ChosenFile<'s, A>, Failure>
+) -> Result<ChosenRun<'s, A>, Failure>
     requires { length studied.now.files.items ≡ length studied.now.study.programs }
-    ensures chosen { IfOk result (λ chosen. IsChosen studied.now.study run.entry.config run.entry.program.now
-        chosen.config.now chosen.program.now) }
-    ensures file { IfOk result (λ chosen. IsFileOf studied.now.study
-        (map (λ bytes. bytes.items) studied.now.files.items) run.entry.program.now chosen.file.now) }
-    ensures unchosen { IfErr result
-        (λ failure. IsUnchosen studied.now.study run.entry.config run.entry.program.now failure) }
+    ensures chosen { IfOk result
+        (IsChosen studied.now.study (map (λ bytes. bytes.items) studied.now.files.items) run.entry) }
+    ensures unchosen { IfErr result (IsUnchosen studied.now.study run.entry) }
 {
-    let config = studied
-        .study
-        .config(run.config as usize)
-        .ok_or(Failure::NoSuchRow)?;
-    let place = place_of(&studied.study, run.program).ok_or(Failure::NoSuchProgram)?;
-    Ok(ChosenFile {
-        config,
-        program: &studied.study.programs()[place],
+    let study = &studied.study;
+    let number = row_named(heap, study, row_name(run.config))?;
+    let place = place_of(study, run.program).ok_or(Failure::NoSuchProgram)?;
+    Ok(ChosenRun {
+        number,
+        config: &study.rows()[number],
+        program: &study.programs()[place],
         file: studied.files[place].as_slice(),
     })
 }

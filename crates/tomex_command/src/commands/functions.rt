@@ -1,9 +1,9 @@
 //! What `functions` prints.
 ghost use Rattle.std.specs.Prelude.{◌≡◌, IfOk, IfErr};
-ghost use Rattle.tomex_functions.specs.Changes.{build_of};
 ghost use Rattle.tomex_command.specs.FunctionsLines.{AreReported, AreUnreported, IsFunctionsFailure, IsFunctionsOf};
+ghost use Rattle.tomex_command.specs.FunctionsLines.{build_in, run_of_build};
 
-use super::chosen::{ChosenFile, choose_with_file};
+use super::chosen::{ChosenRun, choose};
 use super::study::study_with_files;
 use crate::failure::Failure;
 use std::alloc::{Allocator, Global};
@@ -13,9 +13,7 @@ use tomex_streams::Files;
 
 /// The run of a build that a line names.
 fn run_of<'a>(line: FunctionsLine<'a>, build: &'a str) -> OneRun<'a>
-    ensures study { result.study ≡ line.entry.study }
-    ensures config { result.config ≡ line.entry.config }
-    ensures program { result.program ≡ build.entry }
+    ensures { result ≡ run_of_build line.entry build.entry }
 {
     OneRun {
         study: line.study,
@@ -28,13 +26,12 @@ fn run_of<'a>(line: FunctionsLine<'a>, build: &'a str) -> OneRun<'a>
 fn report_of<A: Allocator + Clone>(
     alloc: A,
     heap: Global,
-    old: &ChosenFile<'_, A>,
-    new: &ChosenFile<'_, A>,
+    old: &ChosenRun<'_, A>,
+    new: &ChosenRun<'_, A>,
 ) -> Result<Vec<u8, A>, Failure>
-    ensures text { IfOk result (λ text. AreReported old.now.config.now
-        (build_of old.now.program.now old.now.file.now) (build_of new.now.program.now new.now.file.now) text.items) }
-    ensures failure { IfErr result (AreUnreported old.now.config.now
-        (build_of old.now.program.now old.now.file.now) (build_of new.now.program.now new.now.file.now)) }
+    ensures text { IfOk result (λ text.
+        AreReported old.now.config (build_in old.now) (build_in new.now) text.items) }
+    ensures failure { IfErr result (AreUnreported old.now.config (build_in old.now) (build_in new.now)) }
 {
     let old_build = BuildRun {
         program: old.program,
@@ -58,7 +55,7 @@ pub fn text_of_functions<F: Files, A: Allocator + Clone>(
     ensures failure { IfErr result (λ failure. IsFunctionsFailure (F.file files.now) line.entry failure) }
 {
     let studied = study_with_files(alloc.clone()?, heap, files, line.study)?;
-    let old = choose_with_file(&studied, run_of(line, line.builds.old))?;
-    let new = choose_with_file(&studied, run_of(line, line.builds.new))?;
+    let old = choose(heap, &studied, run_of(line, line.builds.old))?;
+    let new = choose(heap, &studied, run_of(line, line.builds.new))?;
     report_of(alloc, heap, &old, &new)
 }

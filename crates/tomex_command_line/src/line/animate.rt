@@ -49,19 +49,20 @@ happens in the cycle, the status of the instructions, all reservation stations,
 and the registers that wait for a station. What has changed is marked.
 
 STUDY is a TOML document that names programs, prices, axes and unit options;
-its files are read from the current folder. CONFIG is the number of a
-configuration, from 0: `tomex front` prints those of the front, and
-docs/STUDIES.md says how a number follows from the study's lists. PROGRAM
-is the name of a program of the study; a name that begins with `-` must follow
-`--`. docs/STUDIES.md lists the keys of a study, and docs/MACHINE.md says what
-the tables mean.
+its files are read from the current folder. CONFIG is a configuration of it:
+its number, from 0, as `tomex front` prints it, or choices that only it has,
+joined by commas, as in alu=2,mul=2; `tomex find` lists configurations by
+choices. PROGRAM is the name of a program of the study; a name that begins with
+`-` must follow `--`. docs/STUDIES.md lists the keys of a study, and
+docs/MACHINE.md says what the tables mean.
 
-CONFIG and the options are decimal, like all numbers on the command line; in
-the study's TOML they may be hexadecimal too, as in 0x10000.
+Numbers on the command line are decimal; in the study's TOML they may be
+hexadecimal too, as in 0x10000.
 
 The page is one HTML file, without scripts, that loads nothing. It has a view
 for each cycle, with links to the next and the previous one: after a click on
-one of them, Enter follows it again. On paper, each view is a sheet of its own.";
+one of them, Enter follows it again. On paper, a view that fits on a sheet isn't
+cut in two.";
 
 const AFTER_LONG_HELP: &str = "Exit status:
   0  the page was written

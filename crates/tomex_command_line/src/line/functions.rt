@@ -1,30 +1,27 @@
 //! `functions STUDY CONFIG OLD NEW`
-ghost use Rattle.std.specs.Prelude.{◌≡◌, ◌≤◌, IfOk, IfErr};
+ghost use Rattle.std.specs.Prelude.{◌≡◌, IfOk, IfErr};
 ghost use Rattle.tomex_arguments.specs.Faults.{IsRefusedIf};
 ghost use Rattle.tomex_command_line.specs.Grammar.{functions_shape};
 ghost use Rattle.clap.specs.Simple.{shape_of};
 ghost use Rattle.clap.specs.Words.{found_of};
 ghost use Rattle.clap.specs.Walk.{rows_of};
 ghost use Rattle.tomex_command_line.specs.Values.{IsFunctionsAsked, IsNoFunctions};
-ghost use Rattle.tomex_command_line.specs.Limits.{last_row};
 
 use super::builds::{Builds, builds_of, on_builds};
-use super::one_run::{CONFIG, CONFIG_HELP, on_study};
+use super::config::{ConfigName, config_argument, config_of};
+use super::one_run::on_study;
 use super::texts::{Texts, with_argument};
-use super::values::numeral;
 use clap::{ArgMatches, Command};
 use std::alloc::{AllocError, Global};
-use tomex_arguments::{LineFault, number_of, word_of};
+use tomex_arguments::{LineFault, word_of};
 
 /// A request for what each function takes in two builds of a program.
 #[derive(Clone, Copy)]
 pub struct FunctionsLine<'a> {
     /// The name of the study's file, as written.
     pub study: &'a str,
-    /// The number of the configuration.
-    pub config: u32,
+    pub config: ConfigName<'a>,
     pub builds: Builds<'a>,
-    pub ghost config_to: { config ≤ last_row },
 }
 
 const ABOUT: &str = "Prints what each function takes in two builds of a program";
@@ -34,10 +31,12 @@ const LONG_ABOUT: &str =
 takes in the old build of a program and in the new one, and the difference.
 
 STUDY is a TOML document that names programs, prices, axes and unit options;
-its files are read from the current folder. CONFIG is the number of a
-configuration, from 0: `tomex compare` prints on which the new build does best
-and worst. OLD and NEW are the names of two programs of the study; a name that
-begins with `-` must follow `--`. Both must be ELF files with symbols.
+its files are read from the current folder. CONFIG is a configuration of it:
+its number, from 0, as `tomex front` prints it, or choices that only it has,
+joined by commas, as in alu=2,mul=2; `tomex find` lists configurations by
+choices. `tomex compare` prints on which the new build does best and worst. OLD
+and NEW are the names of two programs of the study; a name that begins with `-`
+must follow `--`. Both must be ELF files with symbols.
 
 The report is CSV: a header, and a record for each name of a function that runs
 in one of the two builds, with its calls, steps and cycles in the old one and in
@@ -70,7 +69,7 @@ pub(super) fn grammar<'a>(alloc: Global) -> Result<Command<'a>, AllocError>
     ensures { IfOk result (λ c. shape_of c ≡ functions_shape) }
 {
     let command = on_study(alloc, "functions", TEXTS);
-    let command = with_argument(command, numeral(alloc, "CONFIG", CONFIG, CONFIG_HELP));
+    let command = with_argument(command, config_argument(alloc));
     on_builds(alloc, command)
 }
 
@@ -84,7 +83,7 @@ pub(super) fn line_of<'a>(
 {
     Ok(FunctionsLine {
         study: word_of(alloc, matches, "STUDY")?,
-        config: number_of(alloc, matches, "CONFIG", CONFIG)?,
+        config: config_of(alloc, matches)?,
         builds: builds_of(alloc, matches)?,
     })
 }

@@ -33,10 +33,11 @@ configurations: its critical path, a chain of instructions, each of which waited
 for the one before, with each cycle of the run once.
 
 STUDY is a TOML document that names programs, prices, axes and unit options;
-its files are read from the current folder. CONFIG is the number of a
-configuration, from 0: `tomex find` prints it for the parts, and `tomex front`
-prints those of the front. PROGRAM is the name of a program of the study; a name
-that begins with `-` must follow `--`.
+its files are read from the current folder. CONFIG is a configuration of it:
+its number, from 0, as `tomex front` prints it, or choices that only it has,
+joined by commas, as in alu=2,mul=2; `tomex find` lists configurations by
+choices. PROGRAM is the name of a program of the study; a name that begins with
+`-` must follow `--`.
 
 The path begins at the end of the first instruction that ends last. What holds
 its end, start or issue is an older instruction, whose event came in the cycle

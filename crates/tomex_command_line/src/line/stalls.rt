@@ -32,15 +32,15 @@ instructions wait for it. A part without stalls is large enough: as few as the
 peak, or any number more, take the same cycles.
 
 STUDY is a TOML document that names programs, prices, axes and unit options;
-its files are read from the current folder. CONFIG is the number of a
-configuration, from 0: `tomex front` prints those of the front, and
-docs/STUDIES.md says how a number follows from the study's lists. PROGRAM
-is the name of a program of the study; a name that begins with `-` must follow
-`--`. docs/STUDIES.md lists the keys of a study, and docs/MACHINE.md says how
-to read the report.
+its files are read from the current folder. CONFIG is a configuration of it:
+its number, from 0, as `tomex front` prints it, or choices that only it has,
+joined by commas, as in alu=2,mul=2; `tomex find` lists configurations by
+choices. PROGRAM is the name of a program of the study; a name that begins with
+`-` must follow `--`. docs/STUDIES.md lists the keys of a study, and
+docs/MACHINE.md says how to read the report.
 
-CONFIG is decimal, like all numbers on the command line; in the study's TOML
-they may be hexadecimal too, as in 0x10000.
+Numbers on the command line are decimal; in the study's TOML they may be
+hexadecimal too, as in 0x10000.
 
 The report is CSV: a header, and a record for each part: the stations of each
 pool, the units of each kind, the buses and the issue width, with their count,

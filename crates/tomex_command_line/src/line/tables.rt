@@ -38,16 +38,16 @@ the reservation stations that are busy, with what they hold and what they wait
 for, and the registers that wait for a station.
 
 STUDY is a TOML document that names programs, prices, axes and unit options;
-its files are read from the current folder. CONFIG is the number of a
-configuration, from 0: `tomex front` prints those of the front, and
-docs/STUDIES.md says how a number follows from the study's lists. PROGRAM
-is the name of a program of the study; a name that begins with `-` must follow
-`--`. CYCLE goes from 0, before the first instruction issues, to the run's
-total, which `tomex times` prints last. docs/STUDIES.md lists the keys of a
-study, and docs/MACHINE.md says what the tables mean.
+its files are read from the current folder. CONFIG is a configuration of it:
+its number, from 0, as `tomex front` prints it, or choices that only it has,
+joined by commas, as in alu=2,mul=2; `tomex find` lists configurations by
+choices. PROGRAM is the name of a program of the study; a name that begins with
+`-` must follow `--`. CYCLE goes from 0, before the first instruction issues,
+to the run's total, which `tomex times` prints last. docs/STUDIES.md lists the
+keys of a study, and docs/MACHINE.md says what the tables mean.
 
-CONFIG and CYCLE are decimal, like all numbers on the command line; in the
-study's TOML they may be hexadecimal too, as in 0x10000.
+Numbers on the command line are decimal; in the study's TOML they may be
+hexadecimal too, as in 0x10000.
 
 The first line is the cycle. Then comes a line for each busy station, pool by
 pool: its name, its instruction, and for the operands j and k the value V or

@@ -15,15 +15,15 @@ which it issues, gets its address, starts, finishes and ends on one of the
 study's configurations, and its reservation station.
 
 STUDY is a TOML document that names programs, prices, axes and unit options;
-its files are read from the current folder. CONFIG is the number of a
-configuration, from 0: `tomex front` prints those of the front, and
-docs/STUDIES.md says how a number follows from the study's lists. PROGRAM
-is the name of a program of the study; a name that begins with `-` must follow
-`--`. docs/STUDIES.md lists the keys of a study, and docs/MACHINE.md says what
-the cycles mean.
+its files are read from the current folder. CONFIG is a configuration of it:
+its number, from 0, as `tomex front` prints it, or choices that only it has,
+joined by commas, as in alu=2,mul=2; `tomex find` lists configurations by
+choices. PROGRAM is the name of a program of the study; a name that begins with
+`-` must follow `--`. docs/STUDIES.md lists the keys of a study, and
+docs/MACHINE.md says what the cycles mean.
 
-CONFIG is decimal, like all numbers on the command line; in the study's TOML
-they may be hexadecimal too, as in 0x10000.
+Numbers on the command line are decimal; in the study's TOML they may be
+hexadecimal too, as in 0x10000.
 
 The report is CSV: a header, a record for each instruction in program order,
 and a record of the total. Steps and cycles are counted from 1; `-` means that

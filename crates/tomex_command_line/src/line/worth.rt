@@ -1,28 +1,24 @@
 //! `worth STUDY CONFIG [--workers N]`
-ghost use Rattle.std.specs.Prelude.{◌≡◌, ◌≤◌, IfOk, IfErr};
+ghost use Rattle.std.specs.Prelude.{◌≡◌, IfOk, IfErr};
 ghost use Rattle.tomex_arguments.specs.Faults.{IsRefusedIf};
 ghost use Rattle.tomex_command_line.specs.Grammar.{worth_shape};
 ghost use Rattle.clap.specs.Simple.{shape_of};
 ghost use Rattle.clap.specs.Words.{found_of};
 ghost use Rattle.clap.specs.Walk.{rows_of};
 ghost use Rattle.tomex_command_line.specs.Values.{IsWorthAsked, IsNoWorth};
-ghost use Rattle.tomex_command_line.specs.Limits.{last_row};
 
+use super::config::{ConfigName, config_argument, config_of};
 use super::explore::{ExploreLine, line_of as explore_of, on_rows};
-use super::one_run::{CONFIG, CONFIG_HELP};
 use super::texts::{Texts, with_argument};
-use super::values::numeral;
 use clap::{ArgMatches, Command};
 use std::alloc::{AllocError, Global};
-use tomex_arguments::{LineFault, number_of};
+use tomex_arguments::LineFault;
 
 /// A request for the machines that differ from one in one list.
 #[derive(Clone, Copy)]
 pub struct WorthLine<'a> {
     pub explore: ExploreLine<'a>,
-    /// The number of the configuration.
-    pub config: u32,
-    pub ghost config_to: { config ≤ last_row },
+    pub config: ConfigName<'a>,
 }
 
 const ABOUT: &str = "Prints what one more or one less of a part brings on a configuration";
@@ -44,10 +40,10 @@ on the front. A study of several programs has a column for each program's own
 cycles.
 
 STUDY is a TOML document that names programs, prices, axes and unit options;
-its files are read from the current folder. CONFIG is the number of a
-configuration, from 0: `tomex front` prints those of the front, and
-docs/STUDIES.md says how a number follows from the study's lists, and reads such
-a table.";
+its files are read from the current folder. CONFIG is a configuration of it:
+its number, from 0, as `tomex front` prints it, or choices that only it has,
+joined by commas, as in alu=2,mul=2; `tomex find` lists configurations by
+choices. docs/STUDIES.md reads such a table.";
 
 const AFTER_LONG_HELP: &str = "Exit status:
   0  the table was written
@@ -76,7 +72,7 @@ pub(super) fn grammar<'a>(alloc: Global) -> Result<Command<'a>, AllocError>
     ensures { IfOk result (λ c. shape_of c ≡ worth_shape) }
 {
     let command = on_rows(alloc, "worth", TEXTS);
-    with_argument(command, numeral(alloc, "CONFIG", CONFIG, CONFIG_HELP))
+    with_argument(command, config_argument(alloc))
 }
 
 pub(super) fn line_of<'a>(
@@ -89,6 +85,6 @@ pub(super) fn line_of<'a>(
 {
     Ok(WorthLine {
         explore: explore_of(alloc, matches)?,
-        config: number_of(alloc, matches, "CONFIG", CONFIG)?,
+        config: config_of(alloc, matches)?,
     })
 }

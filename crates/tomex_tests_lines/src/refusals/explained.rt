@@ -127,7 +127,7 @@ fn studies(rt: HostRuntime) -> Result<(), Fail> {
 }
 
 /// Refusals by commands themselves, as the definition of reports has them.
-static COMMANDS: [(&str, &str); 20] = [
+static COMMANDS: [(&str, &str); 21] = [
     ("tomex: no such choice: alu=3", "no such choice: CHOICE"),
     ("no such choice", "no such choice: CHOICE"),
     ("no such choice: too long", "no such choice: CHOICE"),
@@ -135,6 +135,7 @@ static COMMANDS: [(&str, &str); 20] = [
     ("too long", "too long"),
     ("tomex: program a: too long", "too long"),
     ("tomex: no such row", "no such row"),
+    ("tomex: several rows: 2", "several rows: N"),
     ("tomex: no such program", "no such program"),
     ("tomex: no symbols", "no symbols"),
     ("tomex: no such step", "no such step"),
@@ -161,7 +162,7 @@ fn commands(rt: HostRuntime) -> Result<(), Fail> {
 
 /// Parts of lines of the list, and what is printed of the first lines that have them, and how many lines there are.
 static PARTS: [(&str, &str, usize); 8] = [
-    ("", "cannot read NAME\nno such choice: CHOICE\n", 37),
+    ("", "cannot read NAME\nno such choice: CHOICE\n", 38),
     ("segment", "image: too many segments\nimage: segment\n", 2),
     ("fault", "fault: fetch at PC\nfault: illegal at PC\n", 4),
     (" at PC", "fault: fetch at PC\nfault: illegal at PC\n", 4),

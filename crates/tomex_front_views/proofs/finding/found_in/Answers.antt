@@ -2,7 +2,7 @@
 use Rattle.std.proofs.Common.{◌∙◌, ◌<◌, ap, arith, length, map, sym, ℕ, []}
 use Rattle.std.specs.Prelude.{string_bytes}
 use Rattle.std.proofs.lemmas.List.Elements.{All-append, All-cons, All-nil}
-use Rattle.tomex_front_views.specs.Find.{found_in, has_all}
+use Rattle.tomex_front_views.specs.Find.{has_all}
 use Rattle.tomex_front_views.proofs.FoundLoops.{all_kept, dropped, kept}
 use Rattle.tomex_front_views.proofs.finding.found_in.Goals as goal
 use Rattle.tomex_front_views.proofs.finding.found_in.Goals.{then-branch+in_ok-push, else-branch}

@@ -1,7 +1,7 @@
 -- What the machine shows if it has reached the cycle.
 use Rattle.std.proofs.Common.{◌<◌, arith, ℕ, subst}
 use Rattle.tomex_cycle.specs.Seen.{seen}
-use Rattle.tomex_command.specs.TablesLines.{IsTextAfter}
+use Rattle.tomex_command.specs.RunViews.{IsTextAfter}
 use Rattle.tomex_command.proofs.Reached.{has_advanced, is_text}
 use Rattle.tomex_command.proofs.commands.tables.text_after.Goals as goal
 

@@ -1,15 +1,11 @@
 -- If a value is missing or out of bounds, no line has it.
-use Rattle.std.proofs.Common.{rules}
 use Rattle.tomex_command_line.proofs.PassedOn.{passed_on}
 use Rattle.tomex_command_line.proofs.line.functions.line_of.Goals as goal
 
-pub invariant_of-result : goal.invariant_of-result
-invariant_of-result c = search rules fits 100
-
-pub returns-in_err-number_of-clause-refused : goal.returns-in_err-number_of-clause-refused
-returns-in_err-number_of-clause-refused c =
-    passed_on _ _ _ c.from_residual-in_err-number_of.result c.from_residual-in_err-number_of.ensures.1
-    c.in_err-number_of.ensures.refused
+pub returns-in_err-config_of-clause-refused : goal.returns-in_err-config_of-clause-refused
+returns-in_err-config_of-clause-refused c =
+    passed_on _ _ _ c.from_residual-in_err-config_of.result c.from_residual-in_err-config_of.ensures.1
+    c.in_err-config_of.ensures.refused
     (λ none study config old new asked. none config asked.is_config)
 
 pub returns-in_err-builds_of-clause-refused : goal.returns-in_err-builds_of-clause-refused

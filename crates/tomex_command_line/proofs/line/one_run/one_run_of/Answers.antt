@@ -2,8 +2,8 @@
 use Rattle.tomex_command_line.proofs.PassedOn.{passed_on}
 use Rattle.tomex_command_line.proofs.line.one_run.one_run_of.Goals as goal
 
-pub returns-in_err-number_of-clause-refused : goal.returns-in_err-number_of-clause-refused
-returns-in_err-number_of-clause-refused c =
-    passed_on _ _ _ c.from_residual-in_err-number_of.result c.from_residual-in_err-number_of.ensures.1
-    c.in_err-number_of.ensures.refused
+pub returns-in_err-config_of-clause-refused : goal.returns-in_err-config_of-clause-refused
+returns-in_err-config_of-clause-refused c =
+    passed_on _ _ _ c.from_residual-in_err-config_of.result c.from_residual-in_err-config_of.ensures.1
+    c.in_err-config_of.ensures.refused
     (λ none study config program asked. none config asked.is_config)

@@ -7,5 +7,5 @@ use Rattle.tomex_command_line.proofs.line.worth.grammar.Goals as goal
 
 pub returns : goal.returns
 returns c =
-    let last = taken _ _ _ c.with_argument.ensures c.on_rows-command.ensures c.numeral.ensures.rule in
+    let last = taken _ _ _ c.with_argument.ensures c.on_rows-command.ensures c.config_argument.ensures.rule in
     IfOk-weaker c.with_argument.result _ _ (λ made is. ap (λ (a : App). a.top) is) last
