@@ -6,6 +6,7 @@ no such choice: CHOICE
 bad window
 too long
 no such row
+several rows: N
 no such program
 no symbols
 no such step
