@@ -39,11 +39,13 @@ fn of_the_text_of_a_run(rt: HostRuntime) -> Result<(), Fail> {
 const CALLS_STUDY: &str = "[[program]]\nname = \"p\"\nfile = \"calls.elf\"\n";
 
 /// Lines on one program, and the least number of blocks that they need.
-static ON_ONE_PROGRAM: [(&str, u64); 16] = [
+static ON_ONE_PROGRAM: [(&str, u64); 17] = [
     // The file's bytes, the window's, those that the run changes, and the text.
     ("tomex run image --base 65536", 4),
     // The study's bytes and its file's, names, the program, rows, costs, steps, times and the text.
     ("tomex times study 1 mul", 11),
+    // Choices are small values.
+    ("tomex times study row=1 mul", 11),
     // All of that except the times.
     ("tomex stalls study 1 mul", 10),
     // All of that, with the waits and the places.

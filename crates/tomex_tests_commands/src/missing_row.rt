@@ -42,13 +42,28 @@ fn begun<R: AllocGlobal + Threads + Wait + Sync>(
     Ok((outcome, meter.begun.load(Ordering::SeqCst)))
 }
 
+/// Lines that name no row, or several, and what is reported.
+static WITHOUT_ROW: [(&str, &str); 4] = [
+    ("tomex worth study 2", "tomex: no such row\n"),
+    ("tomex worth study row=0,row=1", "tomex: no such row\n"),
+    (
+        "tomex worth study alu=16",
+        "tomex: no such choice: alu=16\n",
+    ),
+    ("tomex worth study width=1", "tomex: several rows: 2\n"),
+];
+
 #[test]
 fn a_missing_row_is_found_first(rt: HostRuntime) -> Result<(), Fail> {
-    let (outcome, rows) = begun(&rt, "tomex worth study 1")?;
-    assert!(rt; outcome.status == 0 && rows == 2);
-    let (outcome, rows) = begun(&rt, "tomex worth study 2")?;
-    assert!(rt; outcome.status == 1 && rows == 0);
-    assert!(rt; outcome.err.as_slice() == b"tomex: no such row\n".as_slice());
+    for line in ["tomex worth study 1", "tomex worth study row=1"] {
+        let (outcome, rows) = begun(&rt, line)?;
+        assert!(rt; outcome.status == 0 && rows == 2, "{line}");
+    }
+    for (line, said) in &WITHOUT_ROW {
+        let (outcome, rows) = begun(&rt, *line)?;
+        assert!(rt; outcome.status == 1 && rows == 0, "{line}");
+        assert!(rt; outcome.err.as_slice() == said.as_bytes(), "{line}");
+    }
     Ok(())
 }
 
