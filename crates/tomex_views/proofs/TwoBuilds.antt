@@ -3,7 +3,7 @@ use Rattle.std.proofs.Common.{◌≡◌, ◌∙◌, Bor, ap, ap₂, refl, subst,
 use Rattle.std.specs.Prelude.{◌&&◌, is_some, not, Bool, false, true}
 use Rattle.std.specs.Str.{bytes_eq}
 use Rattle.tomex_compare.specs.Compare.{compare_table_of, text_of}
-use Rattle.tomex_compare.specs.Laws.{IsSameProgram, OnlyTheTwoMatter}
+use Rattle.tomex_compare.specs.Laws.{OnlyTheTwoMatter}
 use Rattle.tomex_study.specs.Program.{Workload}
 use Rattle.tomex_study.specs.Selection.{with_only}
 use Rattle.tomex_study.specs.Study.{DesignSpace, IsStudy, program_named}

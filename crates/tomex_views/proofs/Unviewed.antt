@@ -9,8 +9,7 @@ use Rattle.tomex_views.specs.declared.study_view.StudyView.TheVariants.{Survey, 
 use Rattle.tomex_views.specs.declared.study_view.SurveyView.{SurveyView}
 use Rattle.tomex_views.specs.declared.study_view.SurveyView.TheVariants.{Table}
 use Rattle.tomex_views.specs.declared.view_error.ViewError.{ViewError}
-use Rattle.tomex_views.specs.declared.view_error.ViewError.TheVariants.{Study, NoSuchRow, NoSuchProgram, TooLarge}
-use Rattle.tomex_views.specs.declared.view_error.ViewError.TheVariants.{Memory}
+use Rattle.tomex_views.specs.declared.view_error.ViewError.TheVariants.{Study}
 
 -- no view of a study has a refusal of the study itself
 none_of_study : (view : SurveyView) (s : DesignSpace) (x : StudyError) → IsWithoutSurvey view s (Study x) → ⊥

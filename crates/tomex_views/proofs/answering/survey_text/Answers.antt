@@ -1,13 +1,11 @@
 -- The text of what is needed is the study's.
-use Rattle.std.proofs.Common.{◌∙◌, ap, sym}
 use Rattle.std.proofs.lemmas.Result.{IfErr-weaker, IfOk-weaker, err_from_is_err_and}
-use Rattle.tomex_views.specs.StudyViews.{lacks_row}
-use Rattle.tomex_views.proofs.TwoBuilds.{lacks_same_row, without_memory}
+use Rattle.tomex_views.proofs.TwoBuilds.{without_memory}
 use Rattle.tomex_views.proofs.answering.survey_text.Goals as goal
 
 pub returns-in_err-clone-clause-refused : goal.returns-in_err-clone-clause-refused
 returns-in_err-clone-clause-refused g c =
-    let p = err_from_is_err_and c.from_residual.result c.from_residual.ensures.1 in
+    let p = err_from_is_err_and c.from_residual-in_err-clone.result c.from_residual-in_err-clone.ensures.1 in
     rw (p.1) (without_memory c.args.view c.args.study p.0 p.2)
 
 pub returns-in_err-surveyed-clause-refused : goal.returns-in_err-surveyed-clause-refused
@@ -15,19 +13,16 @@ returns-in_err-surveyed-clause-refused g c =
     let p = err_from_is_err_and c.from_residual-in_err-surveyed.result c.from_residual-in_err-surveyed.ensures.1 in
     rw (p.1) (without_memory c.args.view c.args.study p.0 p.2)
 
-pub text_of_survey-requires : goal.text_of_survey-requires
-text_of_survey-requires g c =
-    ap (lacks_row c.args.view) (c.in_ok-surveyed.ensures ∙ c.needed-study.ensures.needed)
-    ∙ (lacks_same_row c.args.view c.args.study ∙ (sym c.lacks_row.ensures ∙ c.if-lacks_row.false))
-
 pub returns-clause-text : goal.returns-clause-text
 returns-clause-text g c =
     IfOk-weaker c.text_of_survey.result _ _
-    (λ text is. c.needed-study.ensures.text text.items (rw c.in_ok-surveyed.ensures at is))
+    (λ text is. c.in_ok-numbered.ensures.text text.items
+    (c.needed-study.ensures.text text.items (rw c.in_ok-surveyed.ensures at is)))
     c.text_of_survey.ensures.text
 
 pub returns-clause-refused : goal.returns-clause-refused
 returns-clause-refused g c =
     IfErr-weaker c.text_of_survey.result _ _
-    (λ error is. c.needed-study.ensures.refused error (rw c.in_ok-surveyed.ensures at is))
+    (λ error is. c.in_ok-numbered.ensures.without error
+    (c.needed-study.ensures.refused error (rw c.in_ok-surveyed.ensures at is)))
     c.text_of_survey.ensures.refused

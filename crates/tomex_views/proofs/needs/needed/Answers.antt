@@ -1,5 +1,5 @@
 -- Two builds are compared by themselves, and any other view is of the whole study.
-use Rattle.std.proofs.Common.{◌≡◌, ◌∙◌, ap, false, refl, subst, sym, List, ℕ}
+use Rattle.std.proofs.Common.{◌≡◌, ◌∙◌, ap, false, subst, sym}
 use Rattle.tomex_study.specs.Study.{DesignSpace, IsStudy}
 use Rattle.tomex_views.specs.StudyViews.{IsSurveyText, IsWithoutSurvey, lacks_program, needed}
 use Rattle.tomex_views.specs.declared.study_view.SurveyView.{SurveyView}
