@@ -38,10 +38,10 @@ module _ (file : List ℕ → Known) (line : FunctionsLine) (study : DesignSpace
     → IsBuildUnchosen file line failure) where
   without : (failure : Failure) → IsUnchosen study (run_of_build line build) failure
       → IsFunctionsFailure file line failure
-  without failures.NoSuchRow why = which _ (study, of_files, why)
-  without (failures.SeveralRows n) why = which _ (study, of_files, why)
-  without (failures.NoSuchChoice choice) why = which _ (study, of_files, why)
-  without failures.NoSuchProgram why = which _ (study, of_files, why)
+  without failures.NoSuchRow why = which failures.NoSuchRow (study, of_files, why)
+  without (failures.SeveralRows n) why = which (failures.SeveralRows n) (study, of_files, why)
+  without (failures.NoSuchChoice choice) why = which (failures.NoSuchChoice choice) (study, of_files, why)
+  without failures.NoSuchProgram why = which failures.NoSuchProgram (study, of_files, why)
   without failures.Memory why = tt
   without failures.NoSymbols why = absurd why
   without failures.BadWindow why = absurd why

@@ -12,6 +12,7 @@ use Rattle.tomex_front_views.specs.RowName.{IsNoRow, row_named}
 use Rattle.tomex_front_views.specs.declared.row_name.RowError.TheVariants as rows
 use Rattle.tomex_front_views.specs.declared.row_name.RowName.{RowName}
 use Rattle.tomex_front_views.specs.declared.row_name.RowName.TheVariants as names
+use Rattle.tomex_command.specs.declared.commands.chosen.ChosenRun.{ChosenRun}
 use Rattle.tomex_command.specs.declared.failure.Failure.{Failure}
 use Rattle.tomex_command.specs.declared.failure.Failure.TheVariants.{NoSuchChoice, NoSuchRow, SeveralRows}
 use Rattle.tomex_command.specs.declared.failure.Failure.TheVariants.{NoSuchProgram, Memory}
@@ -28,9 +29,9 @@ pub record RunChoice : Type 0 where
   pub program : Workload
   pub file : List ℕ
 
-abbrev pub run_choice : ℕ → Configuration → Workload → List ℕ → RunChoice
-run_choice number config program file =
-    record { number = number; config = config; program = program; file = file }
+-- the run that the code has chosen
+abbrev pub choice_of : {A : Type 0} → ChosenRun A → RunChoice
+choice_of c = record { number = c.number; config = c.config.now; program = c.program.now; file = c.file.now }
 
 -- the steps of the program's run
 abbrev pub steps_in : RunChoice → List Step

@@ -1,5 +1,6 @@
 //! What `animate` prints.
 ghost use Rattle.std.specs.Prelude.{IfOk, IfErr};
+ghost use Rattle.tomex_command.specs.Chosen.{choice_of};
 ghost use Rattle.tomex_command.specs.RunViews.{IsNotShown, IsShown};
 
 use super::chosen::ChosenRun;
@@ -16,8 +17,8 @@ pub fn animate_text<A: Allocator + Clone>(
     chosen: &ChosenRun<'_, A>,
     line: AnimateLine<'_>,
 ) -> Result<Vec<u8, A>, Failure>
-    ensures text { IfOk result (λ text. IsShown (RunView.Animate line.entry) chosen.now text.items) }
-    ensures failure { IfErr result (λ failure. IsNotShown failure (RunView.Animate line.entry) chosen.now) }
+    ensures text { IfOk result (λ text. IsShown (RunView.Animate line.entry) (choice_of chosen.now) text.items) }
+    ensures failure { IfErr result (λ failure. IsNotShown failure (RunView.Animate line.entry) (choice_of chosen.now)) }
 {
     Ok(animation(
         alloc,

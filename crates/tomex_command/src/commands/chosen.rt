@@ -2,12 +2,11 @@
 ghost use Rattle.std.specs.Prelude.{◌≡◌, IfOk, IfErr, length, map};
 ghost use Rattle.std.specs.List.{position};
 ghost use Rattle.std.specs.Str.{bytes_eq};
-ghost use Rattle.tomex_command.specs.Chosen.{IsChosen, IsUnchosen, row_name};
+ghost use Rattle.tomex_command.specs.Chosen.{IsChosen, IsUnchosen, choice_of, row_name};
 
 use super::study::Studied;
 use crate::failure::Failure;
 use std::alloc::{Allocator, Global};
-use std::marker::Model;
 use tomex_command_line::{ConfigName, OneRun};
 use tomex_config::Config;
 use tomex_front_views::{RowName, row_named};
@@ -20,14 +19,6 @@ pub struct ChosenRun<'s, A: Allocator> {
     pub config: &'s Config,
     pub program: &'s Program<A>,
     pub file: &'s [u8],
-}
-
-impl<'s, A: Allocator> Model for ChosenRun<'s, A> {
-    ghost use Rattle.tomex_command.specs.Chosen.{RunChoice, run_choice};
-
-    ghost Value = { RunChoice };
-
-    ghost view = { λ c. run_choice c.number c.config.now c.program.now c.file.now };
 }
 
 /// The name of a row, as the line has it.
@@ -57,8 +48,8 @@ pub fn choose<'s, A: Allocator>(
     run: OneRun<'_>,
 ) -> Result<ChosenRun<'s, A>, Failure>
     requires { length studied.now.files.items ≡ length studied.now.study.programs }
-    ensures chosen { IfOk result
-        (IsChosen studied.now.study (map (λ bytes. bytes.items) studied.now.files.items) run.entry) }
+    ensures chosen { IfOk result (λ chosen. IsChosen studied.now.study
+        (map (λ bytes. bytes.items) studied.now.files.items) run.entry (choice_of chosen)) }
     ensures unchosen { IfErr result (IsUnchosen studied.now.study run.entry) }
 {
     let study = &studied.study;

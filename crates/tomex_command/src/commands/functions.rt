@@ -1,5 +1,6 @@
 //! What `functions` prints.
 ghost use Rattle.std.specs.Prelude.{◌≡◌, IfOk, IfErr};
+ghost use Rattle.tomex_command.specs.Chosen.{choice_of};
 ghost use Rattle.tomex_command.specs.FunctionsLines.{AreReported, AreUnreported, IsFunctionsFailure, IsFunctionsOf};
 ghost use Rattle.tomex_command.specs.FunctionsLines.{build_in, run_of_build};
 
@@ -30,8 +31,9 @@ fn report_of<A: Allocator + Clone>(
     new: &ChosenRun<'_, A>,
 ) -> Result<Vec<u8, A>, Failure>
     ensures text { IfOk result (λ text.
-        AreReported old.now.config (build_in old.now) (build_in new.now) text.items) }
-    ensures failure { IfErr result (AreUnreported old.now.config (build_in old.now) (build_in new.now)) }
+        AreReported old.now.config.now (build_in (choice_of old.now)) (build_in (choice_of new.now)) text.items) }
+    ensures failure { IfErr result (AreUnreported old.now.config.now (build_in (choice_of old.now))
+        (build_in (choice_of new.now))) }
 {
     let old_build = BuildRun {
         program: old.program,

@@ -1,7 +1,7 @@
 //! What `path` prints.
 ghost use Rattle.std.specs.Prelude.{IfOk, IfErr};
 ghost use Rattle.tomex_functions.specs.WithFunctions.{IsWithFunctions};
-ghost use Rattle.tomex_command.specs.Chosen.{steps_in};
+ghost use Rattle.tomex_command.specs.Chosen.{choice_of, steps_in};
 ghost use Rattle.tomex_command.specs.RunViews.{IsNotShown, IsPathWith, IsPathWithout, IsShown};
 
 use super::chosen::ChosenRun;
@@ -23,7 +23,7 @@ fn path_without<A: Allocator + Clone>(
     line: PathLine<'_>,
 ) -> Result<Vec<u8, A>, AllocError>
     ensures { IfOk result (λ text.
-        IsPathWithout line.entry.links line.entry.by_pc chosen.now.config (steps_in chosen.now) text.items) }
+        IsPathWithout line.entry.links line.entry.by_pc chosen.now.config.now (steps_in (choice_of chosen.now)) text.items) }
 {
     let (config, program) = (chosen.config, chosen.program);
     if line.links {
@@ -43,8 +43,8 @@ fn path_with<A: Allocator + Clone>(
     line: PathLine<'_>,
 ) -> Result<Vec<u8, A>, FunctionsError>
     ensures { IsWithFunctions
-        (IsPathWith line.entry.links line.entry.by_pc chosen.now.file chosen.now.config (steps_in chosen.now))
-        chosen.now.file result }
+        (IsPathWith line.entry.links line.entry.by_pc chosen.now.file.now chosen.now.config.now
+        (steps_in (choice_of chosen.now))) chosen.now.file.now result }
 {
     let (config, program, file) = (chosen.config, chosen.program, chosen.file);
     if line.links {
@@ -63,8 +63,8 @@ pub fn path_text<A: Allocator + Clone>(
     chosen: &ChosenRun<'_, A>,
     line: PathLine<'_>,
 ) -> Result<Vec<u8, A>, Failure>
-    ensures text { IfOk result (λ text. IsShown (RunView.Path line.entry) chosen.now text.items) }
-    ensures failure { IfErr result (λ failure. IsNotShown failure (RunView.Path line.entry) chosen.now) }
+    ensures text { IfOk result (λ text. IsShown (RunView.Path line.entry) (choice_of chosen.now) text.items) }
+    ensures failure { IfErr result (λ failure. IsNotShown failure (RunView.Path line.entry) (choice_of chosen.now)) }
 {
     if line.by_function {
         Ok(path_with(alloc, heap, chosen, line)?)

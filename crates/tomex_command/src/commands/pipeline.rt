@@ -1,5 +1,6 @@
 //! What `pipeline` prints.
 ghost use Rattle.std.specs.Prelude.{IfOk, IfErr};
+ghost use Rattle.tomex_command.specs.Chosen.{choice_of};
 ghost use Rattle.tomex_command.specs.RunViews.{IsNotShown, IsShown};
 
 use super::chosen::ChosenRun;
@@ -17,8 +18,8 @@ pub fn pipeline_text<A: Allocator + Clone>(
     chosen: &ChosenRun<'_, A>,
     line: PipelineLine<'_>,
 ) -> Result<Vec<u8, A>, Failure>
-    ensures text { IfOk result (λ text. IsShown (RunView.Pipeline line.entry) chosen.now text.items) }
-    ensures failure { IfErr result (λ failure. IsNotShown failure (RunView.Pipeline line.entry) chosen.now) }
+    ensures text { IfOk result (λ text. IsShown (RunView.Pipeline line.entry) (choice_of chosen.now) text.items) }
+    ensures failure { IfErr result (λ failure. IsNotShown failure (RunView.Pipeline line.entry) (choice_of chosen.now)) }
 {
     let (from, steps) = (line.from, line.steps);
     if line.konata {

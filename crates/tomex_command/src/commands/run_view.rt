@@ -1,5 +1,6 @@
 //! The text of the commands that print a view of one run of a study.
 ghost use Rattle.std.specs.Prelude.{◌≡◌, IfOk, IfErr};
+ghost use Rattle.tomex_command.specs.Chosen.{choice_of};
 ghost use Rattle.tomex_command.specs.RunViews.{IsNotShown, IsRunViewFailure, IsRunViewOf, IsShown, run_of_view};
 
 use super::animate::animate_text;
@@ -47,8 +48,8 @@ fn shown<A: Allocator + Clone>(
     chosen: &ChosenRun<'_, A>,
     view: RunView<'_>,
 ) -> Result<Vec<u8, A>, Failure>
-    ensures text { IfOk result (λ text. IsShown view.entry chosen.now text.items) }
-    ensures failure { IfErr result (λ failure. IsNotShown failure view.entry chosen.now) }
+    ensures text { IfOk result (λ text. IsShown view.entry (choice_of chosen.now) text.items) }
+    ensures failure { IfErr result (λ failure. IsNotShown failure view.entry (choice_of chosen.now)) }
 {
     match view {
         RunView::Times(_) => Ok(times_report(alloc, heap, chosen.program, chosen.config)?),

@@ -1,5 +1,6 @@
 //! What `stalls` prints.
 ghost use Rattle.std.specs.Prelude.{IfOk, IfErr};
+ghost use Rattle.tomex_command.specs.Chosen.{choice_of};
 ghost use Rattle.tomex_command.specs.RunViews.{IsNotShown, IsShown};
 
 use super::chosen::ChosenRun;
@@ -17,8 +18,8 @@ pub fn stalls_text<A: Allocator + Clone>(
     chosen: &ChosenRun<'_, A>,
     line: StallsLine<'_>,
 ) -> Result<Vec<u8, A>, Failure>
-    ensures text { IfOk result (λ text. IsShown (RunView.Stalls line.entry) chosen.now text.items) }
-    ensures failure { IfErr result (λ failure. IsNotShown failure (RunView.Stalls line.entry) chosen.now) }
+    ensures text { IfOk result (λ text. IsShown (RunView.Stalls line.entry) (choice_of chosen.now) text.items) }
+    ensures failure { IfErr result (λ failure. IsNotShown failure (RunView.Stalls line.entry) (choice_of chosen.now)) }
 {
     let (config, program, file) = (chosen.config, chosen.program, chosen.file);
     if line.by_function {

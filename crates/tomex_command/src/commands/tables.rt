@@ -1,5 +1,6 @@
 //! What `tables` prints.
 ghost use Rattle.std.specs.Prelude.{IfOk, IfErr};
+ghost use Rattle.tomex_command.specs.Chosen.{choice_of};
 ghost use Rattle.tomex_command.specs.RunViews.{IsNotShown, IsShown};
 
 use super::chosen::ChosenRun;
@@ -17,8 +18,8 @@ pub fn text_after<A: Allocator + Clone>(
     chosen: &ChosenRun<'_, A>,
     line: TablesLine<'_>,
 ) -> Result<Vec<u8, A>, Failure>
-    ensures text { IfOk result (λ text. IsShown (RunView.Tables line.entry) chosen.now text.items) }
-    ensures failure { IfErr result (λ failure. IsNotShown failure (RunView.Tables line.entry) chosen.now) }
+    ensures text { IfOk result (λ text. IsShown (RunView.Tables line.entry) (choice_of chosen.now) text.items) }
+    ensures failure { IfErr result (λ failure. IsNotShown failure (RunView.Tables line.entry) (choice_of chosen.now)) }
 {
     chosen.program.keeps_limits();
     let cycle = u64::from(line.cycle);

@@ -13,4 +13,13 @@ pub returns-in-Ok-clause-done : goal.returns-in-Ok-clause-done
 returns-in-Ok-clause-done g c = search rules fits 100
 
 pub returns-clause-left : goal.returns-clause-left
-returns-clause-left g c = search rules fits 100
+returns-clause-left g c = record {
+  text = c.in_ok-text.text.items;
+  is_done = c.in_ok-text.ensures.text;
+  cut = record {
+    count = c.in-Err.field-0.written;
+    part = rw (c.as_slice.ensures.value) at c.in-Err.ensures.short;
+    taken = rw (c.as_slice.ensures.value) at c.in-Err.ensures.first;
+    fault = c.in-Err.ensures.fault;
+  };
+}

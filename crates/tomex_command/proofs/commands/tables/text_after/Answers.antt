@@ -7,8 +7,8 @@ use Rattle.tomex_command.proofs.commands.tables.text_after.Goals as goal
 
 pub returns-clause-text : goal.returns-clause-text
 returns-clause-text g c =
-    let config = c.args.chosen.now.config in
-    let program = c.args.chosen.now.program in
+    let config = c.args.chosen.now.config.now in
+    let program = c.args.chosen.now.program.now in
     let has = has_advanced config program _ _ _ c.keeps_limits.ensures
     (rw c.image.ensures.value at c.in_ok-machine.ensures.start) c.advance.ensures.advances.after_ticks in
     let short : c.advance.new.self.cycle < c.from-cycle.result → ⊥ =

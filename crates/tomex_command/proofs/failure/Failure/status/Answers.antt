@@ -7,9 +7,6 @@ returns-in-NoSuchRow c = search rules fits 100
 pub returns-in-NoSuchRow-2 : goal.returns-in-NoSuchRow-2
 returns-in-NoSuchRow-2 c = search rules fits 100
 
-pub returns-in-NoSuchRow-3 : goal.returns-in-NoSuchRow-3
-returns-in-NoSuchRow-3 c = search rules fits 100
-
 pub returns-in-NoSuchStep : goal.returns-in-NoSuchStep
 returns-in-NoSuchStep c = search rules fits 100
 
