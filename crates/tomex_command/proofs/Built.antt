@@ -1,5 +1,5 @@
 -- The failure if a study has not both builds, or they have no report.
-use Rattle.std.proofs.Common.{◌≡◌, ℕ, List, Bor, inl, inr, subst, sym}
+use Rattle.std.proofs.Common.{◌≡◌, ℕ, List, Bor, subst, sym}
 use Rattle.tomex_study.specs.Study.{DesignSpace}
 use Rattle.tomex_command.specs.Chosen.{IsUnchosen, IsUnchosenIn}
 use Rattle.tomex_command.specs.FunctionsLines.{AreUnreported, IsBuildUnchosen, IsFunctionsFailure, IsOfBuilds}

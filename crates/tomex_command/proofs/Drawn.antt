@@ -1,6 +1,5 @@
 -- The failure if a program's run has no picture, no log, no page, or no report by function.
-use Rattle.std.proofs.Common.{◌≡◌, List, ℕ, Bool, true, [], false, sym, subst}
-use Rattle.tomex_symbols.specs.Symbols.{symbols_of}
+use Rattle.std.proofs.Common.{◌≡◌, false, sym, subst}
 use Rattle.tomex_run_views.specs.Chart.{IsUnpictured}
 use Rattle.tomex_run_views.specs.declared.picture_error.PictureError.{PictureError}
 use Rattle.tomex_run_views.specs.declared.picture_error.PictureError.TheVariants.{NoSuchStep, TooLarge, Memory}

@@ -1,11 +1,10 @@
 -- A text that isn't made leaves the output as it was: none of its failures is that the output failed.
-use Rattle.std.proofs.Common.{◌≡◌, List, ℕ, Bool, true, false, refl, sym, subst}
+use Rattle.std.proofs.Common.{◌≡◌, List, ℕ, refl, sym, subst}
 use Rattle.tomex_command_line.specs.declared.line.Line.{Line}
 use Rattle.tomex_command_line.specs.declared.line.Line.TheVariants.{Run, Times, Stalls, Path, Pipeline, Tables}
 use Rattle.tomex_command_line.specs.declared.line.Line.TheVariants.{Animate, All, Explore, Front, Plot, Rows}
 use Rattle.tomex_command_line.specs.declared.line.Line.TheVariants.{Worth, Choices, Prices, Weights}
 use Rattle.tomex_command_line.specs.declared.line.Line.TheVariants.{Compare, Functions, Page, Find, Explain}
-use Rattle.tomex_command_line.specs.declared.line.page.PageLine.{PageLine}
 use Rattle.tomex_streams.specs.Files.{Known}
 use Rattle.tomex_streams.specs.Sinks.{Seen}
 use Rattle.tomex_command.specs.Commands.{IsFailure, IsLeft}
