@@ -22,8 +22,8 @@ fn path_without<A: Allocator + Clone>(
     chosen: &ChosenRun<'_, A>,
     line: PathLine<'_>,
 ) -> Result<Vec<u8, A>, AllocError>
-    ensures { IfOk result (λ text.
-        IsPathWithout line.entry.links line.entry.by_pc chosen.now.config.now (steps_in (choice_of chosen.now)) text.items) }
+    ensures { IfOk result (λ text. IsPathWithout line.entry.links line.entry.by_pc chosen.now.config.now
+        (steps_in (choice_of chosen.now)) text.items) }
 {
     let (config, program) = (chosen.config, chosen.program);
     if line.links {

@@ -19,7 +19,8 @@ pub fn pipeline_text<A: Allocator + Clone>(
     line: PipelineLine<'_>,
 ) -> Result<Vec<u8, A>, Failure>
     ensures text { IfOk result (λ text. IsShown (RunView.Pipeline line.entry) (choice_of chosen.now) text.items) }
-    ensures failure { IfErr result (λ failure. IsNotShown failure (RunView.Pipeline line.entry) (choice_of chosen.now)) }
+    ensures failure { IfErr result
+        (λ failure. IsNotShown failure (RunView.Pipeline line.entry) (choice_of chosen.now)) }
 {
     let (from, steps) = (line.from, line.steps);
     if line.konata {

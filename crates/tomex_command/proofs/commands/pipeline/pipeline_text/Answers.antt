@@ -13,4 +13,5 @@ pub returns-in_err-pipeline_text-clause-failure : goal.returns-in_err-pipeline_t
 returns-in_err-pipeline_text-clause-failure g c =
     let p = err_from_is_err_and c.from_residual-in_err-pipeline_text.result
     c.from_residual-in_err-pipeline_text.ensures.1 in
-    rw (p.1) (undrawn c.args.line (choice_of c.args.chosen.now) _ p.0 c.in_err-pipeline_text.ensures.refused c.if-line.false p.2)
+    rw (p.1) (undrawn c.args.line (choice_of c.args.chosen.now) _ p.0 c.in_err-pipeline_text.ensures.refused
+    c.if-line.false p.2)
