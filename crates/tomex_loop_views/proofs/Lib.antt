@@ -1,0 +1,5 @@
+-- Lemmas of this crate.
+pub mod Places
+pub mod Moved
+pub mod Reading
+pub mod Paths

@@ -1,0 +1,11 @@
+pub mod Ways
+pub mod Stops
+pub mod Calls
+pub mod Places
+pub mod Given
+pub mod Comings
+pub mod Fresh
+pub mod Rounds
+pub mod Found
+pub mod Jumps
+pub mod Whole

@@ -1,0 +1,13 @@
+//! The loops of a run, found in its steps alone: no symbols, no graph of the program, no order of addresses, and no
+//! machine.
+//!
+//! `specs/Calls.antt` says how a run comes to each step, and `specs/Loops.antt` what a loop is.
+#![tactic(auto)]
+
+mod coming;
+mod finding;
+mod forest;
+mod loops;
+
+pub use coming::{Coming, Move};
+pub use loops::Loops;

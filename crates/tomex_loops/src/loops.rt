@@ -1,0 +1,79 @@
+//! The loops of a run.
+
+ghost use Rattle.std.specs.Prelude.{◌≡◌, ℕ, ◌^◌, ◌<◌, false, None, length, slice_index_or, IfOk};
+ghost use Rattle.tomex_loops.specs.Runs.{found_of, heads_of, heads_to};
+
+use crate::coming::comings;
+use crate::finding::find;
+use std::alloc::{AllocError, Allocator, Global};
+use std::marker::Model;
+use tomex_rvexec::Step;
+
+/// The loops of a run. A place, an address that the run came to, is named by the number of the first step there,
+/// counted from 0, and a loop by the place of its head.
+#[derive(Drop)]
+pub struct Loops<A: Allocator = Global> {
+    heads: Vec<u32, A>,
+    loops: Vec<Option<u32>, A>,
+}
+
+impl<A: Allocator> Model for Loops<A> {
+    ghost use Rattle.tomex_loops.specs.Runs.{Known};
+
+    ghost Value = { Known };
+
+    ghost view = { λ l. record { heads = l.heads.items; loops = l.loops.items } };
+}
+
+/// Those places that are heads.
+fn heads_to<A: Allocator>(alloc: A, heads: &[bool]) -> Result<Vec<u32, A>, AllocError>
+    requires { length heads.now < 2 ^ 32 }
+    ensures { IfOk result (λ v. v.items ≡ heads_to (λ x. slice_index_or heads.now x false) (length heads.now)) }
+{
+    let mut result = Vec::new(alloc);
+    for place in 0..heads.len() {
+        if heads[place] {
+            result.push(place as u32)?;
+        }
+    }
+    Ok(result)
+}
+
+impl<A: Allocator + Clone> Loops<A> {
+    /// The loops of a run with these steps.
+    ///
+    /// The work is linear in the steps, except for looking up the address of each in a map. Some 50 bytes a step are
+    /// used meanwhile.
+    pub fn of(alloc: A, steps: &[Step]) -> Result<Loops<A>, AllocError>
+        requires few { length steps.now < 2 ^ 28 }
+        ensures heads { IfOk result (λ l. l.heads ≡ heads_of steps.now) }
+        ensures many { IfOk result (λ l. length l.loops ≡ length steps.now) }
+        ensures loops { IfOk result (λ l. (x : ℕ) → x < length steps.now
+            → slice_index_or l.loops x None ≡ (found_of steps.now).loop x) }
+    {
+        let comings = comings(alloc.clone()?, steps)?;
+        let found = find(alloc.clone()?, &comings)?;
+        let heads = heads_to(alloc, &found.heads)?;
+        Ok(Loops {
+            heads,
+            loops: found.loops,
+        })
+    }
+}
+
+impl<A: Allocator> Loops<A> {
+    /// The heads of the loops, in the order in which the run first comes to them: that of the loop with number n stands
+    /// at n.
+    pub fn heads(&self) -> &[u32]
+        ensures { result.now ≡ self.now.heads }
+    {
+        self.heads.as_slice()
+    }
+
+    /// The head of each place's loop: for a head, that of the loop around.
+    pub fn loops(&self) -> &[Option<u32>]
+        ensures { result.now ≡ self.now.loops }
+    {
+        self.loops.as_slice()
+    }
+}
