@@ -3,3 +3,4 @@ pub mod Places
 pub mod Moved
 pub mod Reading
 pub mod Paths
+pub mod Arounds

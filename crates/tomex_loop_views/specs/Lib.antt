@@ -3,3 +3,6 @@
 pub mod Rounds
 pub mod Pattern
 pub mod PathCycles
+pub mod Charges
+pub mod Around
+pub mod Table

@@ -1,12 +1,23 @@
 //! The table of a run's loops.
 //!
-//! `specs/Rounds.antt` says what is counted of a loop's rounds, `specs/Pattern.antt` what they repeat.
+//! `specs/Rounds.antt` says what is counted of a loop's rounds, `specs/Pattern.antt` what they repeat, and
+//! `specs/Table.antt` what the table has of each loop.
 #![tactic(auto)]
 
+mod around;
+mod charges;
+mod extents;
+mod fields;
 mod path_cycles;
 mod pattern;
 mod rounds;
+mod row;
+mod table;
 
+pub use around::Around;
+pub use charges::Charge;
+pub use extents::Extent;
 pub use path_cycles::{path_cycles_add_up, path_cycles_of};
 pub use pattern::pattern_of;
 pub use rounds::{Counts, count_rounds};
+pub use row::{LoopRow, LoopSums, Rest, RestSums};

@@ -27,7 +27,7 @@ use tomex_rvdec::{PoolId, UnitId};
 use tomex_study::Program;
 
 /// The reasons, in the order of the report.
-const REASONS: [Reason; 18] = [
+pub const REASONS: [Reason; 18] = [
     Reason::For(Part::Stations(PoolId::Alu)),
     Reason::For(Part::Stations(PoolId::Mul)),
     Reason::For(Part::Stations(PoolId::Div)),
@@ -49,7 +49,7 @@ const REASONS: [Reason; 18] = [
 ];
 
 /// Adds a reason's name: that of a part is that of its column in the front report.
-fn push_name<A: Allocator>(text: &mut String<A>, reason: Reason) -> Result<(), AllocError>
+pub fn push_name_of_reason<A: Allocator>(text: &mut String<A>, reason: Reason) -> Result<(), AllocError>
     ensures { OnOk result (Appends (name_of_reason reason) text.old text.new) }
 {
     match reason {
@@ -74,7 +74,7 @@ pub fn push_reason(
     ensures whole { OnOk result (partial_of fields.new ≡ []) }
 {
     scratch.clear();
-    push_name(scratch, reason)?;
+    push_name_of_reason(scratch, reason)?;
     fields.push_field(scratch.as_bytes())
 }
 
