@@ -9,3 +9,6 @@ pub mod Rounds
 pub mod Found
 pub mod Jumps
 pub mod Whole
+pub mod Walking
+pub mod WalkSteps
+pub mod Agree
