@@ -5,9 +5,9 @@ use Rattle.std.proofs.Common.{[], ◌∷◌, ◌++◌, length, get_or, Option, S
 use Rattle.std.specs.Prelude.{IfSome, ◌||◌, ◌==◌}
 use Rattle.tomex_loops.specs.declared.coming.Coming.{Coming}
 use Rattle.tomex_loops.specs.declared.visit.Open.{Open}
-use Rattle.tomex_loops.specs.Calls.{moved}
 use Rattle.tomex_loops.specs.Loops.{Found, heads_around, heads_below, is_among, is_in_loop}
-use Rattle.tomex_loops.specs.Visits.{Walk, arrive, enter, go_round, leave, reach, still_open, walk_after, walk_on}
+use Rattle.tomex_loops.specs.Visits.{Walk, arrive, close, come, ending, enter, go_round, leave, reach, still_open}
+use Rattle.tomex_loops.specs.Visits.{walk_after, walk_on, walks_after}
 use Rattle.tomex_loops.specs.Visits.{walks_after}
 use Rattle.tomex_loops.proofs.Jumps.{below_more, heads_below_same}
 
@@ -47,14 +47,29 @@ module _ (n : ℕ) (f g : Found) (agree : Agree n f g) where
   arrive_same x w low = ap (λ (b : Bool). cond b (reach f.heads x w w.under_way.here) w) (agree.heads x low)
       ∙ ap (λ (u : Walk). cond (g.heads x) u w) (reach_same x w w.under_way.here low)
 
+  ending_same : (x : ℕ) (visits : List Open) → x < n → ending f.loop x visits ≡ ending g.loop x visits
+  ending_same x [] low = refl
+  ending_same x (v ∷ visits) low =
+      ap (λ (b : Bool). cond b [] (v ∷ ending f.loop x visits)) (in_same v.head x low)
+      ∙ ap (λ (ys : List Open). cond (is_in_loop g.loop v.head x) [] (v ∷ ys)) (ending_same x visits low)
+
   leave_same : (x : ℕ) (w : Walk) → x < n → leave f.loop x w ≡ leave g.loop x w
   leave_same x w low = ap (λ (ys : List Open).
-      let u : Walk = record w { under_way = record w.under_way { here = ys } } in u)
+      let u : Walk = record w {
+        under_way = record w.under_way { here = ys };
+        ends = close w.passed (ending f.loop x w.under_way.here) w.ends;
+      } in u)
       (open_same x w.under_way.here low)
+      ∙ ap (λ (ys : List Open).
+      let u : Walk = record w {
+        under_way = record w.under_way { here = still_open g.loop x w.under_way.here };
+        ends = close w.passed ys w.ends;
+      } in u)
+      (ending_same x w.under_way.here low)
 
   on_same : (w : Walk) (c : Coming) → c.place < n → walk_on f w c ≡ walk_on g w c
   on_same w c low =
-      let there : Walk = record w { under_way = moved c.by w.under_way } in
+      let there : Walk = come c.by w in
       ap (λ (u : Walk). let v : Walk = record (arrive f.heads c.place u) { passed = w.passed + 1 } in v)
       (leave_same c.place there low)
       ∙ ap (λ (u : Walk). let v : Walk = record u { passed = w.passed + 1 } in v)

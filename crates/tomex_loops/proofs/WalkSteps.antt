@@ -11,8 +11,8 @@ use Rattle.tomex_loops.specs.declared.visit.Visit.{Visit}
 use Rattle.tomex_loops.specs.declared.visiting.Walker.{Walker}
 use Rattle.tomex_loops.specs.Calls.{Calls, first_of}
 use Rattle.tomex_loops.specs.Loops.{Found, heads_below}
-use Rattle.tomex_loops.specs.Visits.{Walk, arrive, enter, go_round, innermost, leave, reach, still_open, walk_after}
-use Rattle.tomex_loops.specs.Visits.{walk_on, walks_after}
+use Rattle.tomex_loops.specs.Visits.{Walk, arrive, close, ending, enter, go_round, innermost, innermost_here, leave}
+use Rattle.tomex_loops.specs.Visits.{reach, still_open, walk_after, walk_on, walks_after}
 use Rattle.tomex_loops.specs.Walking.{IsWalking, ShowsWalk, begins_with}
 use Rattle.tomex_loops.specs.Ways.{around_in, calls_in}
 use Rattle.tomex_loops.proofs.Calls.{around_more, same_calls}
@@ -91,8 +91,9 @@ pub walks_more : (f : Found) (w : Walk) (comings : List Coming) (i : ℕ) (z : C
     ≡ walk_on f w (get_or comings i z) ∷ walks_after f (walk_on f w (get_or comings i z)) (drop (i + 1) comings)
 walks_more f w comings i z h = at_drop_more (λ (xs : List Coming). walks_after f w xs) comings i z h
 
-abbrev pub begun : ℕ → ℕ → Option ℕ → ℕ → Visit
-begun head number around first = record { head = head; number = number; around = around; first = first }
+abbrev pub begun : ℕ → ℕ → Option ℕ → Option ℕ → ℕ → Visit
+begun head number around within first =
+    record { head = head; number = number; around = around; within = within; first = first }
 
 abbrev pub gone_round : ℕ → ℕ → ℕ → Round
 gone_round visit from to = record { visit = visit; from = from; to = to }
@@ -108,31 +109,39 @@ calls_by s t xs base bases is =
     ∙ ap (λ (ys : List Open). calls_in reverse s.base (reverse s.bases.items) ys) is
 
 pub enter_shows : {A : Type 0} (heads : ℕ → Bool) (w : Walk) (s t : Walker A) (head number now count : ℕ)
-    (around : Option ℕ)
+    (around within : Option ℕ)
     → IsWalking s → ShowsWalk w s → number ≡ heads_below heads head → now ≡ w.passed → count ≡ length s.visits.items
     → around ≡ option_map (λ (v : Open). v.visit) (first_of (reverse s.under_way.items))
+    → within ≡ option_map (λ (v : Open). v.visit) (first_of (reverse (drop s.base s.under_way.items)))
     → t.base ≡ s.base → t.bases.items ≡ s.bases.items
     → t.under_way.items ≡ s.under_way.items ++ opened count head now ∷ []
-    → t.visits.items ≡ s.visits.items ++ begun head number around now ∷ [] → t.rounds.items ≡ s.rounds.items
+    → t.visits.items ≡ s.visits.items ++ begun head number around within now ∷ []
+    → t.ends.items ≡ s.ends.items ++ None ∷ [] → t.rounds.items ≡ s.rounds.items
     → ShowsWalk (enter heads head w) t
-enter_shows heads w s t head number now count around state shows is_number is_now is_count is_around base bases going
-    visits rounds =
+enter_shows heads w s t head number now count around within state shows is_number is_now is_count is_around is_within
+    base bases going visits ends rounds =
     let n : count ≡ length w.visits = is_count ∙ ap (λ (vs : List Visit). length vs) shows.visits in
     let one : opened count head now ≡ opened (length w.visits) head w.passed =
     ap (λ (k : ℕ). opened k head now) n ∙ ap (λ (k : ℕ). opened (length w.visits) head k) is_now in
     let out : around ≡ innermost w.under_way = is_around
     ∙ innermost_joined s.base (reverse s.bases.items) s.under_way.items w.under_way state.bases state.grounded state.low
     shows.under_way in
-    let visit : begun head number around now ≡ begun head (heads_below heads head) (innermost w.under_way) w.passed =
-    ap (λ (k : ℕ). begun head k around now) is_number
-    ∙ ap (λ (o : Option ℕ). begun head (heads_below heads head) o now) out
-    ∙ ap (λ (k : ℕ). begun head (heads_below heads head) (innermost w.under_way) k) is_now in
+    let inside : within ≡ innermost_here w.under_way =
+    is_within ∙ ap (λ (c : Calls Open). innermost_here c) shows.under_way in
+    let visit : begun head number around within now
+    ≡ begun head (heads_below heads head) (innermost w.under_way) (innermost_here w.under_way) w.passed =
+    ap (λ (k : ℕ). begun head k around within now) is_number
+    ∙ ap (λ (o : Option ℕ). begun head (heads_below heads head) o within now) out
+    ∙ ap (λ (o : Option ℕ). begun head (heads_below heads head) (innermost w.under_way) o now) inside
+    ∙ ap (λ (k : ℕ). begun head (heads_below heads head) (innermost w.under_way) (innermost_here w.under_way) k) is_now
+    in
     record {
       under_way = calls_by s t (s.under_way.items ++ opened count head now ∷ []) base bases going
           ∙ calls_push s.base (reverse s.bases.items) s.under_way.items (opened count head now)
           (opened (length w.visits) head w.passed) w.under_way state.low one shows.under_way;
-      visits = visits ∙ ap (λ (vs : List Visit). vs ++ begun head number around now ∷ []) shows.visits
+      visits = visits ∙ ap (λ (vs : List Visit). vs ++ begun head number around within now ∷ []) shows.visits
           ∙ ap (λ (v : Visit). w.visits ++ v ∷ []) visit;
+      ends = ends ∙ ap (λ (es : List (Option ℕ)). es ++ None ∷ []) shows.ends;
       rounds = rounds ∙ shows.rounds;
     }
 
@@ -141,9 +150,11 @@ pub go_round_shows : {A : Type 0} (w : Walk) (s t : Walker A) (v x : Open) (arou
     → s.base < length s.under_way.items → last + 1 ≡ length s.under_way.items → x ≡ get_or s.under_way.items last x
     → t.base ≡ s.base → t.bases.items ≡ s.bases.items
     → t.under_way.items ≡ set s.under_way.items last (opened x.visit x.head now)
-    → t.visits.items ≡ s.visits.items → t.rounds.items ≡ s.rounds.items ++ gone_round x.visit x.latest now ∷ []
+    → t.visits.items ≡ s.visits.items → t.ends.items ≡ s.ends.items
+    → t.rounds.items ≡ s.rounds.items ++ gone_round x.visit x.latest now ∷ []
     → ShowsWalk (go_round w v around) t
-go_round_shows w s t v x around now last state shows is_now here some n read base bases going visits rounds =
+go_round_shows w s t v x around now last state shows is_now here some n read base bases going visits
+    same_ends rounds =
     let front : List Open = take last s.under_way.items in
     let long : length (take last s.under_way.items) ≡ last = length-take-le last s.under_way.items (omega (arith, n)) in
     let split : s.under_way.items ≡ take last s.under_way.items ++ x ∷ [] = split_last s.under_way.items last x n
@@ -165,17 +176,21 @@ go_round_shows w s t v x around now last state shows is_now here some n read bas
           ∙ calls_push s.base (reverse s.bases.items) (take last s.under_way.items) (opened x.visit x.head now)
           (opened v.visit v.head w.passed) rest low one ends.1;
       visits = visits ∙ shows.visits;
+      ends = same_ends ∙ shows.ends;
       rounds = rounds ∙ ap (λ (rs : List Round). rs ++ gone_round x.visit x.latest now ∷ []) shows.rounds
           ∙ ap (λ (r : Round). w.rounds ++ r ∷ []) round;
     }
 
-pub leave_shows : {A : Type 0} (loop : ℕ → Option ℕ) (p : ℕ) (w : Walk) (s t : Walker A) → ShowsWalk w s
+pub leave_shows : {A : Type 0} (loop : ℕ → Option ℕ) (p now : ℕ) (w : Walk) (s t : Walker A) → now ≡ w.passed
+    → ShowsWalk w s
     → t.base ≡ s.base → t.bases.items ≡ s.bases.items
     → take s.base t.under_way.items ≡ take s.base s.under_way.items
     → reverse (drop s.base t.under_way.items) ≡ still_open loop p (reverse (drop s.base s.under_way.items))
-    → t.visits.items ≡ s.visits.items → t.rounds.items ≡ s.rounds.items
+    → t.visits.items ≡ s.visits.items
+    → t.ends.items ≡ close now (ending loop p (reverse (drop s.base s.under_way.items))) s.ends.items
+    → t.rounds.items ≡ s.rounds.items
     → ShowsWalk (leave loop p w) t
-leave_shows loop p w s t shows base bases around here visits rounds = record {
+leave_shows loop p now w s t is_now shows base bases around here visits ends rounds = record {
   under_way = calls_by s t t.under_way.items base bases refl
       ∙ same_calls (reverse (drop s.base t.under_way.items)) (still_open loop p w.under_way.here)
       (around_in reverse (reverse s.bases.items) (take s.base t.under_way.items)) w.under_way.around
@@ -183,5 +198,8 @@ leave_shows loop p w s t shows base bases around here visits rounds = record {
       (ap (λ (ys : List Open). around_in reverse (reverse s.bases.items) ys) around
       ∙ ap (λ (c : Calls Open). c.around) shows.under_way);
   visits = visits ∙ shows.visits;
+  ends = ends ∙ ap (λ (k : ℕ). close k (ending loop p (reverse (drop s.base s.under_way.items))) s.ends.items) is_now
+      ∙ ap (λ (c : Calls Open). close w.passed (ending loop p c.here) s.ends.items) shows.under_way
+      ∙ ap (λ (es : List (Option ℕ)). close w.passed (ending loop p w.under_way.here) es) shows.ends;
   rounds = rounds ∙ shows.rounds;
 }

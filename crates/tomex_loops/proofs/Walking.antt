@@ -39,7 +39,7 @@ pub innermost_joined : (base : ℕ) (bases : List ℕ) (xs : List Open) (calls :
     → option_map (λ (v : Open). v.visit) (first_of (reverse xs)) ≡ innermost calls
 innermost_joined base bases xs calls are ground low is =
     ap (λ (ys : List Open). option_map (λ (v : Open). v.visit) (first_of ys))
-        (sym (all_joined base bases xs are ground low))
+    (sym (all_joined base bases xs are ground low))
     ∙ ap (λ (c : Calls Open). innermost c) is
 
 -- where the calls' own begins after a return

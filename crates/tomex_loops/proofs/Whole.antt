@@ -7,8 +7,8 @@ use Rattle.tomex_rvexec.specs.declared.step.Step.{Step}
 use Rattle.tomex_loops.specs.declared.coming.Coming.{Coming}
 use Rattle.tomex_loops.specs.Calls.{comings_of}
 use Rattle.tomex_loops.specs.Loops.{found_in}
-use Rattle.tomex_loops.specs.Runs.{found_of, heads_of, heads_to, innermost_of, rounds_of, visits_of}
-use Rattle.tomex_loops.specs.Visits.{Walk, innermost, setting_out, walk_after, walks_after}
+use Rattle.tomex_loops.specs.Runs.{ends_of, found_of, heads_of, heads_to, here_of, innermost_of, rounds_of, visits_of}
+use Rattle.tomex_loops.specs.Visits.{Walk, innermost, innermost_here, setting_out, walk_after, walks_after}
 use Rattle.tomex_loops.specs.Walking.{found_by}
 use Rattle.tomex_loops.specs.Ways.{AreFound, AreLower}
 use Rattle.tomex_loops.proofs.Agree.{Agree, after_same, all_same}
@@ -93,11 +93,22 @@ module _ (steps : List Step) (comings : List Coming) (heads : List Bool) (loops 
   pub visits_whole : (walk_after (found_by heads loops) setting_out comings).visits ≡ visits_of steps
   visits_whole = ap (λ (w : Walk). w.visits) last
 
+  pub ends_whole : (walk_after (found_by heads loops) setting_out comings).ends ≡ ends_of steps
+  ends_whole = ap (λ (w : Walk). w.ends) last
+
   pub rounds_whole : (walk_after (found_by heads loops) setting_out comings).rounds ≡ rounds_of steps
   rounds_whole = ap (λ (w : Walk). w.rounds) last
 
+  walks : walks_after (found_by heads loops) setting_out comings
+      ≡ walks_after (found_of steps) setting_out (comings_of steps)
+  walks = sym (all_same (length comings) (found_in comings) (found_by heads loops) agree setting_out comings
+      whole.places)
+      ∙ ap (λ (cs : List Coming). walks_after (found_in cs) setting_out cs) whole.is
+
   pub innermost_whole : map (λ (w : Walk). innermost w.under_way)
       (walks_after (found_by heads loops) setting_out comings) ≡ innermost_of steps
-  innermost_whole = ap (λ (ws : List Walk). map (λ (w : Walk). innermost w.under_way) ws)
-      (sym (all_same (length comings) (found_in comings) (found_by heads loops) agree setting_out comings whole.places)
-      ∙ ap (λ (cs : List Coming). walks_after (found_in cs) setting_out cs) whole.is)
+  innermost_whole = ap (λ (ws : List Walk). map (λ (w : Walk). innermost w.under_way) ws) walks
+
+  pub here_whole : map (λ (w : Walk). innermost_here w.under_way)
+      (walks_after (found_by heads loops) setting_out comings) ≡ here_of steps
+  here_whole = ap (λ (ws : List Walk). map (λ (w : Walk). innermost_here w.under_way) ws) walks

@@ -5,7 +5,7 @@ use Rattle.tomex_loops.specs.declared.visit.Round.{Round}
 use Rattle.tomex_loops.specs.declared.visit.Visit.{Visit}
 use Rattle.tomex_loops.specs.Calls.{comings_of}
 use Rattle.tomex_loops.specs.Loops.{Found, found_in}
-use Rattle.tomex_loops.specs.Visits.{innermost, setting_out, walk_after, walks_after}
+use Rattle.tomex_loops.specs.Visits.{innermost, innermost_here, setting_out, walk_after, walks_after}
 
 abbrev pub found_of : List Step → Found
 found_of steps = found_in (comings_of steps)
@@ -23,6 +23,10 @@ heads_of steps = heads_to (found_of steps).heads (length steps)
 abbrev pub visits_of : List Step → List Visit
 visits_of steps = (walk_after (found_of steps) setting_out (comings_of steps)).visits
 
+-- the step before which each of them ends, if the run goes on after it
+abbrev pub ends_of : List Step → List (Option ℕ)
+ends_of steps = (walk_after (found_of steps) setting_out (comings_of steps)).ends
+
 -- all rounds, in the order in which they end: a round is an iteration that another one follows in the same visit
 abbrev pub rounds_of : List Step → List Round
 rounds_of steps = (walk_after (found_of steps) setting_out (comings_of steps)).rounds
@@ -32,10 +36,16 @@ rounds_of steps = (walk_after (found_of steps) setting_out (comings_of steps)).r
 abbrev pub innermost_of : List Step → List (Option ℕ)
 innermost_of steps = map (λ w. innermost w.under_way) (walks_after (found_of steps) setting_out (comings_of steps))
 
+-- and of its own call only
+abbrev pub here_of : List Step → List (Option ℕ)
+here_of steps = map (λ w. innermost_here w.under_way) (walks_after (found_of steps) setting_out (comings_of steps))
+
 -- what is known of a run's loops: their heads, the head of each place's loop, visits and rounds
 pub record Known : Type 0 where
   pub heads : List ℕ
   pub loops : List (Option ℕ)
   pub visits : List Visit
+  pub ends : List (Option ℕ)
   pub innermost : List (Option ℕ)
+  pub here : List (Option ℕ)
   pub rounds : List Round

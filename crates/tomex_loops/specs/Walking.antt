@@ -19,6 +19,7 @@ pub record IsWalking {A : Type 0} (s : Walker A) : Type 0 where
 pub record ShowsWalk {A : Type 0} (w : Walk) (s : Walker A) : Type 0 where
   pub under_way : calls_in reverse s.base (reverse s.bases.items) s.under_way.items ≡ w.under_way
   pub visits : s.visits.items ≡ w.visits
+  pub ends : s.ends.items ≡ w.ends
   pub rounds : s.rounds.items ≡ w.rounds
 
 -- the first of some visits is of the loop with this head

@@ -1,7 +1,8 @@
 //! The loops of a run.
 
 ghost use Rattle.std.specs.Prelude.{◌≡◌, ℕ, ◌^◌, ◌<◌, false, None, length, slice_index_or, IfOk};
-ghost use Rattle.tomex_loops.specs.Runs.{found_of, heads_of, heads_to, innermost_of, rounds_of, visits_of};
+ghost use Rattle.tomex_loops.specs.Runs.{ends_of, found_of, heads_of, heads_to, here_of, innermost_of, rounds_of};
+ghost use Rattle.tomex_loops.specs.Runs.{visits_of};
 
 use crate::coming::comings;
 use crate::finding::find;
@@ -19,7 +20,9 @@ pub struct Loops<A: Allocator = Global> {
     heads: Vec<u32, A>,
     loops: Vec<Option<u32>, A>,
     visits: Vec<Visit, A>,
+    ends: Vec<Option<u32>, A>,
     innermost: Vec<Option<u32>, A>,
+    here: Vec<Option<u32>, A>,
     rounds: Vec<Round, A>,
 }
 
@@ -32,7 +35,9 @@ impl<A: Allocator> Model for Loops<A> {
       heads = l.heads.items;
       loops = l.loops.items;
       visits = l.visits.items;
+      ends = l.ends.items;
       innermost = l.innermost.items;
+      here = l.here.items;
       rounds = l.rounds.items;
     } };
 }
@@ -63,7 +68,9 @@ impl<A: Allocator + Clone> Loops<A> {
         ensures loops { IfOk result (λ l. (x : ℕ) → x < length steps.now
             → slice_index_or l.loops x None ≡ (found_of steps.now).loop x) }
         ensures visits { IfOk result (λ l. l.visits ≡ visits_of steps.now) }
+        ensures ends { IfOk result (λ l. l.ends ≡ ends_of steps.now) }
         ensures innermost { IfOk result (λ l. l.innermost ≡ innermost_of steps.now) }
+        ensures here { IfOk result (λ l. l.here ≡ here_of steps.now) }
         ensures rounds { IfOk result (λ l. l.rounds ≡ rounds_of steps.now) }
     {
         let comings = comings(alloc.clone()?, steps)?;
@@ -75,7 +82,9 @@ impl<A: Allocator + Clone> Loops<A> {
             heads,
             loops: forest.loops,
             visits: walker.visits,
+            ends: walker.ends,
             innermost: walker.innermost,
+            here: walker.here,
             rounds: walker.rounds,
         })
     }
@@ -104,12 +113,26 @@ impl<A: Allocator> Loops<A> {
         self.visits.as_slice()
     }
 
+    /// The step before which each visit ends; `None` if the run ends in it.
+    pub fn ends(&self) -> &[Option<u32>]
+        ensures { result.now ≡ self.now.ends }
+    {
+        self.ends.as_slice()
+    }
+
     /// The number of the innermost visit of each step, in its own call or else in the latest of the calls around that
     /// has one. A step begins an iteration of that visit if it is at its head.
     pub fn innermost(&self) -> &[Option<u32>]
         ensures { result.now ≡ self.now.innermost }
     {
         self.innermost.as_slice()
+    }
+
+    /// The same in its own call only.
+    pub fn here(&self) -> &[Option<u32>]
+        ensures { result.now ≡ self.now.here }
+    {
+        self.here.as_slice()
     }
 
     /// The rounds of all visits, in the order in which they end.

@@ -9,6 +9,8 @@ pub struct Visit {
     pub number: u32,
     /// The number of the innermost visit around it as it begins, in the same call or in one further out.
     pub around: Option<u32>,
+    /// The same in its own call only.
+    pub within: Option<u32>,
     /// The step with which it begins.
     pub first: u32,
 }

@@ -4,7 +4,7 @@ use Rattle.std.proofs.Common.{refl, sym}
 use Rattle.tomex_loops.specs.declared.coming.Coming.{Coming}
 use Rattle.tomex_loops.specs.declared.coming.Move.TheVariants.{On}
 use Rattle.tomex_loops.specs.Loops.{Found}
-use Rattle.tomex_loops.specs.Visits.{Walk, innermost, setting_out, walk_after, walk_on, walks_after}
+use Rattle.tomex_loops.specs.Visits.{Walk, innermost, innermost_here, setting_out, walk_after, walk_on, walks_after}
 use Rattle.tomex_loops.specs.Walking.{found_by}
 use Rattle.tomex_loops.proofs.WalkSteps.{walk_more, walks_more}
 use Rattle.tomex_loops.proofs.visiting.walk.Goals as goal
@@ -22,11 +22,13 @@ loop-now-init g c = record {
     record {
       under_way = rw (c.new.ensures.items, c.new-2.ensures.items) refl;
       visits = c.new-3.ensures.items;
-      rounds = c.new-4.ensures.items;
+      ends = c.new-4.ensures.items;
+      rounds = c.new-5.ensures.items;
     },
     refl,
     refl,
-    rw c.new-5.ensures.items refl,
+    rw c.new-6.ensures.items refl,
+    rw c.new-7.ensures.items refl,
   );
 }
 
@@ -55,5 +57,13 @@ loop-now-preserved g c =
             ++ map (λ (u : Walk). innermost u.under_way) us)
             (walks_more f w c.args.comings.now c.loop-now.now z c.loop-now-test.true))
             ∙ was.4,
+        ap (λ (os : List (Option ℕ)). os ++ map (λ (u : Walk). innermost_here u.under_way) rest)
+            (c.in_ok-walk_on.ensures.here w (sym was.2) was.1)
+            ∙ append_assoc c.loop-now.walker.here.items (innermost_here (walk_on f w x).under_way ∷ [])
+            (map (λ (u : Walk). innermost_here u.under_way) rest)
+            ∙ sym (ap (λ (us : List Walk). c.loop-now.walker.here.items
+            ++ map (λ (u : Walk). innermost_here u.under_way) us)
+            (walks_more f w c.args.comings.now c.loop-now.now z c.loop-now-test.true))
+            ∙ was.5,
       );
     }

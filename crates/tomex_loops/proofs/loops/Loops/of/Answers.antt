@@ -3,9 +3,10 @@ use Rattle.std.proofs.Common.{◌≡◌, ◌∙◌, ◌<◌, ℕ, Bool, List, ap
 use Rattle.tomex_loops.specs.declared.coming.Coming.{Coming}
 use Rattle.tomex_loops.specs.Loops.{found_in}
 use Rattle.tomex_loops.specs.Runs.{heads_to}
-use Rattle.tomex_loops.specs.Visits.{Walk, innermost, setting_out, walk_after, walks_after}
+use Rattle.tomex_loops.specs.Visits.{Walk, innermost, innermost_here, setting_out, walk_after, walks_after}
 use Rattle.tomex_loops.specs.Walking.{found_by}
-use Rattle.tomex_loops.proofs.Whole.{AreWhole, are_whole, heads_whole, innermost_whole, rounds_whole, visits_whole}
+use Rattle.tomex_loops.proofs.Whole.{AreWhole, are_whole, ends_whole, heads_whole, here_whole, innermost_whole}
+use Rattle.tomex_loops.proofs.Whole.{rounds_whole, visits_whole}
 use Rattle.tomex_loops.proofs.loops.Loops.of.Given.{Over}
 use Rattle.tomex_loops.proofs.loops.Loops.of.Goals.{In_ok-forest}
 use Rattle.tomex_loops.proofs.loops.Loops.of.Goals as goal
@@ -53,6 +54,14 @@ returns-clause-visits g c =
     ∙ visits_whole c.args.steps.now c.in_ok-comings.comings.items c.in_ok-forest.forest.heads.items
     c.in_ok-forest.forest.loops.items (whole g (goal.at.returns-clause-visits g c).In_ok-forest)
 
+pub returns-clause-ends : goal.returns-clause-ends
+returns-clause-ends g c =
+    c.in_ok-walker.ensures.ends
+    ∙ ap (λ (cs : List Coming). (walk_after (found_by c.in_ok-forest.forest.heads.items
+    c.in_ok-forest.forest.loops.items) setting_out cs).ends) c.deref-2.ensures.value
+    ∙ ends_whole c.args.steps.now c.in_ok-comings.comings.items c.in_ok-forest.forest.heads.items
+    c.in_ok-forest.forest.loops.items (whole g (goal.at.returns-clause-ends g c).In_ok-forest)
+
 pub returns-clause-innermost : goal.returns-clause-innermost
 returns-clause-innermost g c =
     c.in_ok-walker.ensures.innermost
@@ -60,6 +69,14 @@ returns-clause-innermost g c =
     c.in_ok-forest.forest.heads.items c.in_ok-forest.forest.loops.items) setting_out cs)) c.deref-2.ensures.value
     ∙ innermost_whole c.args.steps.now c.in_ok-comings.comings.items c.in_ok-forest.forest.heads.items
     c.in_ok-forest.forest.loops.items (whole g (goal.at.returns-clause-innermost g c).In_ok-forest)
+
+pub returns-clause-here : goal.returns-clause-here
+returns-clause-here g c =
+    c.in_ok-walker.ensures.here
+    ∙ ap (λ (cs : List Coming). map (λ (w : Walk). innermost_here w.under_way) (walks_after (found_by
+    c.in_ok-forest.forest.heads.items c.in_ok-forest.forest.loops.items) setting_out cs)) c.deref-2.ensures.value
+    ∙ here_whole c.args.steps.now c.in_ok-comings.comings.items c.in_ok-forest.forest.heads.items
+    c.in_ok-forest.forest.loops.items (whole g (goal.at.returns-clause-here g c).In_ok-forest)
 
 pub returns-clause-rounds : goal.returns-clause-rounds
 returns-clause-rounds g c =

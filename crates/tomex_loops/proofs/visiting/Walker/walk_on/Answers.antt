@@ -1,11 +1,12 @@
 -- The move, the visits that end, and the arrival.
-use Rattle.std.proofs.Common.{◌≡◌, ◌∙◌, ◌<◌, ◌++◌, ◌∷◌, [], ℕ, List, Option, ap, arith, false, get_or, length, reverse}
+use Rattle.std.proofs.Common.{◌≡◌, ◌∙◌, ◌<◌, ◌++◌, ◌∷◌, [], ℕ, List, Option, ap, arith, drop, false, get_or, length}
+use Rattle.std.proofs.Common.{reverse}
 use Rattle.std.specs.Option.{option_map}
 use Rattle.std.proofs.lemmas.List.{get_or_read}
 use Rattle.tomex_loops.specs.declared.visit.Open.{Open}
-use Rattle.tomex_loops.specs.Calls.{first_of, moved}
+use Rattle.tomex_loops.specs.Calls.{Calls, first_of}
 use Rattle.tomex_loops.specs.Loops.{heads_below}
-use Rattle.tomex_loops.specs.Visits.{Walk, arrive, innermost, leave}
+use Rattle.tomex_loops.specs.Visits.{Walk, arrive, come, innermost, innermost_here, leave}
 use Rattle.tomex_loops.specs.Walking.{ShowsWalk}
 use Rattle.tomex_loops.specs.Ways.{loop_in}
 use Rattle.tomex_loops.proofs.Walking.{innermost_joined}
@@ -13,7 +14,7 @@ use Rattle.tomex_loops.proofs.visiting.Walker.walk_on.Goals as goal
 
 pub returns-clause-shows : goal.returns-clause-shows
 returns-clause-shows g c = λ w is_now shows.
-    let there : Walk = record w { under_way = moved c.args.coming.by w.under_way } in
+    let there : Walk = come c.args.coming.by w in
     let left : Walk = leave (loop_in c.args.forest.now.loops.items) c.args.coming.place there in
     let inside : c.args.coming.place < length c.args.forest.now.heads.items =
     omega (arith, c.requires.place, c.requires.forest.many_heads) in
@@ -25,12 +26,12 @@ returns-clause-shows g c = λ w is_now shows.
     (omega (arith, c.requires.place, c.requires.forest.many_numbers)) c.index-2.ensures 0
     ∙ c.requires.forest.numbers c.args.coming.place inside in
     let s = c.in_ok-arrive.ensures.shows (λ y. get_or c.args.forest.now.heads.items y false) left is_head number is_now
-    (c.leave_loops.ensures.shows there (c.in_ok-go.ensures.shows w shows)) in
-    record { under_way = s.under_way; visits = s.visits; rounds = s.rounds }
+    (c.leave_loops.ensures.shows there is_now (c.in_ok-go.ensures.shows w is_now shows)) in
+    record { under_way = s.under_way; visits = s.visits; ends = s.ends; rounds = s.rounds }
 
 pub returns-clause-innermost : goal.returns-clause-innermost
 returns-clause-innermost g c = λ w is_now shows.
-    let there : Walk = record w { under_way = moved c.args.coming.by w.under_way } in
+    let there : Walk = come c.args.coming.by w in
     let left : Walk = leave (loop_in c.args.forest.now.loops.items) c.args.coming.place there in
     let inside : c.args.coming.place < length c.args.forest.now.heads.items =
     omega (arith, c.requires.place, c.requires.forest.many_heads) in
@@ -42,7 +43,7 @@ returns-clause-innermost g c = λ w is_now shows.
     (omega (arith, c.requires.place, c.requires.forest.many_numbers)) c.index-2.ensures 0
     ∙ c.requires.forest.numbers c.args.coming.place inside in
     let s = c.in_ok-arrive.ensures.shows (λ y. get_or c.args.forest.now.heads.items y false) left is_head number is_now
-    (c.leave_loops.ensures.shows there (c.in_ok-go.ensures.shows w shows)) in
+    (c.leave_loops.ensures.shows there is_now (c.in_ok-go.ensures.shows w is_now shows)) in
     let after : Walk = arrive (λ y. get_or c.args.forest.now.heads.items y false) c.args.coming.place left in
     let inner : c.innermost_of-innermost.result ≡ innermost after.under_way = c.innermost_of-innermost.ensures
     ∙ ap (λ (ys : List Open). option_map (λ (v : Open). v.visit) (first_of (reverse ys))) c.deref.ensures.value
@@ -53,3 +54,28 @@ returns-clause-innermost g c = λ w is_now shows.
     ∙ ap (λ (xs : List (Option ℕ)). xs ++ c.innermost_of-innermost.result ∷ [])
     (c.in_ok-arrive.ensures.innermost ∙ c.leave_loops.ensures.innermost ∙ c.in_ok-go.ensures.innermost)
     ∙ ap (λ (o : Option ℕ). c.args.self.now.innermost.items ++ o ∷ []) inner
+
+pub returns-clause-here : goal.returns-clause-here
+returns-clause-here g c = λ w is_now shows.
+    let there : Walk = come c.args.coming.by w in
+    let left : Walk = leave (loop_in c.args.forest.now.loops.items) c.args.coming.place there in
+    let inside : c.args.coming.place < length c.args.forest.now.heads.items =
+    omega (arith, c.requires.place, c.requires.forest.many_heads) in
+    let is_head : c.index.result.now ≡ get_or c.args.forest.now.heads.items c.args.coming.place false =
+    get_or_read c.args.forest.now.heads.items c.args.coming.place c.index.result.now inside c.index.ensures false in
+    let number : c.index-2.result.now
+    ≡ heads_below (λ y. get_or c.args.forest.now.heads.items y false) c.args.coming.place =
+    get_or_read c.args.forest.now.numbers.items c.args.coming.place c.index-2.result.now
+    (omega (arith, c.requires.place, c.requires.forest.many_numbers)) c.index-2.ensures 0
+    ∙ c.requires.forest.numbers c.args.coming.place inside in
+    let s = c.in_ok-arrive.ensures.shows (λ y. get_or c.args.forest.now.heads.items y false) left is_head number is_now
+    (c.leave_loops.ensures.shows there is_now (c.in_ok-go.ensures.shows w is_now shows)) in
+    let after : Walk = arrive (λ y. get_or c.args.forest.now.heads.items y false) c.args.coming.place left in
+    let inner : c.innermost_here-here.result ≡ innermost_here after.under_way = c.innermost_here-here.ensures
+    ∙ ap (λ (ys : List Open). option_map (λ (v : Open). v.visit) (first_of (reverse (drop c.arrive.new.self.base ys))))
+    c.deref-2.ensures.value
+    ∙ ap (λ (calls : Calls Open). innermost_here calls) s.under_way in
+    c.in_ok-push-2.ensures.items
+    ∙ ap (λ (xs : List (Option ℕ)). xs ++ c.innermost_here-here.result ∷ [])
+    (c.in_ok-arrive.ensures.here ∙ c.leave_loops.ensures.here ∙ c.in_ok-go.ensures.here)
+    ∙ ap (λ (o : Option ℕ). c.args.self.now.here.items ++ o ∷ []) inner
