@@ -12,3 +12,4 @@ pub mod Whole
 pub mod Walking
 pub mod WalkSteps
 pub mod Agree
+pub mod Sound

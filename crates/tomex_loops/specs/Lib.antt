@@ -7,3 +7,4 @@ pub mod Runs
 pub mod Places
 pub mod Ways
 pub mod Jumps
+pub mod Sound

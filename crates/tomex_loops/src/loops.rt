@@ -3,6 +3,7 @@
 ghost use Rattle.std.specs.Prelude.{◌≡◌, ℕ, ◌^◌, ◌<◌, false, None, length, slice_index_or, IfOk};
 ghost use Rattle.tomex_loops.specs.Runs.{ends_of, found_of, heads_of, heads_to, here_of, innermost_of, rounds_of};
 ghost use Rattle.tomex_loops.specs.Runs.{visits_of};
+ghost use Rattle.tomex_loops.specs.Sound.{AreSound};
 
 use crate::coming::comings;
 use crate::finding::find;
@@ -72,6 +73,7 @@ impl<A: Allocator + Clone> Loops<A> {
         ensures innermost { IfOk result (λ l. l.innermost ≡ innermost_of steps.now) }
         ensures here { IfOk result (λ l. l.here ≡ here_of steps.now) }
         ensures rounds { IfOk result (λ l. l.rounds ≡ rounds_of steps.now) }
+        ensures sound { IfOk result (λ l. AreSound (length steps.now) l) }
     {
         let comings = comings(alloc.clone()?, steps)?;
         let found = find(alloc.clone()?, &comings)?;

@@ -1,10 +1,11 @@
 -- What is found in the run's comings is what is found in the run.
-use Rattle.std.proofs.Common.{◌≡◌, ◌∙◌, ◌<◌, ℕ, Bool, List, ap, arith, false, get_or, length, map, subst, sym}
+use Rattle.std.proofs.Common.{◌∙◌, ◌<◌, ℕ, Bool, List, ap, arith, false, get_or, length, map, subst, sym}
 use Rattle.tomex_loops.specs.declared.coming.Coming.{Coming}
 use Rattle.tomex_loops.specs.Loops.{found_in}
 use Rattle.tomex_loops.specs.Runs.{heads_to}
 use Rattle.tomex_loops.specs.Visits.{Walk, innermost, innermost_here, setting_out, walk_after, walks_after}
 use Rattle.tomex_loops.specs.Walking.{found_by}
+use Rattle.tomex_loops.proofs.Sound.{are_sound}
 use Rattle.tomex_loops.proofs.Whole.{AreWhole, are_whole, ends_whole, heads_whole, here_whole, innermost_whole}
 use Rattle.tomex_loops.proofs.Whole.{rounds_whole, visits_whole}
 use Rattle.tomex_loops.proofs.loops.Loops.of.Given.{Over}
@@ -85,3 +86,13 @@ returns-clause-rounds g c =
     c.in_ok-forest.forest.loops.items) setting_out cs).rounds) c.deref-2.ensures.value
     ∙ rounds_whole c.args.steps.now c.in_ok-comings.comings.items c.in_ok-forest.forest.heads.items
     c.in_ok-forest.forest.loops.items (whole g (goal.at.returns-clause-rounds g c).In_ok-forest)
+
+pub returns-clause-sound : goal.returns-clause-sound
+returns-clause-sound g c =
+    let w = whole g (goal.at.returns-clause-sound g c).In_ok-forest in
+    are_sound c.args.steps.now _ _ _ _ _ _ _ (ap (λ (cs : List Coming). length cs) (sym w.is) ∙ w.many)
+    (subst (λ (cs : List Coming). (k : ℕ) (z : Coming) → k < length cs
+    → (get_or cs k z).place < length c.args.steps.now) w.is
+    (λ k z h. let low = w.places k z h in omega (arith, low, w.many)))
+    (returns-clause-heads g c) (returns-clause-visits g c) (returns-clause-ends g c) (returns-clause-innermost g c)
+    (returns-clause-here g c) (returns-clause-rounds g c)
