@@ -10,7 +10,7 @@ use Rattle.tomex_loops.specs.Loops.{heads_around, heads_below, is_among, is_in_l
 use Rattle.tomex_loops.specs.Ways.{AreLower, loop_in}
 
 module _ (loop : ℕ → Option ℕ) (lower : (x : ℕ) → IfSome (loop x) (λ h. h < x)) where
-  below_more : (h n : ℕ) (o : Option ℕ) → IfSome o (λ k. k < h) → h ≤ n → IfSome o (λ k. k < n)
+  pub below_more : (h n : ℕ) (o : Option ℕ) → IfSome o (λ k. k < h) → h ≤ n → IfSome o (λ k. k < n)
   below_more h n None low le = tt
   below_more h n (Some k) low le = omega (arith, low, le)
 

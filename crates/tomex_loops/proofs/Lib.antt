@@ -9,3 +9,7 @@ pub mod Rounds
 pub mod Found
 pub mod Jumps
 pub mod Whole
+pub mod Walking
+pub mod WalkSteps
+pub mod Agree
+pub mod Sound

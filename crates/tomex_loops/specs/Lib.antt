@@ -1,7 +1,10 @@
 -- The definitions that contracts cite: how a run comes to each step, its loops, and the code's own words.
 pub mod Calls
 pub mod Loops
+pub mod Visits
+pub mod Walking
 pub mod Runs
 pub mod Places
 pub mod Ways
 pub mod Jumps
+pub mod Sound

@@ -8,6 +8,9 @@ mod coming;
 mod finding;
 mod forest;
 mod loops;
+mod visit;
+mod visiting;
 
 pub use coming::{Coming, Move};
 pub use loops::Loops;
+pub use visit::{Open, Round, Visit};
