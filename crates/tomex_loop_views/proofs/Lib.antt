@@ -4,3 +4,7 @@ pub mod Moved
 pub mod Reading
 pub mod Paths
 pub mod Arounds
+pub mod Grouping
+pub mod Longer
+pub mod Spanned
+pub mod RowsOrder

@@ -137,7 +137,7 @@ pub(crate) fn push_pattern(
 ) -> Result<(), AllocError>
     requires { partial_of fields.old ≡ [] }
     ensures fields { OnOk result (fields_of fields.new
-        ≡ fields_of fields.old ++ pattern_text (option_map (λ counts. counts.now) pattern) ∷ []) }
+        ≡ fields_of fields.old ++ pattern_text (option_map (λ counts. counts.now) pattern.entry) ∷ []) }
     ensures whole { OnOk result (partial_of fields.new ≡ []) }
 {
     let Some(counts) = pattern else {
