@@ -8,3 +8,6 @@ pub mod Grouping
 pub mod Longer
 pub mod Spanned
 pub mod RowsOrder
+pub mod Insertion
+pub mod Chains
+pub mod Joining

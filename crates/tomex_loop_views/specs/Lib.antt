@@ -10,4 +10,7 @@ pub mod Longest
 pub mod Spans
 pub mod ByLoop
 pub mod OfLoop
+pub mod Extents
+pub mod PlaceOf
 pub mod Table
+pub mod LoopsReport

@@ -1,10 +1,11 @@
 -- The table of a run's loops: a record for each loop, those with the most cycles of their own first, one for the steps
 -- outside of all loops, and one for the whole run.
 use Rattle.std.specs.Prelude.{ℕ, ◌+◌, ◌<◌, ◌≡◌, ◌==◌, nat_lt, Bool, false, ◌&&◌, ◌||◌, List, [], ◌∷◌, ◌++◌, codes}
-use Rattle.std.specs.Prelude.{Option, Some, None, length, map, replicate, slice_index_or}
+use Rattle.std.specs.Prelude.{Option, Some, None, length, replicate, slice_index_or}
 use Rattle.std.specs.Option.{option_map}
 use Rattle.std.specs.List.{flat_map}
 use Rattle.std.specs.Fmt.{decimal}
+use Rattle.std.specs.declared.cmp.Reverse.{Reverse}
 use Rattle.tomex_rvexec.specs.Texts.{hex8}
 use Rattle.tomex_layout.specs.Csv.{record_text}
 use Rattle.tomex_functions.specs.ShownNames.{name_field}
@@ -19,22 +20,22 @@ use Rattle.tomex_loop_views.specs.declared.row.LoopSums.{LoopSums}
 use Rattle.tomex_loop_views.specs.declared.row.Rest.{Rest}
 use Rattle.tomex_loop_views.specs.declared.row.RestSums.{RestSums}
 
--- texts with a space between them, and a dash if there is none
-abbrev pub spaced : List (List ℕ) → List ℕ
-spaced [] = codes "-"
-spaced (x ∷ xs) = x ++ flat_map (λ y. codes " " ++ y) xs
+-- the texts of some things with a space between them, and a dash if there is none
+abbrev pub spaced : {X : Type 0} → (X → List ℕ) → List X → List ℕ
+spaced text [] = codes "-"
+spaced text (x ∷ xs) = text x ++ flat_map (λ y. codes " " ++ text y) xs
 
 -- the cycles of a path for a reason
 abbrev pub charge_text : Charge → List ℕ
 charge_text c = name_of_reason c.reason ++ codes "=" ++ decimal c.cycles
 
 abbrev pub path_text : List Charge → List ℕ
-path_text charges = spaced (map charge_text charges)
+path_text charges = spaced charge_text charges
 
 -- the counts that rounds repeat
 abbrev pub pattern_text : Option (List ℕ) → List ℕ
 pattern_text None = codes "-"
-pattern_text (Some counts) = spaced (map decimal counts)
+pattern_text (Some counts) = spaced decimal counts
 
 -- the head of the loop around
 abbrev pub around_text : Around → List ℕ
@@ -116,3 +117,7 @@ line_of row =
 
 abbrev pub rest_of : Rest → RestLine
 rest_of rest = record { sums = rest.sums; path = rest.path.now }
+
+-- what rows are ordered by: the cycles of the loop itself, the most first, and its head
+abbrev pub key_of : LoopRow → Reverse ℕ × ℕ
+key_of row = (record { 0 = row.sums.own }, row.sums.head)

@@ -20,7 +20,7 @@ mod visited;
 
 pub use around::{Around, around_of};
 pub use charges::Charge;
-pub use extents::Extent;
+pub use extents::{Extent, extents_of};
 pub use groups::grouped;
 pub use longest::longest_of;
 pub use path_cycles::{path_cycles_add_up, path_cycles_of};
