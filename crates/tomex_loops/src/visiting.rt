@@ -1,8 +1,7 @@
 //! The walk through a run's visits.
 
 ghost use Rattle.std.specs.Prelude.{◌≡◌, ℕ, ◌+◌, ◌-◌, ◌^◌, ◌<◌, ◌≤◌, [], ◌∷◌, ◌++◌, List, Option, length, map, take};
-ghost use Rattle.std.specs.Prelude.{drop, reverse};
-ghost use Rattle.std.specs.Prelude.{Bool, IfOk, slice_index_or};
+ghost use Rattle.std.specs.Prelude.{drop, reverse, Bool, IfOk, slice_index_or};
 ghost use Rattle.std.specs.Option.{option_map};
 ghost use Rattle.tomex_loops.specs.declared.coming.Coming.{Coming};
 ghost use Rattle.tomex_loops.specs.declared.visit.Open.{Open};
@@ -10,8 +9,8 @@ ghost use Rattle.tomex_loops.specs.Calls.{first_of, moved};
 ghost use Rattle.tomex_loops.specs.Jumps.{AreJumps, IsForest};
 ghost use Rattle.tomex_loops.specs.Loops.{heads_below};
 ghost use Rattle.tomex_loops.specs.Ways.{AreLower, loop_in};
-ghost use Rattle.tomex_loops.specs.Visits.{Walk, arrive, enter, go_round, innermost, leave, setting_out};
-ghost use Rattle.tomex_loops.specs.Visits.{still_open, walk_after, walk_on, walks_after};
+ghost use Rattle.tomex_loops.specs.Visits.{Walk, arrive, enter, go_round, innermost, leave, setting_out, still_open};
+ghost use Rattle.tomex_loops.specs.Visits.{walk_after, walk_on, walks_after};
 ghost use Rattle.tomex_loops.specs.Walking.{IsWalking, ShowsWalk, begins_with, found_by};
 
 use crate::coming::{Coming, Move};

@@ -1,5 +1,5 @@
 -- What is found in the run's comings is what is found in the run.
-use Rattle.std.proofs.Common.{◌≡◌, ◌∙◌, ◌<◌, ℕ, Bool, List, ap, arith, false, get_or, length, map, subst, sym}
+use Rattle.std.proofs.Common.{◌∙◌, ◌<◌, ℕ, Bool, List, ap, arith, false, get_or, length, map, subst, sym}
 use Rattle.tomex_loops.specs.declared.coming.Coming.{Coming}
 use Rattle.tomex_loops.specs.Loops.{found_in}
 use Rattle.tomex_loops.specs.Runs.{heads_to}
