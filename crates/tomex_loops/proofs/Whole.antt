@@ -1,7 +1,6 @@
 -- The heads, visits and rounds that are found are those that are defined.
 use Rattle.std.proofs.Common.{ℕ, zero, suc, ◌+◌, ◌<◌, ◌≡◌, ◌∙◌, ap, arith, cond, Bool, false, List, [], ◌∷◌, ◌++◌}
-use Rattle.std.proofs.Common.{length, get_or}
-use Rattle.std.proofs.Common.{add-one, map, refl, subst, sym, true, Option}
+use Rattle.std.proofs.Common.{length, get_or, add-one, map, refl, subst, sym, true, Option}
 use Rattle.std.proofs.lemmas.List.{append-nil}
 use Rattle.tomex_rvexec.specs.declared.step.Step.{Step}
 use Rattle.tomex_loops.specs.declared.coming.Coming.{Coming}
@@ -45,7 +44,8 @@ heads_no heads n old was is = was ∙ sym (heads_more heads n
     ∙ append-nil (heads_to (λ x. get_or heads x false) n))
 
 -- a run's comings, with the heads and loops that are found in them
-pub record AreWhole (steps : List Step) (comings : List Coming) (heads : List Bool) (loops : List (Option ℕ)) : Type 0 where
+pub record AreWhole (steps : List Step) (comings : List Coming) (heads : List Bool)
+    (loops : List (Option ℕ)) : Type 0 where
   pub is : comings ≡ comings_of steps
   pub many : length comings ≡ length steps
   pub places : (k : ℕ) (z : Coming) → k < length comings → (get_or comings k z).place < length comings

@@ -1,5 +1,5 @@
 -- Before the first step, and one more.
-use Rattle.std.proofs.Common.{◌≡◌, ◌∙◌, ◌+◌, ◌++◌, ◌∷◌, [], ℕ, List, Option, ap, append_assoc, arith, drop, get_or, map}
+use Rattle.std.proofs.Common.{◌∙◌, ◌+◌, ◌++◌, ◌∷◌, [], ℕ, List, Option, ap, append_assoc, arith, drop, get_or, map}
 use Rattle.std.proofs.Common.{refl, sym}
 use Rattle.tomex_loops.specs.declared.coming.Coming.{Coming}
 use Rattle.tomex_loops.specs.declared.coming.Move.TheVariants.{On}
