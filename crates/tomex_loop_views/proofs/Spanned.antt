@@ -1,5 +1,6 @@
 -- One more span: it adds the numbers of those of its steps that no earlier span with its key has.
-use Rattle.std.proofs.Common.{ℕ, zero, suc, ◌+◌, ◌-◌, ◌<◌, ◌≤◌, ◌≡◌, ◌∙◌, Bool, true, false, arith, refl, sym, ap, inl, inr}
+use Rattle.std.proofs.Common.{ℕ, zero, suc, ◌+◌, ◌-◌, ◌<◌, ◌≤◌, ◌≡◌, ◌∙◌, Bool, true, false, arith, refl}
+use Rattle.std.proofs.Common.{sym, ap, inl, inr}
 use Rattle.std.proofs.Common.{List, [], ◌∷◌, ◌++◌, length, get_or, replicate, set, subst, take, sum, min, max}
 use Rattle.std.specs.Prelude.{All, ◌==◌, ◌&&◌, ◌||◌, if◌then◌else◌, nat_le, nat_lt}
 use Rattle.std.specs.List.{list_any}
@@ -102,7 +103,8 @@ gain numbers c b order l =
 pub first_order : (numbers : List ℕ) (c b : ℕ) → c ≤ b → sum (take c numbers) ≤ sum (take b numbers)
 first_order numbers c b order =
     let part = sum_by-take-le (λ (x : ℕ). x) (take b numbers) c in
-    let same : sum (take c (take b numbers)) ≡ sum (take c numbers) = ap (λ (xs : List ℕ). sum xs) (take-take c b numbers order) in
+    let same : sum (take c (take b numbers)) ≡ sum (take c numbers) =
+    ap (λ (xs : List ℕ). sum xs) (take-take c b numbers order) in
     omega (arith, part, same)
 
 below_first : (numbers : List ℕ) (p : ℕ → Bool) (m : ℕ) → m ≤ length numbers
@@ -147,12 +149,13 @@ pub record IsSummed (n : ℕ) (spans : List Span) (numbers : List ℕ) (s end : 
 covers_here : (n : ℕ) (spans : List Span) (x : Span) (end : ℕ) → x.key ≡ n → Covers n spans end
     → Covers n (spans ++ (x ∷ [])) (max x.to end)
 covers_here n spans x end same was = record {
-  inside = λ k is. elim (or_cases (list_any (is_in n k) spans) (is_in n k x) (sym (any_push (is_in n k) spans x) ∙ is)) [
-    | inl before ↦ let l = was.inside k before in omega (arith, l)
-    | inr here ↦
-        let parts = and_parts (nat_le x.from k) (nat_lt k x.to) (sym (in_here n k x same) ∙ here) in
-        let l = ltb-true k x.to parts.1 in omega (arith, l)
-  ];
+  inside = λ k is.
+      elim (or_cases (list_any (is_in n k) spans) (is_in n k x) (sym (any_push (is_in n k) spans x) ∙ is)) [
+        | inl before ↦ let l = was.inside k before in omega (arith, l)
+        | inr here ↦
+            let parts = and_parts (nat_le x.from k) (nat_lt k x.to) (sym (in_here n k x same) ∙ here) in
+            let l = ltb-true k x.to parts.1 in omega (arith, l)
+      ];
   all = λ k froms l. any_push (is_in n k) spans x ∙ elim (cases_lt k end) [
     | inl before ↦ or_left (list_any (is_in n k) spans) (is_in n k x)
         (was.all k (All-front (λ (y : Span). y.from ≤ k) spans x froms) before)
@@ -165,10 +168,11 @@ covers_here n spans x end same was = record {
 covers_there : (n : ℕ) (spans : List Span) (x : Span) (end : ℕ) → (x.key ≡ n → ⊥) → Covers n spans end
     → Covers n (spans ++ (x ∷ [])) end
 covers_there n spans x end other was = record {
-  inside = λ k is. elim (or_cases (list_any (is_in n k) spans) (is_in n k x) (sym (any_push (is_in n k) spans x) ∙ is)) [
-    | inl before ↦ was.inside k before
-    | inr here ↦ let clash : true ≡ false = sym here ∙ in_there n k x other in absurd (cc)
-  ];
+  inside = λ k is.
+      elim (or_cases (list_any (is_in n k) spans) (is_in n k x) (sym (any_push (is_in n k) spans x) ∙ is)) [
+        | inl before ↦ was.inside k before
+        | inr here ↦ let clash : true ≡ false = sym here ∙ in_there n k x other in absurd (cc)
+      ];
   all = λ k froms l. any_push (is_in n k) spans x ∙ or_left (list_any (is_in n k) spans) (is_in n k x)
       (was.all k (All-front (λ (y : Span). y.from ≤ k) spans x froms) l);
 }
@@ -211,7 +215,8 @@ pub summed_here : (n : ℕ) (spans : List Span) (numbers : List ℕ) (x : Span) 
     (s + (sum (take x.to numbers) - sum (take (min (max x.from end) x.to) numbers))) (max x.to end)
 summed_here n spans numbers x s end same is_span within order was =
     let start : ℕ = min (max x.from end) x.to in
-    let each = below_same (length numbers) (λ k. if list_any (is_in n k) (spans ++ (x ∷ [])) then get_or numbers k 0 else 0)
+    let each = below_same (length numbers)
+    (λ k. if list_any (is_in n k) (spans ++ (x ∷ [])) then get_or numbers k 0 else 0)
     (λ k. (if list_any (is_in n k) spans then get_or numbers k 0 else 0)
     + between numbers (min (max x.from end) x.to) x.to k)
     (λ k l. new_step n spans x end k (get_or numbers k 0) same order was.covers) in
@@ -227,7 +232,8 @@ summed_here n spans numbers x s end same is_span within order was =
 pub summed_there : (n : ℕ) (spans : List Span) (numbers : List ℕ) (x : Span) (s end : ℕ) → (x.key ≡ n → ⊥)
     → IsSummed n spans numbers s end → IsSummed n (spans ++ (x ∷ [])) numbers s end
 summed_there n spans numbers x s end other was =
-    let each = below_same (length numbers) (λ k. if list_any (is_in n k) (spans ++ (x ∷ [])) then get_or numbers k 0 else 0)
+    let each = below_same (length numbers)
+    (λ k. if list_any (is_in n k) (spans ++ (x ∷ [])) then get_or numbers k 0 else 0)
     (λ k. if list_any (is_in n k) spans then get_or numbers k 0 else 0)
     (λ k l. ap (λ (b : Bool). if b then get_or numbers k 0 else 0)
     (any_push (is_in n k) spans x

@@ -1,11 +1,11 @@
 -- Visits are the same for heads and loops that are the same at all places of a run.
-use Rattle.std.proofs.Common.{ℕ, zero, suc, ◌+◌, ◌<◌, ◌≤◌, ◌≡◌, ◌∙◌, refl, sym, ap, subst, arith, cond, Bool, true}
-use Rattle.std.proofs.Common.{false, List}
-use Rattle.std.proofs.Common.{[], ◌∷◌, ◌++◌, length, get_or, Option, Some, None}
+use Rattle.std.proofs.Common.{ℕ, zero, suc, ◌+◌, ◌<◌, ◌≡◌, ◌∙◌, refl, ap, arith, cond, Bool}
+use Rattle.std.proofs.Common.{List}
+use Rattle.std.proofs.Common.{[], ◌∷◌, length, get_or, Option, Some, None}
 use Rattle.std.specs.Prelude.{IfSome, ◌||◌, ◌==◌}
 use Rattle.tomex_loops.specs.declared.coming.Coming.{Coming}
 use Rattle.tomex_loops.specs.declared.visit.Open.{Open}
-use Rattle.tomex_loops.specs.Loops.{Found, heads_around, heads_below, is_among, is_in_loop}
+use Rattle.tomex_loops.specs.Loops.{Found, heads_around, is_among, is_in_loop}
 use Rattle.tomex_loops.specs.Visits.{Walk, arrive, close, come, ending, enter, go_round, leave, reach, still_open}
 use Rattle.tomex_loops.specs.Visits.{walk_after, walk_on, walks_after}
 use Rattle.tomex_loops.specs.Visits.{walks_after}

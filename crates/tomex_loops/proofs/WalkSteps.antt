@@ -1,6 +1,6 @@
 -- One step of the walk through the visits.
 use Rattle.std.proofs.Common.{ℕ, ◌+◌, ◌<◌, ◌≤◌, ◌≡◌, ◌∙◌, refl, sym, ap, arith, cond, Bool, true, false, List, [], ◌∷◌}
-use Rattle.std.proofs.Common.{◌++◌, length, get_or, set, take, drop, reverse, Option}
+use Rattle.std.proofs.Common.{◌++◌, length, get_or, set, take, drop, reverse, None, Option}
 use Rattle.std.proofs.lemmas.List.{at_drop_more, length-take-le, set_at, take_all, take_more}
 use Rattle.std.specs.Option.{option_map}
 use Rattle.tomex_loops.specs.declared.coming.Coming.{Coming}

@@ -268,8 +268,8 @@ impl<A: Allocator> Walker<A> {
             → self.new.innermost.items ≡ self.old.innermost.items
             ++ innermost (walk_on (found_by forest.now.heads.items forest.now.loops.items) w coming).under_way ∷ []) }
         ensures here { IfOk result (λ _. (w : Walk) → now ≡ w.passed → ShowsWalk w self.old
-            → self.new.here.items ≡ self.old.here.items
-            ++ innermost_here (walk_on (found_by forest.now.heads.items forest.now.loops.items) w coming).under_way ∷ []) }
+            → self.new.here.items ≡ self.old.here.items ++ innermost_here
+            (walk_on (found_by forest.now.heads.items forest.now.loops.items) w coming).under_way ∷ []) }
     {
         let place = coming.place;
         self.go(coming.by, now)?;

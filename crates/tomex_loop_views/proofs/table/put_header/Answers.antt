@@ -12,8 +12,8 @@ returns-clause-text g c =
     let three = c.in_ok-push_names-3.ensures.fields
     ∙ ap (λ (f : List (List ℕ)). f ++ codes "cycles" ∷ codes "own" ∷ codes "floor" ∷ []) two in
     let four = c.in_ok-push_names-4.ensures.fields
-    ∙ ap (λ (f : List (List ℕ)). f ++ codes "least" ∷ codes "median" ∷ codes "most" ∷ codes "usual" ∷ codes "alike" ∷ [])
-    three in
+    ∙ ap (λ (f : List (List ℕ)).
+    f ++ codes "least" ∷ codes "median" ∷ codes "most" ∷ codes "usual" ∷ codes "alike" ∷ []) three in
     let five = c.in_ok-push_names-5.ensures.fields
     ∙ ap (λ (f : List (List ℕ)). f ++ codes "pattern" ∷ codes "path" ∷ []) four in
     rw five at c.put_record.ensures.text

@@ -1,5 +1,5 @@
 -- The state so far is what is defined, and leads to the one at the end.
-use Rattle.std.proofs.Common.{◌≡◌, ◌≤◌, ◌++◌, List, drop, length, map}
+use Rattle.std.proofs.Common.{◌≡◌, ◌≤◌, ◌++◌, drop, length, map}
 use Rattle.tomex_loops.specs.Visits.{Walk, innermost, innermost_here, setting_out, walk_after, walks_after}
 use Rattle.tomex_loops.specs.Walking.{IsWalking, ShowsWalk, found_by}
 use Rattle.tomex_loops.proofs.visiting.walk.Given as goal

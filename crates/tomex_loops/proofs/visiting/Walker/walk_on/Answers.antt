@@ -7,7 +7,6 @@ use Rattle.tomex_loops.specs.declared.visit.Open.{Open}
 use Rattle.tomex_loops.specs.Calls.{Calls, first_of}
 use Rattle.tomex_loops.specs.Loops.{heads_below}
 use Rattle.tomex_loops.specs.Visits.{Walk, arrive, come, innermost, innermost_here, leave}
-use Rattle.tomex_loops.specs.Walking.{ShowsWalk}
 use Rattle.tomex_loops.specs.Ways.{loop_in}
 use Rattle.tomex_loops.proofs.Walking.{innermost_joined}
 use Rattle.tomex_loops.proofs.visiting.Walker.walk_on.Goals as goal
