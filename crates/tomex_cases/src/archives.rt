@@ -5,7 +5,7 @@ use std::fs;
 use std::rt::Files;
 
 /// The archives, one a command, and those of forms that several commands have.
-pub const COMMANDS: [&str; 23] = [
+pub const COMMANDS: [&str; 24] = [
     "all",
     "animate",
     "choices",
@@ -17,6 +17,7 @@ pub const COMMANDS: [&str; 23] = [
     "functions",
     "help",
     "hull",
+    "loops",
     "page",
     "path",
     "pipeline",

@@ -1,8 +1,8 @@
 -- A text that isn't made leaves the output as it was: none of its failures is that the output failed.
 use Rattle.std.proofs.Common.{◌≡◌, List, ℕ, refl, sym, subst}
 use Rattle.tomex_command_line.specs.declared.line.Line.{Line}
-use Rattle.tomex_command_line.specs.declared.line.Line.TheVariants.{Run, Times, Stalls, Path, Pipeline, Tables}
-use Rattle.tomex_command_line.specs.declared.line.Line.TheVariants.{Animate, All, Explore, Front, Plot, Rows}
+use Rattle.tomex_command_line.specs.declared.line.Line.TheVariants.{Run, Times, Stalls, Path, Loops, Pipeline}
+use Rattle.tomex_command_line.specs.declared.line.Line.TheVariants.{Tables, Animate, All, Explore, Front, Plot, Rows}
 use Rattle.tomex_command_line.specs.declared.line.Line.TheVariants.{Worth, Choices, Prices, Weights}
 use Rattle.tomex_command_line.specs.declared.line.Line.TheVariants.{Compare, Functions, Page, Find, Explain}
 use Rattle.tomex_streams.specs.Files.{Known}
@@ -16,6 +16,7 @@ not_written file (Run line) is = is
 not_written file (Times line) is = is
 not_written file (Stalls line) is = is
 not_written file (Path line) is = is
+not_written file (Loops line) is = is
 not_written file (Pipeline line) is = is
 not_written file (Tables line) is = is
 not_written file (Animate line) is = is

@@ -3,8 +3,8 @@ use Rattle.std.specs.Prelude.{◌≡◌, ◌⊎◌, ℕ, List, option_map, strin
 use Rattle.tomex_command.specs.declared.failure.Failure.{Failure}
 use Rattle.tomex_command.specs.declared.failure.Failure.TheVariants.{CannotWrite}
 use Rattle.tomex_command_line.specs.declared.line.Line.{Line}
-use Rattle.tomex_command_line.specs.declared.line.Line.TheVariants.{Run, Times, Stalls, Path, Pipeline, Tables}
-use Rattle.tomex_command_line.specs.declared.line.Line.TheVariants.{Animate, All, Explore, Front, Plot, Rows}
+use Rattle.tomex_command_line.specs.declared.line.Line.TheVariants.{Run, Times, Stalls, Path, Loops, Pipeline}
+use Rattle.tomex_command_line.specs.declared.line.Line.TheVariants.{Tables, Animate, All, Explore, Front, Plot, Rows}
 use Rattle.tomex_command_line.specs.declared.line.Line.TheVariants.{Worth, Choices, Prices, Weights, Compare}
 use Rattle.tomex_command_line.specs.declared.line.Line.TheVariants.{Functions, Page, Find, Explain}
 use Rattle.tomex_arguments.specs.declared.fault.LineFault.{LineFault}
@@ -31,6 +31,7 @@ IsDone file (Run line) text = IsRunOf file line text
 IsDone file (Times line) text = IsRunViewOf (runs.Times line) file text
 IsDone file (Stalls line) text = IsRunViewOf (runs.Stalls line) file text
 IsDone file (Path line) text = IsRunViewOf (runs.Path line) file text
+IsDone file (Loops line) text = IsRunViewOf (runs.Loops line) file text
 IsDone file (Pipeline line) text = IsRunViewOf (runs.Pipeline line) file text
 IsDone file (Tables line) text = IsRunViewOf (runs.Tables line) file text
 IsDone file (Animate line) text = IsRunViewOf (runs.Animate line) file text
@@ -57,6 +58,7 @@ IsFailure file (Run line) failure = IsRunFailure file line failure
 IsFailure file (Times line) failure = IsRunViewFailure (runs.Times line) file failure
 IsFailure file (Stalls line) failure = IsRunViewFailure (runs.Stalls line) file failure
 IsFailure file (Path line) failure = IsRunViewFailure (runs.Path line) file failure
+IsFailure file (Loops line) failure = IsRunViewFailure (runs.Loops line) file failure
 IsFailure file (Pipeline line) failure = IsRunViewFailure (runs.Pipeline line) file failure
 IsFailure file (Tables line) failure = IsRunViewFailure (runs.Tables line) file failure
 IsFailure file (Animate line) failure = IsRunViewFailure (runs.Animate line) file failure

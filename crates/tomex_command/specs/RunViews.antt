@@ -1,4 +1,4 @@
--- What is printed of one run of a study: by `times`, `stalls`, `path`, `pipeline`, `tables` and `animate`.
+-- What is printed of one run of a study: by `times`, `stalls`, `path`, `loops`, `pipeline`, `tables` and `animate`.
 use Rattle.std.specs.Prelude.{◌≡◌, ◌≢◌, ◌<◌, ◌≤◌, ℕ, Bool, true, false, List, []}
 use Rattle.tomex_rvexec.specs.declared.step.Step.{Step}
 use Rattle.tomex_config.specs.Configuration.{Configuration}
@@ -13,6 +13,7 @@ use Rattle.tomex_run_views.specs.Chart.{IsPictureOf, IsUnpictured}
 use Rattle.tomex_run_views.specs.StallsReport.{IsStallsReport}
 use Rattle.tomex_run_views.specs.declared.picture_error.PictureError.TheVariants as pictures
 use Rattle.tomex_konata.specs.Konata.{IsLogOf}
+use Rattle.tomex_loop_views.specs.LoopsReport.{IsLoopsReport}
 use Rattle.tomex_functions.specs.ByFunction.{IsReportByFunction}
 use Rattle.tomex_functions.specs.ByPlace as with_functions
 use Rattle.tomex_path_views.specs.ByFunction as path_with_functions
@@ -24,8 +25,8 @@ use Rattle.tomex_animate.specs.Page.{IsAnimationOf, IsUnanimated}
 use Rattle.tomex_animate.specs.declared.animation_error.AnimationError.TheVariants as animations
 use Rattle.tomex_command_line.specs.declared.line.one_run.OneRun.{OneRun}
 use Rattle.tomex_command.specs.declared.commands.run_view.RunView.{RunView}
-use Rattle.tomex_command.specs.declared.commands.run_view.RunView.TheVariants.{Times, Stalls, Path, Pipeline, Tables}
-use Rattle.tomex_command.specs.declared.commands.run_view.RunView.TheVariants.{Animate}
+use Rattle.tomex_command.specs.declared.commands.run_view.RunView.TheVariants.{Times, Stalls, Path, Loops, Pipeline}
+use Rattle.tomex_command.specs.declared.commands.run_view.RunView.TheVariants.{Tables, Animate}
 use Rattle.tomex_command.specs.declared.failure.Failure.{Failure}
 use Rattle.tomex_command.specs.declared.failure.Failure.TheVariants.{NoSuchChoice, NoSuchRow, SeveralRows}
 use Rattle.tomex_command.specs.declared.failure.Failure.TheVariants.{NoSuchProgram, NoSymbols, NoSuchStep, CyclePastEnd}
@@ -39,6 +40,7 @@ abbrev pub run_of_view : RunView → OneRun
 run_of_view (Times run) = run
 run_of_view (Stalls line) = line.run
 run_of_view (Path line) = line.run
+run_of_view (Loops run) = run
 run_of_view (Pipeline line) = line.run
 run_of_view (Tables line) = line.run
 run_of_view (Animate line) = line.run
@@ -85,6 +87,7 @@ abbrev pub IsShown : RunView → RunChoice → List ℕ → Type 0
 IsShown (Times run) c text = text ≡ times_report_of c.config (steps_in c)
 IsShown (Stalls line) c text = AreStalls line.by_pc line.by_function c.config (steps_in c) c.file text
 IsShown (Path line) c text = IsPath line.links line.by_pc line.by_function c.config (steps_in c) c.file text
+IsShown (Loops run) c text = IsLoopsReport c.config (steps_in c) c.file text
 IsShown (Pipeline line) c text = IsLogOrPicture line.konata c.config (steps_in c) line.from line.steps text
 IsShown (Tables line) c text = IsTextAfter c.config c.program line.cycle text
 IsShown (Animate line) c text =

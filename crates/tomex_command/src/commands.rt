@@ -64,6 +64,7 @@ fn text_of<
         Line::Times(run) => text_of_run_view(alloc, heap, RunView::Times(run), files),
         Line::Stalls(line) => text_of_run_view(alloc, heap, RunView::Stalls(line), files),
         Line::Path(line) => text_of_run_view(alloc, heap, RunView::Path(line), files),
+        Line::Loops(run) => text_of_run_view(alloc, heap, RunView::Loops(run), files),
         Line::Pipeline(line) => text_of_run_view(alloc, heap, RunView::Pipeline(line), files),
         Line::Tables(line) => text_of_run_view(alloc, heap, RunView::Tables(line), files),
         Line::Animate(line) => text_of_run_view(alloc, heap, RunView::Animate(line), files),

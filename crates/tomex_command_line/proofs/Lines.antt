@@ -7,7 +7,7 @@ use Rattle.tomex_command_line.specs.Values.{IsNoAll, IsNoAnimate, IsNoExplore, I
 use Rattle.tomex_command_line.specs.Values.{IsNoCompare, IsNoFunctions, IsNoPage, IsNoFind}
 use Rattle.tomex_command_line.specs.declared.line.Line.TheVariants as lines
 use Rattle.tomex_command_line.specs.declared.line.command_name.CommandName.{CommandName}
-use Rattle.tomex_command_line.specs.declared.line.command_name.CommandName.TheVariants.{Run, Times, Stalls, Path}
+use Rattle.tomex_command_line.specs.declared.line.command_name.CommandName.TheVariants.{Run, Times, Stalls, Path, Loops}
 use Rattle.tomex_command_line.specs.declared.line.command_name.CommandName.TheVariants.{Pipeline, Tables, Animate, All}
 use Rattle.tomex_command_line.specs.declared.line.command_name.CommandName.TheVariants.{Explore, Front, Plot, Rows}
 use Rattle.tomex_command_line.specs.declared.line.command_name.CommandName.TheVariants.{Worth, Choices, Prices, Weights}
@@ -34,6 +34,10 @@ module _ (rows : List Row) where
   pub no_path : IsNoPath rows → HasNoLine Path rows
   no_path none (lines.Path line) asked = none _ _ _ _ _ _ asked
   no_path none line asked = absurd asked
+
+  pub no_loops : IsNoOneRun rows → HasNoLine Loops rows
+  no_loops none (lines.Loops line) asked = none _ _ _ asked
+  no_loops none line asked = absurd asked
 
   pub no_pipeline : IsNoPipeline rows → HasNoLine Pipeline rows
   no_pipeline none (lines.Pipeline line) asked = none _ _ _ _ _ _ asked

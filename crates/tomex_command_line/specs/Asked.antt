@@ -7,7 +7,7 @@ use Rattle.clap.specs.declared.error.kind.ErrorKind.TheVariants.{DisplayHelp, Di
 use Rattle.tomex_command_line.specs.declared.line.Line.{Line}
 use Rattle.tomex_command_line.specs.declared.line.Line.TheVariants as lines
 use Rattle.tomex_command_line.specs.declared.line.command_name.CommandName.{CommandName}
-use Rattle.tomex_command_line.specs.declared.line.command_name.CommandName.TheVariants.{Run, Times, Stalls, Path}
+use Rattle.tomex_command_line.specs.declared.line.command_name.CommandName.TheVariants.{Run, Times, Stalls, Path, Loops}
 use Rattle.tomex_command_line.specs.declared.line.command_name.CommandName.TheVariants.{Pipeline, Tables, Animate, All}
 use Rattle.tomex_command_line.specs.declared.line.command_name.CommandName.TheVariants.{Explore, Front, Plot, Rows}
 use Rattle.tomex_command_line.specs.declared.line.command_name.CommandName.TheVariants.{Worth, Choices, Prices, Weights}
@@ -30,6 +30,7 @@ IsLineOf Stalls rows (lines.Stalls line) =
     IsStallsAsked rows line.run.study.now line.run.config line.run.program.now line.by_pc line.by_function
 IsLineOf Path rows (lines.Path line) =
     IsPathAsked rows line.run.study.now line.run.config line.run.program.now line.links line.by_pc line.by_function
+IsLineOf Loops rows (lines.Loops line) = IsOneRunAsked rows line.study.now line.config line.program.now
 IsLineOf Pipeline rows (lines.Pipeline line) =
     IsPipelineAsked rows line.run.study.now line.run.config line.run.program.now line.from line.steps line.konata
 IsLineOf Tables rows (lines.Tables line) =

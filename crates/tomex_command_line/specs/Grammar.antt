@@ -82,6 +82,12 @@ path_shape = record (new_shape (codes "path")) {
       ∷ flag_rule (codes "links") ∷ flag_rule (codes "by-pc") ∷ flag_rule (codes "by-function") ∷ [];
 }
 
+-- `loops STUDY CONFIG PROGRAM`
+abbrev pub loops_shape : Shape
+loops_shape = record (new_shape (codes "loops")) {
+  rules = word_rule (codes "STUDY") ∷ config_rule ∷ word_rule (codes "PROGRAM") ∷ [];
+}
+
 -- `pipeline STUDY CONFIG PROGRAM [--from N] [--steps N] [--konata]`
 abbrev pub pipeline_shape : Shape
 pipeline_shape = record (new_shape (codes "pipeline")) {
@@ -189,7 +195,8 @@ bare_app = on_top (λ s. record s { has_version = true; subcommand_required = tr
 abbrev pub tomex_app : App
 tomex_app = record {
   top = record (new_shape (codes "tomex")) { has_version = true; is_leaf = false; subcommand_required = true };
-  subs = run_shape ∷ times_shape ∷ stalls_shape ∷ path_shape ∷ pipeline_shape ∷ tables_shape ∷ animate_shape
-      ∷ all_shape ∷ explore_shape ∷ front_shape ∷ plot_shape ∷ rows_shape ∷ worth_shape ∷ choices_shape ∷ prices_shape
-      ∷ weights_shape ∷ compare_shape ∷ functions_shape ∷ page_shape ∷ find_shape ∷ explain_shape ∷ [];
+  subs = run_shape ∷ times_shape ∷ stalls_shape ∷ path_shape ∷ loops_shape ∷ pipeline_shape ∷ tables_shape
+      ∷ animate_shape ∷ all_shape ∷ explore_shape ∷ front_shape ∷ plot_shape ∷ rows_shape ∷ worth_shape
+      ∷ choices_shape ∷ prices_shape ∷ weights_shape ∷ compare_shape ∷ functions_shape ∷ page_shape ∷ find_shape
+      ∷ explain_shape ∷ [];
 }

@@ -23,6 +23,7 @@ pub mod explore;
 pub mod find;
 pub mod front;
 pub mod functions;
+mod loops;
 pub mod one_run;
 pub mod page;
 pub mod path;
@@ -69,6 +70,7 @@ pub enum Line<'a> {
     Times(OneRun<'a>),
     Stalls(StallsLine<'a>),
     Path(PathLine<'a>),
+    Loops(OneRun<'a>),
     Pipeline(PipelineLine<'a>),
     Tables(TablesLine<'a>),
     Animate(AnimateLine<'a>),
@@ -107,6 +109,7 @@ Examples, in the folder `examples`:
   tomex times study.toml 4 mul
   tomex stalls study.toml 4 mul
   tomex path study.toml 4 mul
+  tomex loops explore.toml 132 matrix
   tomex pipeline study.toml 4 mul
   tomex tables study.toml 4 mul 3
   tomex animate study.toml 4 mul > mul.html
@@ -148,6 +151,7 @@ fn grammar<'a>(alloc: Global) -> Result<Command<'a>, AllocError>
     let program = with_command(program, times::grammar(alloc));
     let program = with_command(program, stalls::grammar(alloc));
     let program = with_command(program, path::grammar(alloc));
+    let program = with_command(program, loops::grammar(alloc));
     let program = with_command(program, pipeline::grammar(alloc));
     let program = with_command(program, tables::grammar(alloc));
     let program = with_command(program, animate::grammar(alloc));
@@ -181,6 +185,7 @@ fn line_with<'a>(
         CommandName::Times => Ok(Line::Times(one_run_of(alloc, args)?)),
         CommandName::Stalls => Ok(Line::Stalls(stalls::line_of(alloc, args)?)),
         CommandName::Path => Ok(Line::Path(path::line_of(alloc, args)?)),
+        CommandName::Loops => Ok(Line::Loops(one_run_of(alloc, args)?)),
         CommandName::Pipeline => Ok(Line::Pipeline(pipeline::line_of(alloc, args)?)),
         CommandName::Tables => Ok(Line::Tables(tables::line_of(alloc, args)?)),
         CommandName::Animate => Ok(Line::Animate(animate::line_of(alloc, args)?)),

@@ -71,14 +71,15 @@ several_rows =
 abbrev pub no_such_program : List ℕ
 no_such_program =
     codes "PROGRAM is the `name` of one of the study's programs, as written there, and not\n"
-    ++ codes "the name of its file.\n"
+    ++ (codes "the name of its file. `tomex compare` and `tomex functions` take two, and the\n"
+    ++ codes "study may lack either of them.\n")
 
 abbrev pub no_symbols : List ℕ
 no_symbols =
     codes "`--by-function` takes the names of functions from the program's file, which has\n"
     ++ (codes "none: it is a flat file, or an ELF file whose symbols were stripped. Link without\n"
     ++ (codes "`-s`, don't `strip` it, and name the ELF file in the study. `readelf -s FILE`\n"
-    ++ codes "lists the symbols (FUNC).\n"))
+    ++ codes "lists the symbols (FUNC). `tomex functions` needs those of both its programs.\n"))
 
 abbrev pub no_such_step : List ℕ
 no_such_step =

@@ -80,14 +80,15 @@ which they differ, as alu=4,buses=1, or write a configuration's number.
 
 const NO_SUCH_PROGRAM: &str =
     "PROGRAM is the `name` of one of the study's programs, as written there, and not
-the name of its file.
+the name of its file. `tomex compare` and `tomex functions` take two, and the
+study may lack either of them.
 ";
 
 const NO_SYMBOLS: &str =
     "`--by-function` takes the names of functions from the program's file, which has
 none: it is a flat file, or an ELF file whose symbols were stripped. Link without
 `-s`, don't `strip` it, and name the ELF file in the study. `readelf -s FILE`
-lists the symbols (FUNC).
+lists the symbols (FUNC). `tomex functions` needs those of both its programs.
 ";
 
 const NO_SUCH_STEP: &str =

@@ -37,6 +37,7 @@ fn line_text(alloc: Global, line: &Line) -> Result<String, AllocError> {
             format!(in alloc; "run {} {} {} {}", run.image, run.base, run.size, run.limit)
         }
         Line::Times(times) => format!(in alloc; "times {}", run_text(alloc, *times)?),
+        Line::Loops(loops) => format!(in alloc; "loops {}", run_text(alloc, *loops)?),
         Line::All(all) => format!(in alloc; "all {}", all.study),
         Line::Explore(explore) => {
             format!(in alloc; "explore {} {}", explore.study, explore.workers)
@@ -146,7 +147,7 @@ fn text_of(alloc: Global, line: &str) -> Result<String, AllocError> {
 }
 
 /// Lines, and the beginnings of their results.
-static READ: [(&str, &str); 100] = [
+static READ: [(&str, &str); 104] = [
     ("run mul.bin", "run mul.bin 0 65536 262144"),
     (
         "run a --base 4294967292 --size 4 --limit 1",
@@ -181,6 +182,10 @@ static READ: [(&str, &str); 100] = [
         "path study 16383 -a false true true",
     ),
     ("path --help", "help Prints why a program"),
+    ("loops study 0 a", "loops study 0 a"),
+    ("loops study alu=2 -- -a", "loops study [alu=2] -a"),
+    ("loops --help", "help Prints the loops of a program"),
+    ("loops -h", "help Prints a run's loops"),
     ("path -h", "help Prints a run's"),
     ("pipeline study 0 a", "pipeline study 0 a 1 32 false"),
     (
@@ -351,7 +356,7 @@ fn help_is_whole(rt: HostRuntime) -> Result<(), Fail> {
     Ok(())
 }
 
-static REFUSED: [&str; 41] = [
+static REFUSED: [&str; 43] = [
     "run a --base 4294967293",
     "run a --base -4",
     "run a --base 0x10",
@@ -376,6 +381,8 @@ static REFUSED: [&str; 41] = [
     "stalls study 0 a --by-function=1",
     "stalls study 0 a --by-function --by-function",
     "path study 0 a --links --links",
+    "loops study 0",
+    "loops study 0 a --by-pc",
     "pipeline study 0",
     "pipeline study 0 a --from 0",
     "pipeline study 0 a --from 262145",

@@ -13,6 +13,7 @@ use super::tables::text_after;
 use crate::failure::Failure;
 use std::alloc::{Allocator, Global};
 use tomex_command_line::{AnimateLine, OneRun, PathLine, PipelineLine, StallsLine, TablesLine};
+use tomex_loop_views::loops_report;
 use tomex_report::times_report;
 use tomex_streams::Files;
 
@@ -22,6 +23,7 @@ pub enum RunView<'a> {
     Times(OneRun<'a>),
     Stalls(StallsLine<'a>),
     Path(PathLine<'a>),
+    Loops(OneRun<'a>),
     Pipeline(PipelineLine<'a>),
     Tables(TablesLine<'a>),
     Animate(AnimateLine<'a>),
@@ -32,7 +34,7 @@ fn run_of(view: RunView<'_>) -> OneRun<'_>
     ensures { result ≡ run_of_view view.entry }
 {
     match view {
-        RunView::Times(run) => run,
+        RunView::Times(run) | RunView::Loops(run) => run,
         RunView::Stalls(line) => line.run,
         RunView::Path(line) => line.run,
         RunView::Pipeline(line) => line.run,
@@ -55,6 +57,10 @@ fn shown<A: Allocator + Clone>(
         RunView::Times(_) => Ok(times_report(alloc, heap, chosen.program, chosen.config)?),
         RunView::Stalls(line) => stalls_text(alloc, heap, chosen, line),
         RunView::Path(line) => path_text(alloc, heap, chosen, line),
+        RunView::Loops(_) => {
+            let (config, program, file) = (chosen.config, chosen.program, chosen.file);
+            Ok(loops_report(alloc, heap, program, config, file)?)
+        }
         RunView::Pipeline(line) => pipeline_text(alloc, heap, chosen, line),
         RunView::Tables(line) => text_after(alloc, chosen, line),
         RunView::Animate(line) => animate_text(alloc, heap, chosen, line),

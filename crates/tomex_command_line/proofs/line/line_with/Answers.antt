@@ -2,7 +2,7 @@
 use Rattle.clap.specs.Walk.{rows_of}
 use Rattle.clap.specs.Words.{found_of}
 use Rattle.tomex_command_line.proofs.Lines.{no_all, no_animate, no_choices, no_compare, no_explore, no_find, no_front}
-use Rattle.tomex_command_line.proofs.Lines.{no_functions, no_page, no_path, no_pipeline, no_plot, no_prices, no_rows}
+use Rattle.tomex_command_line.proofs.Lines.{no_functions, no_loops, no_page, no_path, no_pipeline, no_plot, no_prices, no_rows}
 use Rattle.tomex_command_line.proofs.Lines.{no_run, no_stalls, no_tables, no_times, no_weights, no_worth, refused_as}
 use Rattle.tomex_command_line.proofs.PassedOn.{passed_on}
 use Rattle.tomex_command_line.proofs.line.line_with.Goals as goal
@@ -17,6 +17,12 @@ returns-in_err-one_run_of-in-Times-clause-refused c =
     passed_on _ _ _ c.from_residual-in_err-one_run_of-in-Times.result
     c.from_residual-in_err-one_run_of-in-Times.ensures.1
     c.in_err-one_run_of-in-Times.ensures.refused (λ none. refused_as _ c.in-Times.is (no_times _ none))
+
+pub returns-in_err-one_run_of-in-Loops-clause-refused : goal.returns-in_err-one_run_of-in-Loops-clause-refused
+returns-in_err-one_run_of-in-Loops-clause-refused c =
+    passed_on _ _ _ c.from_residual-in_err-one_run_of-in-Loops.result
+    c.from_residual-in_err-one_run_of-in-Loops.ensures.1
+    c.in_err-one_run_of-in-Loops.ensures.refused (λ none. refused_as _ c.in-Loops.is (no_loops _ none))
 
 pub returns-in_err-line_of-in-Stalls-clause-refused : goal.returns-in_err-line_of-in-Stalls-clause-refused
 returns-in_err-line_of-in-Stalls-clause-refused c =
