@@ -109,6 +109,13 @@ static PATHS: [Done; 2] = [
 
 static LINKS: [Done; 1] = [("tomex path one 0 long --links", "step,", "\n")];
 
+/// Its loop is entered once, and goes 131,070 times round.
+static LOOPS: [Done; 1] = [(
+    "tomex loops one 0 long",
+    "pc,first,last,function,in,entered,iterations,steps,",
+    "\n",
+)];
+
 static STALLS: [Done; 2] = [
     ("tomex stalls one 0 long", "part,", "\n"),
     ("tomex stalls one 0 long --by-pc", "pc,", "\n"),
@@ -193,6 +200,11 @@ fn long_runs_have_paths(rt: HostRuntime) -> Result<(), Fail> {
 #[test]
 fn long_runs_have_links(rt: HostRuntime) -> Result<(), Fail> {
     are_done(&rt, &LINKS)
+}
+
+#[test]
+fn long_runs_have_loops(rt: HostRuntime) -> Result<(), Fail> {
+    are_done(&rt, &LOOPS)
 }
 
 #[test]

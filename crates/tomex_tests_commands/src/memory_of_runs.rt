@@ -39,7 +39,7 @@ fn of_the_text_of_a_run(rt: HostRuntime) -> Result<(), Fail> {
 const CALLS_STUDY: &str = "[[program]]\nname = \"p\"\nfile = \"calls.elf\"\n";
 
 /// Lines on one program, and the least number of blocks that they need.
-static ON_ONE_PROGRAM: [(&str, u64); 17] = [
+static ON_ONE_PROGRAM: [(&str, u64); 18] = [
     // The file's bytes, the window's, those that the run changes, and the text.
     ("tomex run image --base 65536", 4),
     // The study's bytes and its file's, names, the program, rows, costs, steps, times and the text.
@@ -70,6 +70,8 @@ static ON_ONE_PROGRAM: [(&str, u64); 17] = [
     ("tomex path calls 0 p --links --by-function", 15),
     ("tomex path calls 0 p --by-pc --by-function", 17),
     ("tomex path calls 0 p --by-function", 17),
+    // As `path`, with the way to each step, the visits, and lists of each loop.
+    ("tomex loops calls 0 p", 40),
     // What `stalls --by-function` has, of both builds; names are small values.
     ("tomex functions calls 0 p p", 20),
 ];
