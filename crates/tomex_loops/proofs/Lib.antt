@@ -13,3 +13,4 @@ pub mod Walking
 pub mod WalkSteps
 pub mod Agree
 pub mod Sound
+pub mod EachRun

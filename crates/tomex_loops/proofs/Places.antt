@@ -18,7 +18,7 @@ known_above : (steps : List Step) (k a : ℕ) → k ≤ place_of steps a → kno
 known_above steps k a h = rw (le-ltb (place_of steps a) k h) refl
 
 module _ (steps : List Step) (k : ℕ) (z : Step) (inside : k < length steps) where
-  at_most : place_of steps (get_or steps k z).pc ≤ k
+  pub at_most : place_of steps (get_or steps k z).pc ≤ k
   at_most = ⊎_elim
       (λ (late : k < place_of steps (get_or steps k z).pc). absurd (false≢true
       (sym (fails_before_first (λ (x : Step). eqb x.pc (get_or steps k z).pc) steps k z late)

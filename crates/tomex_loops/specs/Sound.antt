@@ -1,10 +1,11 @@
 -- What holds of the loops of each run: that their numbers are within the lists, and in which order their steps come.
-use Rattle.std.specs.Prelude.{◌≡◌, ℕ, ◌<◌, ◌≤◌, IfSome, List, length, None, Option, slice_index_or}
-use Rattle.std.specs.List.{All}
+use Rattle.std.specs.Prelude.{◌≡◌, ℕ, ◌<◌, ◌≤◌, IfSome, List, length, map, None, Option, slice_index_or}
+use Rattle.std.specs.List.{All, range_with_len}
 use Rattle.std.specs.List.Sorted.{IsNonDecreasingBy}
+use Rattle.tomex_rvexec.specs.declared.step.Step.{Step}
 use Rattle.tomex_loops.specs.declared.visit.Round.{Round}
 use Rattle.tomex_loops.specs.declared.visit.Visit.{Visit}
-use Rattle.tomex_loops.specs.Runs.{Known}
+use Rattle.tomex_loops.specs.Runs.{Known, ends_of, found_of, heads_of, here_of, innermost_of, rounds_of, visits_of}
 
 -- A visit that is around another one began before it, and has a lower number.
 abbrev pub AreEarlier : (Visit → Option ℕ) → List Visit → Type 0
@@ -39,3 +40,19 @@ pub record AreSound (count : ℕ) (k : Known) : Type 0 where
   pub many_here : length k.here ≡ count
   pub here : All (IsOneOf (length k.visits)) k.here
   pub rounds : All (IsRound (length k.visits) count) k.rounds
+
+-- what is defined of a run
+abbrev pub known_of : List Step → Known
+known_of steps = record {
+  heads = heads_of steps;
+  loops = map (found_of steps).loop (range_with_len 0 (length steps));
+  visits = visits_of steps;
+  ends = ends_of steps;
+  innermost = innermost_of steps;
+  here = here_of steps;
+  rounds = rounds_of steps;
+}
+
+-- It holds of each run.
+abbrev pub LoopsAreSound : Type 0
+LoopsAreSound = (steps : List Step) → AreSound (length steps) (known_of steps)

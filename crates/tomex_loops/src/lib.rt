@@ -7,10 +7,12 @@
 mod coming;
 mod finding;
 mod forest;
+mod laws;
 mod loops;
 mod visit;
 mod visiting;
 
 pub use coming::{Coming, Move};
+pub use laws::loops_are_sound;
 pub use loops::Loops;
 pub use visit::{Open, Round, Visit};
