@@ -15,7 +15,8 @@ use Rattle.std.proofs.lemmas.List.Elements.{All-weaker}
 use Rattle.std.proofs.lemmas.List.Folds.{list_any-append}
 use Rattle.std.proofs.lemmas.List.Sums.{sum_by_more, sum_by-take-le}
 use Rattle.tomex_loop_views.specs.declared.spans.Span.{Span}
-use Rattle.tomex_loop_views.specs.Spans.{is_in, sum_below, sum_in}
+use Rattle.tomex_stretches.specs.Cycles.{sum_below}
+use Rattle.tomex_loop_views.specs.Spans.{is_in, sum_in}
 
 -- all of a list, and one more
 

@@ -1,17 +1,13 @@
 -- Sums over the steps of a run that are in spans.
-use Rattle.std.specs.Prelude.{ℕ, zero, suc, ◌+◌, ◌==◌, nat_le, nat_lt, Bool, ◌&&◌, if◌then◌else◌, List, length}
+use Rattle.std.specs.Prelude.{ℕ, ◌==◌, nat_le, nat_lt, Bool, ◌&&◌, if◌then◌else◌, List, length}
 use Rattle.std.specs.Prelude.{slice_index}
 use Rattle.std.specs.List.{list_any}
+use Rattle.tomex_stretches.specs.Cycles.{sum_below}
 use Rattle.tomex_loop_views.specs.declared.spans.Span.{Span}
 
 -- a step is in a span with this key
 abbrev pub is_in : ℕ → ℕ → Span → Bool
 is_in n step span = span.key == n && nat_le span.from step && nat_lt step span.to
-
--- the sum of f over all numbers below n
-abbrev pub sum_below : ℕ → (ℕ → ℕ) → ℕ
-sum_below zero f = 0
-sum_below (suc n) f = sum_below n f + f n
 
 -- the sum of the numbers of those steps that are in a span with this key
 abbrev pub sum_in : ℕ → List Span → List ℕ → ℕ

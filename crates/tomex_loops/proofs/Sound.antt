@@ -203,6 +203,7 @@ module _ (f : Found) (n : ℕ) where
     many_ends : length ended ≡ length visits
     ends : AreEnds now visits ended
     rounds : All (IsRound (length visits) now) over
+    few : length visits + length over ≤ now
 
   abbrev IsKept : ℕ → Walk → Type 0
   IsKept now w = AreKept now w.under_way w.visits w.ends w.rounds
@@ -230,6 +231,7 @@ module _ (f : Found) (n : ℕ) where
     many_ends = are.many_ends;
     ends = ends_later now later w.visits w.ends le are.ends;
     rounds = later_rounds (length w.visits) (length w.visits) now later w.rounds (omega arith) le are.rounds;
+    few = omega (arith, are.few, le);
   }
 
   come_kept : (by : Move) (w : Walk) → IsKept w.passed w → IsKept w.passed (come by w)
@@ -241,6 +243,7 @@ module _ (f : Found) (n : ℕ) where
     many_ends = are.many_ends;
     ends = are.ends;
     rounds = are.rounds;
+    few = are.few;
   }
   come_kept Return w are = record {
     here = all_first (length w.visits) w.passed w.under_way.around are.around;
@@ -249,6 +252,7 @@ module _ (f : Found) (n : ℕ) where
     many_ends = many_close w.passed w.under_way.here w.ends ∙ are.many_ends;
     ends = ends_close w.passed w.under_way.here w.visits w.ends are.many_ends are.begun.first are.ends;
     rounds = are.rounds;
+    few = are.few;
   }
 
   leave_kept : (x : ℕ) (w : Walk) → IsKept w.passed w → IsKept w.passed (leave f.loop x w)
@@ -260,6 +264,7 @@ module _ (f : Found) (n : ℕ) where
     ends = ends_close w.passed (ending f.loop x w.under_way.here) w.visits w.ends are.many_ends are.begun.first
         are.ends;
     rounds = are.rounds;
+    few = are.few;
   }
 
   innermost_kept : (now : ℕ) (w : Walk) → IsKept now w → IsOneOf (length w.visits) (innermost w.under_way)
@@ -310,6 +315,7 @@ module _ (f : Found) (n : ℕ) where
             (ends_push w.passed w.visits w.ends y are.many_ends are.ends);
         rounds = later_rounds (length w.visits) (length (w.visits ++ y ∷ [])) w.passed (w.passed + 1) w.rounds more
             (omega arith) are.rounds;
+        few = omega (arith, many, are.few);
       }
 
   go_round_kept : (w : Walk) (v : Open) (around : List Open) → w.under_way.here ≡ v ∷ around → IsKept w.passed w
@@ -332,6 +338,7 @@ module _ (f : Found) (n : ℕ) where
         ends = later.ends;
         rounds = All-push (IsRound (length w.visits) (w.passed + 1)) w.rounds round later.rounds
             (first.0, first.1, omega arith);
+        few = omega (arith, length_push w.rounds round, are.few);
       }
 
   reach_kept : (x : ℕ) (w : Walk) (opens : List Open) → f.heads x ≡ true → x < n → w.under_way.here ≡ opens
@@ -421,6 +428,7 @@ module _ (f : Found) (n : ℕ) where
     many_ends = refl;
     ends = λ v z h. absurd (omega (arith, h));
     rounds = All-nil (IsRound 0 0);
+    few = omega arith;
   }
 
 -- the whole run
@@ -457,6 +465,7 @@ known_is steps loops many places =
           ∙ many_walks f n setting_out comings ∙ many;
       here = all_read f n innermost_here (innermost_here_kept f n) setting_out comings places (starts_kept f n);
       rounds = kept.rounds;
+      few = kept.few;
     }
 
 abbrev known : List ℕ → List (Option ℕ) → List Visit → List (Option ℕ) → List (Option ℕ) → List (Option ℕ)

@@ -1,5 +1,5 @@
 -- What holds of the loops of each run: that their numbers are within the lists, and in which order their steps come.
-use Rattle.std.specs.Prelude.{◌≡◌, ℕ, ◌<◌, ◌≤◌, IfSome, List, length, map, None, Option, slice_index_or}
+use Rattle.std.specs.Prelude.{◌≡◌, ℕ, ◌+◌, ◌<◌, ◌≤◌, IfSome, List, length, map, None, Option, slice_index_or}
 use Rattle.std.specs.List.{All, range_with_len}
 use Rattle.std.specs.List.Sorted.{IsNonDecreasingBy}
 use Rattle.tomex_rvexec.specs.declared.step.Step.{Step}
@@ -40,6 +40,7 @@ pub record AreSound (count : ℕ) (k : Known) : Type 0 where
   pub many_here : length k.here ≡ count
   pub here : All (IsOneOf (length k.visits)) k.here
   pub rounds : All (IsRound (length k.visits) count) k.rounds
+  pub few : length k.visits + length k.rounds ≤ count
 
 -- what is defined of a run
 abbrev pub known_of : List Step → Known
