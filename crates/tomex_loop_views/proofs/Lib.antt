@@ -11,3 +11,5 @@ pub mod RowsOrder
 pub mod Insertion
 pub mod Chains
 pub mod Joining
+pub mod Saving
+pub mod AddingUp

@@ -14,3 +14,4 @@ pub mod Extents
 pub mod PlaceOf
 pub mod Table
 pub mod LoopsReport
+pub mod Laws

@@ -1,0 +1,19 @@
+//! Laws of the table of a run's loops. Each function does nothing: its contract is the law.
+
+ghost use Rattle.tomex_loop_views.specs.Laws.{LoopsAddUp, LoopsAreThePrograms, NoMachineSavesMore};
+
+/// On each machine of at most this width and at least these latencies, a loop takes at least its floor, whatever parts
+/// the machine has. So if its own cycles are its floor, no parts make it faster.
+pub fn no_machine_saves_more_of_a_loop()
+    ensures { NoMachineSavesMore }
+{}
+
+/// Where a loop is and how often it goes round is the same on all machines, so tables of two machines can be joined.
+pub fn loops_are_the_programs()
+    ensures { LoopsAreThePrograms }
+{}
+
+/// The columns `own` and `floor` add up to the total.
+pub fn loops_add_up()
+    ensures { LoopsAddUp }
+{}
