@@ -1,8 +1,8 @@
 -- Lemmas of this crate.
-pub mod Places
+pub mod AtPlaces
 pub mod Moved
 pub mod Reading
-pub mod Paths
+pub mod PathKeys
 pub mod Arounds
 pub mod Grouping
 pub mod Longer
@@ -11,3 +11,4 @@ pub mod RowsOrder
 pub mod Insertion
 pub mod Chains
 pub mod Joining
+pub mod AtHeads

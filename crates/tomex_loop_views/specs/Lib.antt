@@ -12,5 +12,6 @@ pub mod ByLoop
 pub mod OfLoop
 pub mod Extents
 pub mod PlaceOf
+pub mod PlaceColumns
 pub mod Table
 pub mod LoopsReport

@@ -12,6 +12,7 @@ mod groups;
 mod longest;
 mod path_cycles;
 mod pattern;
+mod places;
 mod rounds;
 mod row;
 mod spans;
