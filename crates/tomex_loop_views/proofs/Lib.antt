@@ -12,3 +12,4 @@ pub mod Insertion
 pub mod Chains
 pub mod Joining
 pub mod AtHeads
+pub mod Adding

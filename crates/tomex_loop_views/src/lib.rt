@@ -11,6 +11,7 @@ mod fields;
 mod groups;
 mod longest;
 mod path_cycles;
+mod paths;
 mod pattern;
 mod places;
 mod rounds;
