@@ -25,13 +25,14 @@ use Rattle.tomex_loop_views.specs.Table.{Line}
 -- a sum over a list, by the numbers of its items
 sum_push : (f : Line → ℕ) (xs : List Line) (x : Line) → sum_by f (xs ++ x ∷ []) ≡ sum_by f xs + f x
 sum_push f [] x = omega arith
-sum_push f (y ∷ xs) x = omega (arith, sum_push f xs x)
+sum_push f (y ∷ xs) x = let rest = sum_push f xs x in ap (λ (m : ℕ). f y + m) rest ∙ omega arith
 
 sum_to : (f : Line → ℕ) (g : ℕ → ℕ) (xs : List Line) (d : Line) (k : ℕ) → k ≤ length xs
     → ((n : ℕ) (z : Line) → n < length xs → f (get_or xs n z) ≡ g n) → sum_by f (take k xs) ≡ sum_below k g
 sum_to f g xs d zero few are = refl
 sum_to f g xs d (suc k) few are =
-    let more : take (suc k) xs ≡ take k xs ++ get_or xs k d ∷ [] = take_more xs k d (omega (arith, few)) in
+    let more : take (suc k) xs ≡ take k xs ++ get_or xs k d ∷ [] =
+    ap (λ (m : ℕ). take m xs) (omega arith) ∙ take_more xs k d (omega (arith, few)) in
     let before = sum_to f g xs d k (omega (arith, few)) are in
     let last = are k d (omega (arith, few)) in
     ap (λ (ys : List Line). sum_by f ys) more ∙ sum_push f (take k xs) (get_or xs k d)
@@ -75,7 +76,7 @@ column : (file : List ℕ) (config : Configuration) (steps : List Step) (lines :
 column file config steps lines f numbers many are each =
     let sound = loops_are_sound steps in
     let count : ℕ = length (heads_of steps) in
-    let moved : sum_by f are.given ≡ sum_by f lines = sum_by-IsPermutation f are.given lines are.those in
+    let moved : sum_by f lines ≡ sum_by f are.given = sum_by-IsPermutation f are.given lines are.those in
     let all : sum_by f are.given ≡ sum_below (length are.given) (λ n. sum_where (is_key n) (keys_in steps) numbers) =
     sum_all f (λ n. sum_where (is_key n) (keys_in steps) numbers) are.given each in
     let these : sum_by f are.given ≡ sum_below count (λ n. sum_where (is_key n) (keys_in steps) numbers) =

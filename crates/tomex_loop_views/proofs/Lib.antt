@@ -1,8 +1,8 @@
 -- Lemmas of this crate.
-pub mod Places
+pub mod AtPlaces
 pub mod Moved
 pub mod Reading
-pub mod Paths
+pub mod PathKeys
 pub mod Arounds
 pub mod Grouping
 pub mod Longer
@@ -13,3 +13,5 @@ pub mod Chains
 pub mod Joining
 pub mod Saving
 pub mod AddingUp
+pub mod AtHeads
+pub mod Adding

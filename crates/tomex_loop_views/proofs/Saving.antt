@@ -1,6 +1,6 @@
 -- A loop on two machines.
-use Rattle.std.proofs.Common.{ℕ, ◌+◌, ◌≤◌, ◌≡◌, ◌∙◌, refl, sym, ap, arith, cond, Bool, List, [], ◌∷◌, length, map, slice_index}
-use Rattle.std.proofs.Common.{Option}
+use Rattle.std.proofs.Common.{ℕ, suc, ◌+◌, ◌≤◌, ◌≡◌, ◌∙◌, refl, sym, ap, arith, cond, Bool, true, false, List, [], ◌∷◌}
+use Rattle.std.proofs.Common.{length, map, nat_eq, slice_index, Option}
 use Rattle.std.specs.Option.{option_map}
 use Rattle.std.proofs.lemmas.List.{length-map}
 use Rattle.tomex_rvexec.specs.declared.step.Step.{Step}

@@ -12,6 +12,7 @@ pub mod ByLoop
 pub mod OfLoop
 pub mod Extents
 pub mod PlaceOf
+pub mod PlaceColumns
 pub mod Table
 pub mod LoopsReport
 pub mod Laws

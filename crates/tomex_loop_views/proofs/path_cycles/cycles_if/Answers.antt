@@ -1,7 +1,7 @@
 -- A path of one link.
-use Rattle.std.proofs.Common.{◌≡◌, ◌∙◌, ap}
+use Rattle.std.proofs.Common.{◌∙◌, ap}
 use Rattle.tomex_path_views.specs.declared.shares.Share.{Share}
-use Rattle.tomex_loop_views.proofs.Paths.{share_one, short_one}
+use Rattle.tomex_loop_views.proofs.PathKeys.{share_one, short_one}
 use Rattle.tomex_loop_views.proofs.path_cycles.cycles_if.Goals as goal
 
 pub share_of-requires : goal.share_of-requires

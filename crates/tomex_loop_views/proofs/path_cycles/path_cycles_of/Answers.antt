@@ -1,7 +1,7 @@
 -- The sums fit, and each link's key is a step's.
-use Rattle.std.proofs.Common.{◌≡◌, ◌∙◌, sym, map}
+use Rattle.std.proofs.Common.{◌≡◌, ◌∙◌, map}
 use Rattle.tomex_loop_views.specs.PathCycles.{cycles_for, key_of_link}
-use Rattle.tomex_loop_views.proofs.Paths.{cycles_fit, keys_low}
+use Rattle.tomex_loop_views.proofs.PathKeys.{cycles_fit, keys_low}
 use Rattle.tomex_loop_views.proofs.path_cycles.path_cycles_of.Goals as goal
 
 pub sums_by_key-requires-clause-few : goal.sums_by_key-requires-clause-few

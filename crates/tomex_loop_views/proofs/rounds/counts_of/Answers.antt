@@ -1,7 +1,7 @@
 -- Each stands at its place.
 use Rattle.std.proofs.Common.{◌-◌, arith, length}
 use Rattle.std.specs.Prelude.{◌/◌}
-use Rattle.tomex_loop_views.proofs.Places.{at_place}
+use Rattle.tomex_loop_views.proofs.AtPlaces.{at_place}
 use Rattle.tomex_loop_views.proofs.rounds.counts_of.Goals as goal
 
 pub returns : goal.returns

@@ -1,7 +1,7 @@
 -- Each turn takes the next number.
 use Rattle.std.proofs.Common.{◌∙◌, ◌+◌, Bool, ap, arith, take_all}
 use Rattle.std.specs.Prelude.{if◌then◌else◌}
-use Rattle.tomex_loop_views.proofs.Places.{none_yet, so_far_more}
+use Rattle.tomex_loop_views.proofs.AtPlaces.{none_yet, so_far_more}
 use Rattle.tomex_loop_views.proofs.rounds.usual_of.Goals as goal
 
 pub loop-k-init : goal.loop-k-init

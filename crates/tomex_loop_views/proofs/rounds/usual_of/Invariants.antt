@@ -1,5 +1,5 @@
 -- The number that occurs most often so far, and how often the last one does.
-use Rattle.tomex_loop_views.proofs.Places.{IsSoFar}
+use Rattle.tomex_loop_views.proofs.AtPlaces.{IsSoFar}
 use Rattle.tomex_loop_views.proofs.rounds.usual_of.Given as goal
 
 abbrev pub invariant-loop-k : goal.invariant-loop-k

@@ -1,0 +1,7 @@
+-- The addresses so far.
+use Rattle.std.proofs.Common.{◌≡◌, map, take}
+use Rattle.tomex_run_views.specs.ByPlace.{pc_of}
+use Rattle.tomex_loop_views.proofs.visited.addresses_of.Given as goal
+
+abbrev pub invariant-loop-step : goal.invariant-loop-step
+invariant-loop-step g l = l.addresses.items ≡ map pc_of (take l.step-index l.steps)
