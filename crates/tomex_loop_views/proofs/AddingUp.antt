@@ -7,6 +7,7 @@ use Rattle.std.specs.Option.{option_map}
 use Rattle.std.proofs.lemmas.List.{length-map, take_more}
 use Rattle.std.proofs.lemmas.List.Elements.{All-cons, All-get_or, All-head, All-nil, All-tail}
 use Rattle.std.proofs.lemmas.List.Sorted.{sum_by-IsPermutation}
+use Rattle.std.proofs.lemmas.List.Sums.{sum_by-append}
 use Rattle.tomex_rvexec.specs.declared.step.Step.{Step}
 use Rattle.tomex_config.specs.Configuration.{Configuration}
 use Rattle.tomex_loops.specs.declared.visit.Visit.{Visit}
@@ -23,9 +24,11 @@ use Rattle.tomex_loop_views.specs.LoopsReport.{AreLines, floors_of, keys_in}
 use Rattle.tomex_loop_views.specs.Table.{Line}
 
 -- a sum over a list, by the numbers of its items
+sum_single : (f : Line → ℕ) (x : Line) → sum_by f (x ∷ []) ≡ f x
+sum_single f x = omega arith
+
 sum_push : (f : Line → ℕ) (xs : List Line) (x : Line) → sum_by f (xs ++ x ∷ []) ≡ sum_by f xs + f x
-sum_push f [] x = omega arith
-sum_push f (y ∷ xs) x = let rest = sum_push f xs x in ap (λ (m : ℕ). f y + m) rest ∙ omega arith
+sum_push f xs x = sum_by-append f xs (x ∷ []) ∙ ap (λ (m : ℕ). sum_by f xs + m) (sum_single f x)
 
 sum_to : (f : Line → ℕ) (g : ℕ → ℕ) (xs : List Line) (d : Line) (k : ℕ) → k ≤ length xs
     → ((n : ℕ) (z : Line) → n < length xs → f (get_or xs n z) ≡ g n) → sum_by f (take k xs) ≡ sum_below k g
