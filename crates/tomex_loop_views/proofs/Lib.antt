@@ -8,3 +8,4 @@ pub mod Grouping
 pub mod Longer
 pub mod Spanned
 pub mod RowsOrder
+pub mod SpansBy
