@@ -9,3 +9,7 @@ pub mod Longer
 pub mod Spanned
 pub mod RowsOrder
 pub mod SpansBy
+pub mod GroupsBy
+pub mod Each
+pub mod Repeating
+pub mod TurnsBy

@@ -11,3 +11,4 @@ pub mod Spans
 pub mod ByLoop
 pub mod OfLoop
 pub mod Table
+pub mod Columns

@@ -16,6 +16,7 @@ mod rounds;
 mod row;
 mod spans;
 mod table;
+mod turns;
 mod visited;
 
 pub use around::{Around, around_of};
