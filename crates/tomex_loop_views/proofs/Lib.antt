@@ -15,3 +15,9 @@ pub mod Saving
 pub mod AddingUp
 pub mod AtHeads
 pub mod Adding
+pub mod SpansBy
+pub mod GroupsBy
+pub mod Each
+pub mod Repeating
+pub mod TurnsBy
+pub mod Outside

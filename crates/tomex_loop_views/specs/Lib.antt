@@ -16,3 +16,5 @@ pub mod PlaceColumns
 pub mod Table
 pub mod LoopsReport
 pub mod Laws
+pub mod Columns
+pub mod Lines

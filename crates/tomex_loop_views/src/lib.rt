@@ -1,7 +1,8 @@
-//! The table of a run's loops.
+//! The table of a run's loops: how often each goes round, in how many cycles, how many of these no machine saves, and
+//! what holds it.
 //!
-//! `specs/Rounds.antt` says what is counted of a loop's rounds, `specs/Pattern.antt` what they repeat, and
-//! `specs/Table.antt` what the table has of each loop.
+//! `specs/LoopsReport.antt` says what the table has of each loop, and `specs/Laws.antt` what may be concluded.
+//! Tests: tomex_cases, tomex_tests_commands.
 #![tactic(auto)]
 
 mod around;
@@ -10,25 +11,21 @@ mod extents;
 mod fields;
 mod groups;
 mod laws;
+mod lines;
 mod longest;
 mod path_cycles;
 mod paths;
 mod pattern;
 mod places;
+mod report;
 mod rounds;
 mod row;
 mod spans;
+mod spent;
 mod table;
+mod turns;
 mod visited;
 
-pub use around::{Around, around_of};
-pub use charges::Charge;
-pub use extents::{Extent, extents_of};
-pub use groups::grouped;
 pub use laws::{loops_add_up, loops_are_the_programs, no_machine_saves_more_of_a_loop};
-pub use longest::longest_of;
-pub use path_cycles::{path_cycles_add_up, path_cycles_of};
-pub use pattern::pattern_of;
-pub use rounds::{Counts, count_rounds};
-pub use row::{LoopRow, LoopSums, Rest, RestSums};
-pub use spans::{Span, sums_in_spans};
+pub use path_cycles::path_cycles_add_up;
+pub use report::loops_report;
