@@ -4,7 +4,7 @@ ghost use Rattle.std.specs.Prelude.{◌≡◌};
 ghost use Rattle.tomex_loop_views.specs.Around.{around_of, around_one};
 
 /// What a loop is in.
-#[derive(Clone, Copy, Debug, PartialEq, Eq)]
+#[derive(Clone, Copy)]
 pub enum Around {
     /// In no other loop.
     Nowhere,

@@ -8,7 +8,7 @@ use std::alloc::{AllocError, Allocator};
 use tomex_path::Reason;
 
 /// The cycles of a path for a reason.
-#[derive(Clone, Copy, Debug, PartialEq, Eq)]
+#[derive(Clone, Copy)]
 pub struct Charge {
     pub reason: Reason,
     pub cycles: u64,

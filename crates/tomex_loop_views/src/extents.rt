@@ -6,7 +6,7 @@ ghost use Rattle.tomex_loop_views.specs.Extents.{IsExtent, added, is_at, is_in_v
 use std::alloc::{AllocError, Allocator};
 
 /// Addresses in bytes, from the first to the last.
-#[derive(Clone, Copy, Debug, PartialEq, Eq)]
+#[derive(Clone, Copy)]
 pub struct Extent {
     pub first: u32,
     pub last: u32,

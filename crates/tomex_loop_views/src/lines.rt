@@ -1,6 +1,7 @@
 //! The lines of the table, from what is known of each loop.
 
 ghost use Rattle.std.specs.Prelude.{◌≡◌, ◌<◌, ◌^◌, IfOk, map};
+ghost use Rattle.std.specs.Option.{option_map};
 ghost use Rattle.tomex_loop_views.specs.Lines.{HaveLoops, line_at, lines_to, sums_at};
 ghost use Rattle.tomex_loop_views.specs.Table.{line_of};
 
@@ -45,6 +46,16 @@ fn sums_of<A: Allocator>(columns: &Columns<A>, count: usize, n: usize) -> LoopSu
     }
 }
 
+/// The counts of a pattern, if there is one.
+fn slice_of<A: Allocator>(pattern: &Option<Vec<u64, A>>) -> Option<&[u64]>
+    ensures { option_map (λ counts. counts.now) result ≡ option_map (λ counts. counts.items) pattern.now }
+{
+    match pattern {
+        Some(counts) => Some(counts.as_slice()),
+        None => None,
+    }
+}
+
 /// The row of loop `n`, of `count`.
 fn row_of<A: Allocator>(columns: &Columns<A>, count: usize, n: usize) -> LoopRow<'_>
     requires loops { HaveLoops count columns.now }
@@ -53,7 +64,7 @@ fn row_of<A: Allocator>(columns: &Columns<A>, count: usize, n: usize) -> LoopRow
 {
     LoopRow {
         sums: sums_of(columns, count, n),
-        pattern: columns.turns.patterns[n].as_deref(),
+        pattern: slice_of(&columns.turns.patterns[n]),
         path: &columns.paths.by_loop[n],
     }
 }

@@ -6,7 +6,7 @@ ghost use Rattle.std.specs.List.Sorted.{IsNonDecreasing};
 ghost use Rattle.tomex_loop_views.specs.Rounds.{AreCounts, rounds_of};
 
 /// What is counted of a loop's rounds, in cycles.
-#[derive(Clone, Copy, Debug, PartialEq, Eq)]
+#[derive(Clone, Copy)]
 pub struct Counts {
     pub least: u64,
     /// Of an even number of rounds the lower median.

@@ -7,7 +7,7 @@ ghost use Rattle.tomex_loop_views.specs.Spans.{sum_in};
 use std::alloc::{AllocError, Allocator};
 
 /// Steps of a run that have a key: from one on, and before another.
-#[derive(Clone, Copy, Debug, PartialEq, Eq)]
+#[derive(Clone, Copy)]
 pub struct Span {
     pub key: u32,
     pub from: u32,
