@@ -13,3 +13,4 @@ pub mod GroupsBy
 pub mod Each
 pub mod Repeating
 pub mod TurnsBy
+pub mod Outside

@@ -1,13 +1,20 @@
 -- What is known of each loop of a run, in lists by its number.
-use Rattle.std.specs.Prelude.{ℕ, ◌≡◌, ◌<◌, [], List, Option, None, length, map, slice_index, slice_index_or, MatchOption}
+use Rattle.std.specs.Prelude.{ℕ, ◌≡◌, ◌<◌, [], List, Option, None, is_none, length, map, slice_index, slice_index_or}
+use Rattle.std.specs.Prelude.{MatchOption}
 use Rattle.std.specs.Option.{option_map}
+use Rattle.tomex_rvexec.specs.declared.step.Step.{Step}
+use Rattle.tomex_config.specs.Configuration.{Configuration}
+use Rattle.tomex_stretches.specs.Accounts.{floors_in, own_in}
+use Rattle.tomex_stretches.specs.Cycles.{sum_where}
 use Rattle.tomex_loops.specs.declared.visit.Round.{Round}
 use Rattle.tomex_loops.specs.declared.visit.Visit.{Visit}
 use Rattle.tomex_loop_views.specs.declared.rounds.Counts.{Counts}
+use Rattle.tomex_loop_views.specs.declared.spans.Span.{Span}
+use Rattle.tomex_loop_views.specs.declared.spent.Spent.{Spent}
 use Rattle.tomex_loop_views.specs.declared.turns.Turns.{Turns}
 use Rattle.tomex_loop_views.specs.Groups.{groups_by}
 use Rattle.tomex_loop_views.specs.Longest.{IsLongest}
-use Rattle.tomex_loop_views.specs.OfLoop.{IsTurnOf, PatternIs}
+use Rattle.tomex_loop_views.specs.OfLoop.{IsSpentOf, IsTurnOf, PatternIs}
 use Rattle.tomex_loop_views.specs.Rounds.{AreCounts}
 
 -- what is counted of rounds that take these cycles
@@ -34,3 +41,17 @@ pub record AreTurns {A : Type 0} (issues : List ℕ) (visits : List Visit) (roun
   pub patterns_of_all : length t.patterns.items ≡ count
   pub each : (n : ℕ) → n < count → IsTurnOf issues visits rounds n (slice_index t.rounds.items n)
       (slice_index_or t.counts.items n None) (option_map (λ c. c.items) (slice_index_or t.patterns.items n None))
+
+-- What the steps of each loop take, given the steps in each visit, and for each step of the run its innermost visit and
+-- the loop of that one. Steps outside of all loops have none.
+pub record AreSpent {A : Type 0} (config : Configuration) (steps : List Step) (spans : List Span)
+    (innermost keys : List (Option ℕ)) (count : ℕ) (s : Spent A) : Type 0 where
+  pub steps_of_all : length s.steps.items ≡ count
+  pub cycles_of_all : length s.cycles.items ≡ count
+  pub own_of_all : length s.accounts.own.by_key.items ≡ count
+  pub floor_of_all : length s.accounts.floor.by_key.items ≡ count
+  pub each : (n : ℕ) → n < count → IsSpentOf spans keys (map (λ x. 1) steps) (own_in config steps)
+      (floors_in config steps innermost) n (slice_index s.steps.items n) (slice_index s.cycles.items n)
+      (slice_index s.accounts.own.by_key.items n) (slice_index s.accounts.floor.by_key.items n)
+  pub own_without : s.accounts.own.without ≡ sum_where is_none keys (own_in config steps)
+  pub floor_without : s.accounts.floor.without ≡ sum_where is_none keys (floors_in config steps innermost)

@@ -15,6 +15,7 @@ mod pattern;
 mod rounds;
 mod row;
 mod spans;
+mod spent;
 mod table;
 mod turns;
 mod visited;
