@@ -9,7 +9,7 @@ use Rattle.tomex_loop_views.specs.Groups.{with_key}
 
 key_push : {X : Type 0} (n : ℕ) (keys : List ℕ) (items : List X) (k : ℕ) (x : X) → length keys ≡ length items
     → with_key n (keys ++ (k ∷ [])) (items ++ (x ∷ [])) ≡ with_key n keys items ++ (if k == n then x ∷ [] else [])
-key_push n [] [] k x e = elim (cases_Bool (k == n)) [ | inl is ↦ rw is refl | inr is ↦ rw is refl ]
+key_push n [] [] k x e = elim (cases_Bool (k == n)) [ inl is ↦ rw is refl | inr is ↦ rw is refl ]
 key_push n [] (y ∷ items) k x e = absurd (omega arith)
 key_push n (j ∷ keys) [] k x e = absurd (omega arith)
 key_push n (j ∷ keys) (y ∷ items) k x e =

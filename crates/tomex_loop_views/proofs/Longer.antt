@@ -81,7 +81,7 @@ longest_more loops rounds longest v n was new l small is is_new so =
           let read : get_or longest n None ≡ was = ap (λ (j : ℕ). get_or longest j None) (sym same)
           ∙ sym (get_or_read longest (get_or loops v 0) was small is None) in
           let wrote : get_or (set longest (get_or loops v 0) new) n None
-              ≡ (if is_longer rounds v was then Some v else was) =
+          ≡ (if is_longer rounds v was then Some v else was) =
           ap (λ (j : ℕ). get_or (set longest (get_or loops v 0) new) j None) (sym same)
           ∙ get_or-set_same longest (get_or loops v 0) new None small ∙ is_new in
           rw (wrote, take_more loops v 0 l, same)

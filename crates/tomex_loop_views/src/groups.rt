@@ -6,7 +6,10 @@ ghost use Rattle.tomex_loop_views.specs.Groups.{with_key};
 use std::alloc::{AllocError, Allocator};
 
 /// A list of `count` empty groups.
-pub(crate) fn no_groups<T: Copy, A: Allocator + Clone>(alloc: A, count: usize) -> Result<Vec<Vec<T, A>, A>, AllocError>
+pub(crate) fn no_groups<T: Copy, A: Allocator + Clone>(
+    alloc: A,
+    count: usize,
+) -> Result<Vec<Vec<T, A>, A>, AllocError>
     ensures { IfOk result (λ groups. map (λ group. group.items) groups.items ≡ replicate count []) }
 {
     let mut groups = Vec::new(alloc.clone()?);

@@ -7,7 +7,7 @@ use Rattle.tomex_loop_views.proofs.groups.grouped.Goals as goal
 pub loop-k-preserved : goal.loop-k-preserved
 loop-k-preserved g c = record {
   count = length-set c.loop-k.groups.items (get_or c.args.keys.now c.loop-k.k 0) c.push.new.self
-  ∙ c.loop-k.invariant.count;
+      ∙ c.loop-k.invariant.count;
   groups = λ n l. group_more (λ group. group.items) c.loop-k.groups.items c.args.keys.now c.args.items.now c.loop-k.k n
       c.index-items-k.result c.index_mut.result.now c.push.new.self c.requires.pairs c.loop-k-test.true
       (let small = c.requires.keys c.loop-k.k 0 c.loop-k-test.true in omega (arith, small, c.loop-k.invariant.count))

@@ -62,15 +62,15 @@ loop-span-preserved g c =
     (omega (arith, c.min-start.ensures, within)) c.index-in-loop-span.ensures in
     record {
       sums = length-set c.loop-span.sums.items (get_or c.args.spans.now c.loop-span.span-index none).key _
-      ∙ c.loop-span.invariant.sums;
+          ∙ c.loop-span.invariant.sums;
       ends = length-set c.loop-span.ends.items (get_or c.args.spans.now c.loop-span.span-index none).key _
-      ∙ c.loop-span.invariant.ends;
+          ∙ c.loop-span.invariant.ends;
       summed = λ n l. summed_more c.args.spans.now c.args.numbers.now c.loop-span.sums.items c.loop-span.ends.items
-    c.loop-span.span-index none c.index_mut.result.now c.index-end.result.now c.index.result.now
-    c.index-in-loop-span.result.now c.min-start.result c.max.result c.max-in-loop-span.result c.requires.order c.requires.spans
-    c.requires.within c.loop-span-test.true (omega (arith, small, c.loop-span.invariant.sums))
-    (c.loop-span.invariant.sums ∙ sym c.loop-span.invariant.ends) c.index_mut.ensures.value c.index-end.ensures
-    to start c.min-start.ensures c.max.ensures c.max-in-loop-span.ensures n (c.loop-span.invariant.summed n l);
+          c.loop-span.span-index none c.index_mut.result.now c.index-end.result.now c.index.result.now
+          c.index-in-loop-span.result.now c.min-start.result c.max.result c.max-in-loop-span.result c.requires.order c.requires.spans
+          c.requires.within c.loop-span-test.true (omega (arith, small, c.loop-span.invariant.sums))
+          (c.loop-span.invariant.sums ∙ sym c.loop-span.invariant.ends) c.index_mut.ensures.value c.index-end.ensures
+          to start c.min-start.ensures c.max.ensures c.max-in-loop-span.ensures n (c.loop-span.invariant.summed n l);
     }
 
 pub returns-clause-sums : goal.returns-clause-sums
