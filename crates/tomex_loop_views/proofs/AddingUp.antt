@@ -62,7 +62,7 @@ key_low count visits (Some v) low one =
         (All-head (λ (u : Visit). u.number < count) v vs are)
         (loops_low vs (All-tail (λ (u : Visit). u.number < count) v vs are))
 
-keys_low : (count : ℕ) (visits : List Visit) (os : List (Option ℕ)) → All (λ (v : Visit). v.number < count) visits
+pub keys_low : (count : ℕ) (visits : List Visit) (os : List (Option ℕ)) → All (λ (v : Visit). v.number < count) visits
     → All (IsOneOf (length visits)) os
     → All (λ (key : Option ℕ). IfSome key (λ n. n < count)) (map (option_map (slice_index (loops_of visits))) os)
 keys_low count visits [] low are = All-nil (λ (key : Option ℕ). IfSome key (λ n. n < count))

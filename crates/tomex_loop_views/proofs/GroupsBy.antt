@@ -35,7 +35,7 @@ key_few n [] items = omega arith
 key_few n (k ∷ keys) [] = omega arith
 key_few n (k ∷ keys) (x ∷ items) =
     let rest = key_few n keys items in
-    elim (cases_Bool (k == n)) [ | inl is ↦ rw is (omega (arith, rest)) | inr is ↦ rw is (omega (arith, rest)) ]
+    elim (cases_Bool (k == n)) [ inl is ↦ rw is (omega (arith, rest)) | inr is ↦ rw is (omega (arith, rest)) ]
 
 pub groups_few : {X : Type 0} (count most : ℕ) (keys : List ℕ) (items : List X) → length items < most
     → All (λ group. length group < most) (groups_by count keys items)

@@ -1,7 +1,4 @@
 -- Lemmas of this crate.
-pub mod AtPlaces
-pub mod Moved
-pub mod Reading
 pub mod PathKeys
 pub mod Arounds
 pub mod Grouping

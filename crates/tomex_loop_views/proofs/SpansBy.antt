@@ -1,5 +1,5 @@
 -- The spans of visits grow by one visit at a time.
-use Rattle.std.proofs.Common.{ℕ, zero, suc, ◌+◌, ◌<◌, ◌≤◌, ◌≡◌, arith, refl, ap}
+use Rattle.std.proofs.Common.{ℕ, zero, suc, ◌+◌, ◌<◌, ◌≤◌, ◌≡◌, arith, refl, ap, sym}
 use Rattle.std.proofs.Common.{List, [], ◌∷◌, ◌++◌, Option, Some, None, length, get_or, take}
 use Rattle.std.specs.Prelude.{All, IfSome, unwrap_or}
 use Rattle.std.specs.List.Sorted.{IsNonDecreasingBy}
@@ -22,14 +22,15 @@ spans_push count (u ∷ visits) [] v e l = absurd (omega (arith, l))
 spans_push count (u ∷ visits) (f ∷ ends) v e l =
     ap (λ (xs : List Span). span_of count u f ∷ xs) (spans_push count visits ends v e (omega (arith, l)))
 
-pub spans_more : (count : ℕ) (visits : List Visit) (ends : List (Option ℕ)) (i : ℕ) (d : Visit)
-    → length ends ≡ length visits → i < length visits
-    → spans_by count (take (i + 1) visits) (take (i + 1) ends)
-    ≡ spans_by count (take i visits) (take i ends) ++ (span_of count (get_or visits i d) (get_or ends i None) ∷ [])
-spans_more count visits ends i d pairs l =
-    rw (take_more visits i d l, take_more ends i None (omega (arith, pairs, l)))
-    (spans_push count (take i visits) (take i ends) (get_or visits i d) (get_or ends i None)
-    (omega (arith, length-take i visits, length-take i ends, pairs)))
+pub spans_more : (count : ℕ) (visits : List Visit) (ends : List (Option ℕ)) (i to : ℕ) (d : Visit)
+    (was new : List Span) → length ends ≡ length visits → i < length visits
+    → was ≡ spans_by count (take i visits) (take i ends) → to ≡ unwrap_or (get_or ends i None) count
+    → new ≡ was ++ (record { key = (get_or visits i d).number; from = (get_or visits i d).first; to = to } ∷ [])
+    → new ≡ spans_by count (take (i + 1) visits) (take (i + 1) ends)
+spans_more count visits ends i to d was new pairs l is_was is_to is_new =
+    rw (is_new, is_was, is_to, take_more visits i d l, take_more ends i None (omega (arith, pairs, l)))
+    (sym (spans_push count (take i visits) (take i ends) (get_or visits i d) (get_or ends i None)
+    (omega (arith, length-take i visits, length-take i ends, pairs))))
 
 -- what holds of the spans of visits
 
@@ -63,11 +64,14 @@ module _ (count : ℕ) (visits : List Visit) (ends : List (Option ℕ)) (pairs :
   pub spans_keys : (n : ℕ) → All (λ v. v.number < n) visits → All (λ x. x.key < n) (spans_by count visits ends)
   spans_keys n all = all_spans (λ x. x.key < n) (λ i l. all i none l)
 
-  pub spans_order : IsNonDecreasingBy (λ v. v.first) visits → IsNonDecreasingBy (λ x. x.from) (spans_by count visits ends)
+  pub spans_order : IsNonDecreasingBy (λ v. v.first) visits
+      → IsNonDecreasingBy (λ x. x.from) (spans_by count visits ends)
   spans_order order = λ i j d before l.
       let small : j < length visits = omega (arith, l, spans_many count visits ends pairs) in
-      rw (span_at count visits ends i d none pairs (omega (arith, before, small)),
-      span_at count visits ends j d none pairs small) (order i j none before small)
+      rw (
+        span_at count visits ends i d none pairs (omega (arith, before, small)),
+        span_at count visits ends j d none pairs small,
+      ) (order i j none before small)
 
   -- they end no earlier than they begin, and with the run
 

@@ -7,7 +7,7 @@ use Rattle.std.proofs.lemmas.List.{length-map}
 use Rattle.std.proofs.lemmas.Simd.{map-map}
 use Rattle.tomex_loops.specs.declared.visit.Round.{Round}
 use Rattle.tomex_loops.specs.declared.visit.Visit.{Visit}
-use Rattle.tomex_loop_views.specs.declared.rounds.Counts.{Counts}
+use Rattle.tomex_loops.specs.declared.counts.Counts.{Counts}
 use Rattle.tomex_loop_views.specs.ByLoop.{loops_of, many_rounds, round_cycles}
 use Rattle.tomex_loop_views.specs.Columns.{CountsAre, LongestRepeats, RepeatsOf}
 use Rattle.tomex_loop_views.specs.Groups.{groups_by, with_key}

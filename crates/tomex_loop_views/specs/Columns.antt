@@ -8,14 +8,14 @@ use Rattle.tomex_stretches.specs.Accounts.{floors_in, own_in}
 use Rattle.tomex_stretches.specs.Cycles.{sum_where}
 use Rattle.tomex_loops.specs.declared.visit.Round.{Round}
 use Rattle.tomex_loops.specs.declared.visit.Visit.{Visit}
-use Rattle.tomex_loop_views.specs.declared.rounds.Counts.{Counts}
+use Rattle.tomex_loops.specs.declared.counts.Counts.{Counts}
 use Rattle.tomex_loop_views.specs.declared.spans.Span.{Span}
 use Rattle.tomex_loop_views.specs.declared.spent.Spent.{Spent}
 use Rattle.tomex_loop_views.specs.declared.turns.Turns.{Turns}
 use Rattle.tomex_loop_views.specs.Groups.{groups_by}
 use Rattle.tomex_loop_views.specs.Longest.{IsLongest}
 use Rattle.tomex_loop_views.specs.OfLoop.{IsSpentOf, IsTurnOf, PatternIs}
-use Rattle.tomex_loop_views.specs.Rounds.{AreCounts}
+use Rattle.tomex_loops.specs.Rounds.{AreCounts}
 
 -- what is counted of rounds that take these cycles
 abbrev pub CountsAre : List ℕ → Option Counts → Type 0

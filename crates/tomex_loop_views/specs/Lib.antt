@@ -1,7 +1,5 @@
 -- The definitions that contracts cite: what is counted of a loop's rounds, what they repeat, a path's cycles by key,
 -- sums over visits, the table, and what it has of each loop.
-pub mod Rounds
-pub mod Pattern
 pub mod PathCycles
 pub mod Charges
 pub mod Around

@@ -106,6 +106,7 @@ pub record AreColumns {A : Type 0} (file : List ℕ) (config : Configuration) (s
 -- the path of a run on a configuration, with what bounds it
 pub record ArePathTimes {A : Type 0} (config : Configuration) (steps : List Step) (p : RunPath A) : Type 0 where
   pub times : p.times.items ≡ times_in config steps
+  pub pairs : length p.times.items ≡ length steps
   pub exact : p.links.items ≡ path_in config steps
   pub within : All (IsWithin (length steps) (total_of p.times.items)) p.links.items
   pub few : length p.links.items ≤ length steps

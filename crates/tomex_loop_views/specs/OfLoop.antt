@@ -3,12 +3,12 @@ use Rattle.std.specs.Prelude.{ℕ, ◌≡◌, List, Option, None, length, MatchO
 use Rattle.tomex_stretches.specs.Cycles.{is_key, sum_where}
 use Rattle.tomex_loops.specs.declared.visit.Round.{Round}
 use Rattle.tomex_loops.specs.declared.visit.Visit.{Visit}
-use Rattle.tomex_loop_views.specs.declared.rounds.Counts.{Counts}
+use Rattle.tomex_loops.specs.declared.counts.Counts.{Counts}
 use Rattle.tomex_loop_views.specs.declared.spans.Span.{Span}
 use Rattle.tomex_loop_views.specs.ByLoop.{loops_of, many_rounds, rounds_of_loop, rounds_of_visit}
 use Rattle.tomex_loop_views.specs.Longest.{IsLongest}
-use Rattle.tomex_loop_views.specs.Pattern.{HasNoPattern, IsPattern}
-use Rattle.tomex_loop_views.specs.Rounds.{AreCounts}
+use Rattle.tomex_loops.specs.Pattern.{HasNoPattern, IsPattern}
+use Rattle.tomex_loops.specs.Rounds.{AreCounts}
 use Rattle.tomex_loop_views.specs.Spans.{sum_in}
 
 -- what the rounds of a visit repeat

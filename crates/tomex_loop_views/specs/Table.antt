@@ -13,7 +13,7 @@ use Rattle.tomex_path_views.specs.ByReason.{name_of_reason}
 use Rattle.tomex_loop_views.specs.declared.around.Around.{Around}
 use Rattle.tomex_loop_views.specs.declared.around.Around.TheVariants.{Nowhere, Within, Several}
 use Rattle.tomex_loop_views.specs.declared.charges.Charge.{Charge}
-use Rattle.tomex_loop_views.specs.declared.rounds.Counts.{Counts}
+use Rattle.tomex_loops.specs.declared.counts.Counts.{Counts}
 use Rattle.tomex_loop_views.specs.declared.extents.Extent.{Extent}
 use Rattle.tomex_loop_views.specs.declared.row.LoopRow.{LoopRow}
 use Rattle.tomex_loop_views.specs.declared.row.LoopSums.{LoopSums}

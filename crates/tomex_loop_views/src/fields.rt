@@ -13,7 +13,7 @@ ghost use Rattle.tomex_loop_views.specs.Table.{path_text, pattern_text};
 use crate::around::Around;
 use crate::charges::Charge;
 use crate::extents::Extent;
-use crate::rounds::Counts;
+use tomex_loops::Counts;
 use csv::ByteRecord;
 use std::alloc::AllocError;
 use std::fmt::Write;

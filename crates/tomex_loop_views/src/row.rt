@@ -3,7 +3,7 @@
 use crate::around::Around;
 use crate::charges::Charge;
 use crate::extents::Extent;
-use crate::rounds::Counts;
+use tomex_loops::Counts;
 use tomex_symbols::Symbol;
 
 /// What a loop of a run takes on a configuration.

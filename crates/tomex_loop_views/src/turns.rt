@@ -10,8 +10,6 @@ ghost use Rattle.tomex_loop_views.specs.Groups.{groups_by};
 
 use crate::groups::grouped;
 use crate::longest::longest_of;
-use crate::pattern::pattern_of;
-use crate::rounds::{Counts, count_rounds};
 use crate::visited::loops_of;
 use std::alloc::{AllocError, Allocator};
 use tomex_loops::{Round, Visit};

@@ -1,6 +1,6 @@
 //! The visits of a run, by the loops that they are of.
 
-ghost use Rattle.std.specs.Prelude.{◌≡◌, ◌<◌, ◌^◌, All, IfOk, IfSome, length, map, slice_index};
+ghost use Rattle.std.specs.Prelude.{◌≡◌, ◌<◌, All, IfOk, IfSome, length, map, slice_index};
 ghost use Rattle.std.specs.Option.{option_map};
 ghost use Rattle.tomex_loop_views.specs.ByLoop.{loops_of, spans_by};
 ghost use Rattle.tomex_run_views.specs.ByPlace.{pc_of};

@@ -14,3 +14,6 @@ pub mod WalkSteps
 pub mod Agree
 pub mod Sound
 pub mod EachRun
+pub mod AtPlaces
+pub mod Moved
+pub mod Reading

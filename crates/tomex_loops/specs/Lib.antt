@@ -8,3 +8,5 @@ pub mod Places
 pub mod Ways
 pub mod Jumps
 pub mod Sound
+pub mod Rounds
+pub mod Pattern

@@ -5,14 +5,18 @@
 #![tactic(auto)]
 
 mod coming;
+mod counts;
 mod finding;
 mod forest;
 mod laws;
 mod loops;
+mod pattern;
 mod visit;
 mod visiting;
 
 pub use coming::{Coming, Move};
+pub use counts::{Counts, count_rounds};
 pub use laws::loops_are_sound;
 pub use loops::Loops;
+pub use pattern::pattern_of;
 pub use visit::{Open, Round, Visit};

@@ -1,6 +1,5 @@
 -- The longest visit of a loop is one of those that have groups.
-use Rattle.std.proofs.Common.{ℕ, ◌≡◌, ◌<◌, ◌^◌, ◌∙◌, None, arith, get_or, length, map, sym}
-use Rattle.std.specs.Prelude.{IfSome}
+use Rattle.std.proofs.Common.{ℕ, ◌<◌, ◌^◌, ◌∙◌, None, arith, get_or, length, map, sym}
 use Rattle.std.specs.Option.{option_map}
 use Rattle.std.proofs.lemmas.List.{get_or_default, length-map}
 use Rattle.std.proofs.lemmas.List.Elements.{All-map}
@@ -45,9 +44,20 @@ returns-clause-patterns g c = IfOk-weaker c.patterns_in.result
     let here = each n (rw c.deref-5.ensures.value (omega (arith, l, c.in_ok-longest.ensures.count))) in
     record {
       longest = get_or c.in_ok-longest.longest.items n None;
-      longest_is = rw (c.deref-3.ensures.value, c.in_ok-lengths.ensures, c.deref-2.ensures.value,
-          c.in_ok-groups.ensures, c.deref.ensures.value, c.in_ok-visits.ensures)
+      longest_is = rw (
+        c.deref-3.ensures.value,
+        c.in_ok-lengths.ensures,
+        c.deref-2.ensures.value,
+        c.in_ok-groups.ensures,
+        c.deref.ensures.value,
+        c.in_ok-visits.ensures,
+      )
           at (c.in_ok-longest.ensures.longest n l);
-      pattern_is = rw (c.deref-4.ensures.value, c.deref-5.ensures.value, c.in_ok-groups.ensures,
-          c.deref.ensures.value, c.in_ok-visits.ensures) at here;
+      pattern_is = rw (
+        c.deref-4.ensures.value,
+        c.deref-5.ensures.value,
+        c.in_ok-groups.ensures,
+        c.deref.ensures.value,
+        c.in_ok-visits.ensures,
+      ) at here;
     }) c.patterns_in.ensures.patterns

@@ -23,7 +23,6 @@ cycles_by-requires-clause-keys g c =
 
 pub lengths_of-requires : goal.lengths_of-requires
 lengths_of-requires g c =
-    let issues = map (λ t. t.issue) c.args.times.now in
     let many : length c.deref-5.result.now ≡ length c.args.rounds.now =
     ap (λ (xs : List ℕ). length xs) (c.deref-5.ensures.value ∙ c.in_ok-cycles.ensures)
     ∙ length-map c.args.rounds.now _ in
@@ -34,19 +33,26 @@ lengths_of-requires g c =
 pub returns : goal.returns
 returns g c =
     let are : map (λ group. group.items) c.in_ok-groups.groups.items
-        ≡ groups_by c.args.count (keys c.args.visits.now c.args.rounds.now)
-        (round_cycles (map (λ t. t.issue) c.args.times.now) c.args.rounds.now) =
-    rw (c.deref-4.ensures.value, c.in_ok-keys.ensures, c.deref-3.ensures.value, c.in_ok-loops.ensures,
-    c.deref-5.ensures.value, c.in_ok-cycles.ensures) at c.in_ok-groups.ensures in
+    ≡ groups_by c.args.count (keys c.args.visits.now c.args.rounds.now)
+    (round_cycles (map (λ t. t.issue) c.args.times.now) c.args.rounds.now) =
+    rw (
+      c.deref-4.ensures.value,
+      c.in_ok-keys.ensures,
+      c.deref-3.ensures.value,
+      c.in_ok-loops.ensures,
+      c.deref-5.ensures.value,
+      c.in_ok-cycles.ensures,
+    ) at c.in_ok-groups.ensures in
     let rounds_are : c.in_ok-rounds.rounds.items ≡ map length (groups_by c.args.count
-        (keys c.args.visits.now c.args.rounds.now)
-        (round_cycles (map (λ t. t.issue) c.args.times.now) c.args.rounds.now)) =
+    (keys c.args.visits.now c.args.rounds.now)
+    (round_cycles (map (λ t. t.issue) c.args.times.now) c.args.rounds.now)) =
     rw (c.deref-6.ensures.value, are) at c.in_ok-rounds.ensures in
     let many : length c.in_ok-groups.groups.items ≡ c.args.count =
     many_groups (λ group. group.items) c.in_ok-groups.groups.items c.args.count _ _ are in
     record {
       rounds_of_all = rw rounds_are (length-map (groups_by c.args.count (keys c.args.visits.now c.args.rounds.now)
-          (round_cycles (map (λ t. t.issue) c.args.times.now) c.args.rounds.now)) length ∙ groups_many c.args.count _ _);
+          (round_cycles (map (λ t. t.issue) c.args.times.now) c.args.rounds.now)) length
+          ∙ groups_many c.args.count _ _);
       counts_of_all = c.in_ok-counts.ensures.count ∙ rw c.deref_mut.ensures.value many;
       patterns_of_all = c.in_ok-patterns.ensures.count;
       each = λ n l. turn_is (map (λ t. t.issue) c.args.times.now) c.args.visits.now c.args.rounds.now c.args.count n
