@@ -30,12 +30,15 @@ sum_single f x = omega arith
 sum_push : (f : Line → ℕ) (xs : List Line) (x : Line) → sum_by f (xs ++ x ∷ []) ≡ sum_by f xs + f x
 sum_push f xs x = sum_by-append f xs (x ∷ []) ∙ ap (λ (m : ℕ). sum_by f xs + m) (sum_single f x)
 
+one : (k : ℕ) → suc k ≡ k + 1
+one k = omega arith
+
 sum_to : (f : Line → ℕ) (g : ℕ → ℕ) (xs : List Line) (d : Line) (k : ℕ) → k ≤ length xs
     → ((n : ℕ) (z : Line) → n < length xs → f (get_or xs n z) ≡ g n) → sum_by f (take k xs) ≡ sum_below k g
 sum_to f g xs d zero few are = refl
 sum_to f g xs d (suc k) few are =
     let more : take (suc k) xs ≡ take k xs ++ get_or xs k d ∷ [] =
-    ap (λ (m : ℕ). take m xs) (omega arith) ∙ take_more xs k d (omega (arith, few)) in
+    ap (λ (m : ℕ). take m xs) (one k) ∙ take_more xs k d (omega (arith, few)) in
     let before = sum_to f g xs d k (omega (arith, few)) are in
     let last = are k d (omega (arith, few)) in
     ap (λ (ys : List Line). sum_by f ys) more ∙ sum_push f (take k xs) (get_or xs k d)
@@ -95,8 +98,7 @@ loops_add_up config file steps lines outside total within are is_outside is_tota
     (λ n z h. (are.are n z h).spent.own_is) in
     let floor = column file config steps lines (λ l. l.sums.floor) (floors_of config steps)
     (length_floors config steps (innermost_of steps) (loops_are_sound steps).many_innermost) are
-    (λ n z h. (are.are n z h).spent.floor_is) in
-    (
+    (λ n z h. (are.are n z h).spent.floor_is) in (
       omega (arith, own, is_outside.cycles, is_total.cycles, runs_add_up config steps within),
       omega (arith, floor, is_outside.floor, is_total.floor),
     )

@@ -18,3 +18,5 @@ pub mod Each
 pub mod Repeating
 pub mod TurnsBy
 pub mod Outside
+pub mod LoopLines
+pub mod OneMore

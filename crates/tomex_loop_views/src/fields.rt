@@ -13,11 +13,11 @@ ghost use Rattle.tomex_loop_views.specs.Table.{path_text, pattern_text};
 use crate::around::Around;
 use crate::charges::Charge;
 use crate::extents::Extent;
-use tomex_loops::Counts;
 use csv::ByteRecord;
 use std::alloc::AllocError;
 use std::fmt::Write;
 use tomex_layout::push_decimal;
+use tomex_loops::Counts;
 use tomex_path_views::push_name_of_reason;
 
 /// Adds an address.

@@ -1,24 +1,23 @@
 //! The table of a run's loops on a configuration.
 
-ghost use Rattle.std.specs.Prelude.{◌≡◌, ◌+◌, ◌<◌, ◌≤◌, ◌^◌, ℕ, [], All, IfOk, is_none, length, map, slice_index_or, sum};
+ghost use Rattle.std.specs.Prelude.{◌≡◌, ◌+◌, ◌<◌, ◌≤◌, ◌^◌, All, IfOk, IsPermutation, length, map, sum};
 ghost use Rattle.tomex_rvexec.specs.Run.{most_steps, start_of};
 ghost use Rattle.tomex_rvexec.specs.Trace.{steps_from};
 ghost use Rattle.tomex_symbols.specs.Symbols.{symbols_of};
-ghost use Rattle.tomex_timing.specs.Search.{times_in, total_of};
+ghost use Rattle.tomex_timing.specs.Search.{times_in};
 ghost use Rattle.tomex_run_views.specs.ByPlace.{pc_of};
-ghost use Rattle.tomex_stretches.specs.Cycles.{sum_where};
 ghost use Rattle.tomex_loops.specs.Sound.{AreSound, IsOneOf};
 ghost use Rattle.tomex_loop_views.specs.ByLoop.{keys_of, spans_by};
 ghost use Rattle.tomex_loop_views.specs.Columns.{AreSpent, AreTurns};
 ghost use Rattle.tomex_loop_views.specs.Lines.{AreColumns, ArePathTimes, HaveLoops, IsTableOf, lines_to, outside_sums, total_sums};
 ghost use Rattle.tomex_loop_views.specs.LoopsReport.{IsLoopsReport};
 ghost use Rattle.tomex_loop_views.specs.PlaceColumns.{ArePlaces};
-ghost use Rattle.tomex_loop_views.specs.Table.{rest_of};
+ghost use Rattle.tomex_loop_views.specs.Table.{InOrder, line_of};
 
 use crate::lines::{Columns, rows_of};
 use crate::paths::paths_of;
 use crate::places::{Places, places_of};
-use crate::row::{Rest, RestSums};
+use crate::row::{LoopRow, Rest, RestSums};
 use crate::spent::{Spent, spent_of, steps_without};
 use crate::table::{sort_rows, table_of};
 use crate::turns::{Turns, turns_of};
@@ -175,6 +174,21 @@ fn total_of<A: Allocator>(columns: &Columns<A>, times: &[Times]) -> RestSums
     }
 }
 
+/// The rows of the loops, of which there are `count`, in the order of the table.
+fn sorted_rows<A: Allocator + Clone>(
+    alloc: A,
+    columns: &Columns<A>,
+    count: usize,
+) -> Result<Vec<LoopRow<'_>, A>, AllocError>
+    requires { HaveLoops count columns.now }
+    ensures those { IfOk result (λ rows. IsPermutation (lines_to columns.now count) (map line_of rows.items)) }
+    ensures order { IfOk result (λ rows. InOrder (map line_of rows.items)) }
+{
+    let mut rows = rows_of(alloc, columns, count)?;
+    sort_rows(&mut rows);
+    Ok(rows)
+}
+
 /// The table of these columns, of `count` loops.
 fn text_of_columns<A: Allocator + Clone>(
     alloc: A,
@@ -190,8 +204,7 @@ fn text_of_columns<A: Allocator + Clone>(
         (record { sums = outside; path = columns.now.paths.outside.items })
         (record { sums = all; path = columns.now.paths.total.items }) text.items) }
 {
-    let mut rows = rows_of(alloc.clone()?, columns, count)?;
-    sort_rows(&mut rows);
+    let rows = sorted_rows(alloc.clone()?, columns, count)?;
     let outside = Rest {
         sums: outside,
         path: &columns.paths.outside,

@@ -20,9 +20,9 @@ use tomex_functions::push_function;
 use tomex_layout::{into_text, push_names, put_record};
 
 /// Puts loops in the order of the table: those with the most cycles of their own first, then by the head.
-pub(crate) fn sort_rows(rows: &mut [LoopRow])
-    ensures moved { IsPermutation rows.old rows.new }
-    ensures order { InOrder (map line_of rows.new) }
+pub(crate) fn sort_rows<A: Allocator>(rows: &mut Vec<LoopRow, A>)
+    ensures moved { IsPermutation rows.old.items rows.new.items }
+    ensures order { InOrder (map line_of rows.new.items) }
 {
     rows.sort_unstable_by_key(|row| (Reverse(row.sums.own), row.sums.head));
 }

@@ -12,7 +12,7 @@ use crate::groups::grouped;
 use crate::longest::longest_of;
 use crate::visited::loops_of;
 use std::alloc::{AllocError, Allocator};
-use tomex_loops::{Round, Visit};
+use tomex_loops::{Counts, Round, Visit, count_rounds, pattern_of};
 use tomex_timing::Times;
 
 /// What is known of the rounds of each loop of a run, by its number.
