@@ -1,7 +1,7 @@
 -- What the loops take adds up.
-use Rattle.std.proofs.Common.{ℕ, zero, suc, ◌+◌, ◌<◌, ◌≤◌, ◌≡◌, ◌∙◌, refl, sym, ap, subst, arith, List, [], ◌∷◌, ◌++◌, length}
+use Rattle.std.proofs.Common.{ℕ, zero, suc, ◌+◌, ◌<◌, ◌≤◌, ◌≡◌, ◌∙◌, refl, sym, ap, arith, List, [], ◌∷◌, ◌++◌, length}
 use Rattle.std.proofs.Common.{get_or, map, slice_index, sum, sum_by, take, take_all, Option, Some, None}
-use Rattle.std.specs.Prelude.{IfSome, IsPermutation, is_none}
+use Rattle.std.specs.Prelude.{IfSome, is_none}
 use Rattle.std.specs.List.{All}
 use Rattle.std.specs.Option.{option_map}
 use Rattle.std.proofs.lemmas.List.{length-map, take_more}
@@ -47,7 +47,8 @@ sum_to f g xs d (suc k) few are =
 sum_all : (f : Line → ℕ) (g : ℕ → ℕ) (xs : List Line)
     → ((n : ℕ) (z : Line) → n < length xs → f (get_or xs n z) ≡ g n) → sum_by f xs ≡ sum_below (length xs) g
 sum_all f g [] are = refl
-sum_all f g (x ∷ xs) are = ap (λ (ys : List Line). sum_by f ys) (sym (take_all (length (x ∷ xs)) (x ∷ xs) (omega arith)))
+sum_all f g (x ∷ xs) are =
+    ap (λ (ys : List Line). sum_by f ys) (sym (take_all (length (x ∷ xs)) (x ∷ xs) (omega arith)))
     ∙ sum_to f g (x ∷ xs) x (length (x ∷ xs)) (omega arith) are
 
 -- the loop of a visit is one of those there are
@@ -55,7 +56,8 @@ key_low : (count : ℕ) (visits : List Visit) (o : Option ℕ) → All (λ (v : 
     → IsOneOf (length visits) o → IfSome (option_map (slice_index (loops_of visits)) o) (λ n. n < count)
 key_low count visits None low one = tt
 key_low count visits (Some v) low one =
-    All-get_or (λ (n : ℕ). n < count) (loops_of visits) v 0 (omega (arith, one, length-map visits (λ (u : Visit). u.number)))
+    All-get_or (λ (n : ℕ). n < count) (loops_of visits) v 0
+    (omega (arith, one, length-map visits (λ (u : Visit). u.number)))
     (loops_low visits low)
   where
     loops_low : (vs : List Visit) → All (λ (v : Visit). v.number < count) vs

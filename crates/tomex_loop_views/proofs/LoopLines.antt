@@ -1,8 +1,7 @@
 -- The lines of the table are those of the loops that are defined.
-use Rattle.std.proofs.Common.{ℕ, suc, ◌+◌, ◌*◌, ◌<◌, ◌≤◌, ◌≡◌, ◌∙◌, refl, sym, ap, subst, arith, List, [], ◌∷◌, length}
-use Rattle.std.proofs.Common.{get_or, map, slice_index, sum, Option, Some, None}
+use Rattle.std.proofs.Common.{ℕ, suc, ◌+◌, ◌<◌, ◌≡◌, ◌∙◌, refl, sym, ap, subst, arith, List, [], ◌∷◌, length}
+use Rattle.std.proofs.Common.{map, slice_index, sum, Option}
 use Rattle.std.specs.Prelude.{IsPermutation, is_none}
-use Rattle.std.specs.List.{range_with_len}
 use Rattle.std.proofs.lemmas.List.{length-map}
 use Rattle.std.proofs.lemmas.List.FromFn.{get_or-map-range_with_len, length-map-range_with_len}
 use Rattle.std.proofs.lemmas.List.Sums.{sum_by-cons}
@@ -16,13 +15,12 @@ use Rattle.tomex_loops.specs.declared.visit.Round.{Round}
 use Rattle.tomex_loops.specs.declared.visit.Visit.{Visit}
 use Rattle.tomex_stretches.specs.Cycles.{is_key, sum_below, sum_where}
 use Rattle.tomex_stretches.proofs.Keyed.{keys_add_up}
-use Rattle.tomex_stretches.proofs.Totals.{floors_fit, length_floors}
+use Rattle.tomex_stretches.proofs.Totals.{length_floors}
 use Rattle.tomex_loop_views.specs.declared.lines.Columns.{Columns}
-use Rattle.tomex_loop_views.specs.Lines.{AreColumns, AreLoopsOf, IsTableOf, around_at, line_at, lines_to}
+use Rattle.tomex_loop_views.specs.Lines.{AreColumns, AreLoopsOf, around_at, line_at, lines_to}
 use Rattle.tomex_loop_views.specs.Lines.{outside_sums, total_sums}
-use Rattle.tomex_loop_views.specs.LoopsReport.{AreLines, IsLine, IsLoopsReport, IsOutside, IsTotal, floors_of, keys_in}
-use Rattle.tomex_loop_views.specs.LoopsReport.{ones}
-use Rattle.tomex_loop_views.specs.Table.{InOrder, Line, RestLine}
+use Rattle.tomex_loop_views.specs.LoopsReport.{AreLines, IsLine, IsOutside, IsTotal, floors_of, keys_in}
+use Rattle.tomex_loop_views.specs.Table.{InOrder, Line}
 use Rattle.tomex_loop_views.proofs.AddingUp.{keys_low}
 
 abbrev pub known : List ℕ → List (Option ℕ) → List Visit → List (Option ℕ) → List (Option ℕ) → List (Option ℕ)

@@ -1,7 +1,7 @@
 -- The cycles of a path's links by key: they fit, and add up.
-use Rattle.std.proofs.Common.{ℕ, ◌+◌, ◌*◌, ◌^◌, ◌<◌, ◌≤◌, ◌≡◌, ◌∙◌, Bool, true, false, arith, refl, ap, sym, inl, inr}
-use Rattle.std.proofs.Common.{List, [], ◌∷◌, Option, None, ◌-◌, length, map, sum, get_or, suc, zero}
-use Rattle.std.specs.Prelude.{All, IfSome, MatchOption, is_none, slice_index_or, sum_by, if◌then◌else◌}
+use Rattle.std.proofs.Common.{ℕ, ◌^◌, ◌<◌, ◌≤◌, ◌≡◌, ◌∙◌, arith, refl, sym, inl, inr}
+use Rattle.std.proofs.Common.{List, [], ◌∷◌, Option, None, ◌-◌, map, sum, get_or, suc, zero}
+use Rattle.std.specs.Prelude.{All, IfSome, slice_index_or, sum_by}
 use Rattle.std.proofs.lemmas.Bool.{cases_Bool}
 use Rattle.std.proofs.lemmas.List.{length-map}
 use Rattle.std.proofs.lemmas.List.Elements.{All-cons, All-weaker}
@@ -12,9 +12,8 @@ use Rattle.tomex_path.specs.Laws.{all_reasons, cycles_of, had_for, is_reason}
 use Rattle.tomex_path.proofs.Reasons.{reasons_add_up}
 use Rattle.tomex_path_views.specs.Shares.{AreShort, IsShort, share_of}
 use Rattle.tomex_path_views.specs.ByReason.{links_with}
-use Rattle.tomex_stretches.specs.Cycles.{is_key, sum_below, sum_where}
 use Rattle.tomex_stretches.proofs.Keyed.{keys_add_up}
-use Rattle.tomex_loop_views.specs.PathCycles.{PathCyclesAddUp, cycles_for, key_of_link, sum_for}
+use Rattle.tomex_loop_views.specs.PathCycles.{PathCyclesAddUp, cycles_for, key_of_link}
 
 pub short_one : (l : Link) → IsShort l → AreShort (l ∷ [])
 short_one l is = record {

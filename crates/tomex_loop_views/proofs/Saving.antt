@@ -1,5 +1,5 @@
 -- A loop on two machines.
-use Rattle.std.proofs.Common.{ℕ, suc, ◌+◌, ◌≤◌, ◌≡◌, ◌∙◌, refl, sym, ap, arith, cond, Bool, true, false, List, [], ◌∷◌}
+use Rattle.std.proofs.Common.{ℕ, suc, ◌+◌, ◌≡◌, ◌∙◌, refl, sym, ap, arith, cond, Bool, true, false, List, [], ◌∷◌}
 use Rattle.std.proofs.Common.{length, map, nat_eq, slice_index, Option}
 use Rattle.std.specs.Option.{option_map}
 use Rattle.std.proofs.lemmas.List.{length-map}

@@ -9,7 +9,8 @@ ghost use Rattle.tomex_run_views.specs.ByPlace.{pc_of};
 ghost use Rattle.tomex_loops.specs.Sound.{AreSound, IsOneOf};
 ghost use Rattle.tomex_loop_views.specs.ByLoop.{keys_of, spans_by};
 ghost use Rattle.tomex_loop_views.specs.Columns.{AreSpent, AreTurns};
-ghost use Rattle.tomex_loop_views.specs.Lines.{AreColumns, ArePathTimes, HaveLoops, IsTableOf, lines_to, outside_sums, total_sums};
+ghost use Rattle.tomex_loop_views.specs.Lines.{AreColumns, ArePathTimes, HaveLoops};
+ghost use Rattle.tomex_loop_views.specs.Lines.{IsTableOf, lines_to, outside_sums, total_sums};
 ghost use Rattle.tomex_loop_views.specs.LoopsReport.{IsLoopsReport};
 ghost use Rattle.tomex_loop_views.specs.PlaceColumns.{ArePlaces};
 ghost use Rattle.tomex_loop_views.specs.Table.{InOrder, line_of};
@@ -220,8 +221,8 @@ fn text_of_columns<A: Allocator + Clone>(
 /// of their own first, one for the steps outside of all loops, and one for all steps.
 ///
 /// `file` is the whole file of the program: loops are named by its functions, if it has symbols. `csv` allocates its
-/// records in `heap`. The work is that of the run's path, and linear in the steps, except for sorting its loops and their
-/// rounds, and for the functions of its addresses.
+/// records in `heap`. The work is that of the run's path, and linear in the steps, except for sorting its loops and
+/// their rounds, and for the functions of its addresses.
 pub fn loops_report<A: Allocator + Clone>(
     alloc: A,
     heap: Global,

@@ -1,4 +1,5 @@
--- The definitions that contracts cite: how a run comes to each step, its loops, and the code's own words.
+-- The definitions that contracts cite: how a run reaches each step, its loops, their visits and rounds, and the code's
+-- own words.
 pub mod Calls
 pub mod Loops
 pub mod Visits

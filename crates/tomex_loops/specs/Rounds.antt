@@ -7,7 +7,7 @@ pub record IsAtPlace (numbers : List ℕ) (place n : ℕ) : Type 0 where
   pub below : count_by (λ x. nat_lt x n) numbers ≤ place
   pub here : place < count_by (λ x. nat_le x n) numbers
 
--- how many rounds take so many cycles
+-- how many rounds take n cycles
 abbrev pub rounds_of : List ℕ → ℕ → ℕ
 rounds_of cycles n = count_by (λ x. x == n) cycles
 

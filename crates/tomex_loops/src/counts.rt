@@ -14,7 +14,7 @@ pub struct Counts {
     pub most: u64,
     /// The cycles that most rounds take; the least of several such numbers.
     pub usual: u64,
-    /// The number of rounds that take so many.
+    /// The number of rounds that take this many.
     pub alike: u64,
 }
 

@@ -1,7 +1,7 @@
-//! The loops of a run, found in its steps alone: no symbols, no graph of the program, no order of addresses, and no
-//! machine.
+//! The loops of a run, found in its steps: no symbols, no graph of the program, no order of addresses, and no machine.
 //!
-//! `specs/Calls.antt` says how a run comes to each step, and `specs/Loops.antt` what a loop is.
+//! `specs/Calls.antt` says how a run reaches each step, `specs/Loops.antt` what a loop is, `specs/Visits.antt` what its
+//! visits and rounds are, and `specs/Rounds.antt` and `Pattern.antt` what is counted of rounds.
 #![tactic(auto)]
 
 mod coming;

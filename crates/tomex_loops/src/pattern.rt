@@ -7,7 +7,7 @@ ghost use Rattle.tomex_loops.specs.Pattern.{IsPeriod, reads_less, second_half, t
 
 use std::alloc::{AllocError, Allocator};
 
-/// True if each round, after the first `period`, takes as much as the one so many before it.
+/// True if each round, after the first `period`, takes as much as the one a period before it.
 fn is_repeated(cycles: &[u64], period: usize) -> bool
     requires { period ≤ length cycles.now }
     ensures { IsTrue result ↔ AreRepeated period cycles.now }

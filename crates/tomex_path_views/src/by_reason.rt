@@ -49,7 +49,10 @@ pub const REASONS: [Reason; 18] = [
 ];
 
 /// Adds a reason's name: that of a part is that of its column in the front report.
-pub fn push_name_of_reason<A: Allocator>(text: &mut String<A>, reason: Reason) -> Result<(), AllocError>
+pub fn push_name_of_reason<A: Allocator>(
+    text: &mut String<A>,
+    reason: Reason,
+) -> Result<(), AllocError>
     ensures { OnOk result (Appends (name_of_reason reason) text.old text.new) }
 {
     match reason {

@@ -2,7 +2,8 @@
 use Rattle.clap.specs.Walk.{rows_of}
 use Rattle.clap.specs.Words.{found_of}
 use Rattle.tomex_command_line.proofs.Lines.{no_all, no_animate, no_choices, no_compare, no_explore, no_find, no_front}
-use Rattle.tomex_command_line.proofs.Lines.{no_functions, no_loops, no_page, no_path, no_pipeline, no_plot, no_prices, no_rows}
+use Rattle.tomex_command_line.proofs.Lines.{no_functions, no_loops, no_page, no_path, no_pipeline, no_plot, no_prices}
+use Rattle.tomex_command_line.proofs.Lines.{no_rows}
 use Rattle.tomex_command_line.proofs.Lines.{no_run, no_stalls, no_tables, no_times, no_weights, no_worth, refused_as}
 use Rattle.tomex_command_line.proofs.PassedOn.{passed_on}
 use Rattle.tomex_command_line.proofs.line.line_with.Goals as goal
@@ -48,7 +49,8 @@ returns-in_err-line_of-in-Animate-clause-refused c =
 pub returns-in_err-line_of-in-All-clause-refused : goal.returns-in_err-line_of-in-All-clause-refused
 returns-in_err-line_of-in-All-clause-refused c =
     passed_on _ _ _ c.from_residual-in_err-line_of-in-All.result c.from_residual-in_err-line_of-in-All.ensures.1
-    c.in_err-line_of-in-All.ensures.refused (λ none. refused_as _ c.in-All.is (no_all (rows_of (found_of c.args.args.now)) none))
+    c.in_err-line_of-in-All.ensures.refused
+    (λ none. refused_as _ c.in-All.is (no_all (rows_of (found_of c.args.args.now)) none))
 
 pub returns-in_err-line_of-in-Explore-clause-refused : goal.returns-in_err-line_of-in-Explore-clause-refused
 returns-in_err-line_of-in-Explore-clause-refused c =

@@ -1,5 +1,5 @@
 -- The charge goes to the place that was found.
-use Rattle.std.proofs.Common.{◌≡◌, ℕ, arith, length}
+use Rattle.std.proofs.Common.{◌≡◌, arith, length}
 use Rattle.tomex_loop_views.proofs.Insertion.{inserted_at, inserted_end}
 use Rattle.tomex_loop_views.proofs.charges.place_of.Goals as goal
 

@@ -1,5 +1,5 @@
 -- The row of one more loop.
-use Rattle.std.proofs.Common.{◌≡◌, ◌∙◌, ◌++◌, ◌∷◌, [], List, ap, map, sym}
+use Rattle.std.proofs.Common.{◌∙◌, ◌++◌, ◌∷◌, [], List, ap, map, sym}
 use Rattle.std.proofs.lemmas.List.{map_push}
 use Rattle.tomex_loop_views.specs.declared.row.LoopRow.{LoopRow}
 use Rattle.tomex_loop_views.specs.Lines.{line_at, lines_to}

@@ -1,14 +1,12 @@
 -- What holds of the loops of each run is what their columns need.
-use Rattle.std.proofs.Common.{◌≡◌, ◌∙◌, ◌+◌, ◌<◌, ◌≤◌, ℕ, List, Option, ap, arith, get_or, length, map, subst, sym}
-use Rattle.std.specs.Prelude.{All, IfSome}
+use Rattle.std.proofs.Common.{◌≡◌, ◌∙◌, ℕ, List, Option, ap, arith, get_or, length, subst, sym}
+use Rattle.std.specs.Prelude.{All}
 use Rattle.std.proofs.lemmas.List.{length-map}
 use Rattle.tomex_path.specs.declared.link.Link.{Link}
 use Rattle.tomex_path.specs.Within.{IsWithin}
 use Rattle.tomex_timing.specs.declared.times.Times.{Times}
 use Rattle.tomex_timing.specs.Search.{total_of}
 use Rattle.tomex_loops.specs.Sound.{AreSound}
-use Rattle.tomex_loop_views.specs.Columns.{AreSpent, AreTurns}
-use Rattle.tomex_loop_views.specs.PlaceColumns.{ArePlaces}
 use Rattle.tomex_loop_views.proofs.AddingUp.{keys_low}
 use Rattle.tomex_loop_views.proofs.report.columns_of.Goals as goal
 

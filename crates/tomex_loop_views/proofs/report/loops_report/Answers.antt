@@ -1,5 +1,5 @@
 -- The table of the loops that are defined.
-use Rattle.std.proofs.Common.{◌≡◌, ◌∙◌, ap, arith, length, List, subst}
+use Rattle.std.proofs.Common.{◌∙◌, ap, arith, length, List, subst}
 use Rattle.std.specs.Prelude.{IfOk}
 use Rattle.std.proofs.lemmas.Result.{IfOk-weaker}
 use Rattle.tomex_rvexec.specs.declared.step.Step.{Step}

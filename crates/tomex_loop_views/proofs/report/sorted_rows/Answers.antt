@@ -1,5 +1,5 @@
 -- The rows are moved, and so are their lines.
-use Rattle.std.proofs.Common.{◌≡◌, List, map, subst}
+use Rattle.std.proofs.Common.{List, map, subst}
 use Rattle.std.specs.Prelude.{IsPermutation}
 use Rattle.std.proofs.lemmas.List.Sorted.{IsPermutation-map}
 use Rattle.tomex_loop_views.specs.Table.{Line, line_of}

@@ -1,5 +1,5 @@
 -- Each turn adds a span to the sum of its key.
-use Rattle.std.proofs.Common.{ℕ, ◌≡◌, ◌≤◌, ◌∙◌, List, ap, arith, get_or, max, refl, rules, slice_index, sum, sym, take, take_all}
+use Rattle.std.proofs.Common.{◌∙◌, List, ap, arith, get_or, max, refl, rules, sym, take_all}
 use Rattle.std.proofs.lemmas.List.{length-set}
 use Rattle.tomex_loop_views.specs.declared.spans.Span.{Span}
 use Rattle.tomex_loop_views.specs.Spans.{sum_in}
@@ -35,7 +35,8 @@ overflow_add-index_mut g c =
     let few = sum_few c.args.spans.now c.args.numbers.now c.loop-span.sums.items c.loop-span.ends.items
     c.loop-span.span-index none c.index_mut.result.now c.index-end.result.now c.index.result.now
     c.index-in-loop-span.result.now c.min-start.result c.max.result
-    (max (get_or c.args.spans.now c.loop-span.span-index none).to c.index-end.result.now) c.requires.order c.requires.spans
+    (max (get_or c.args.spans.now c.loop-span.span-index none).to c.index-end.result.now) c.requires.order
+    c.requires.spans
     c.requires.within c.loop-span-test.true (omega (arith, small, c.loop-span.invariant.sums))
     (c.loop-span.invariant.sums ∙ sym c.loop-span.invariant.ends) c.index_mut.ensures.value c.index-end.ensures
     to start c.min-start.ensures c.max.ensures refl
@@ -67,7 +68,8 @@ loop-span-preserved g c =
           ∙ c.loop-span.invariant.ends;
       summed = λ n l. summed_more c.args.spans.now c.args.numbers.now c.loop-span.sums.items c.loop-span.ends.items
           c.loop-span.span-index none c.index_mut.result.now c.index-end.result.now c.index.result.now
-          c.index-in-loop-span.result.now c.min-start.result c.max.result c.max-in-loop-span.result c.requires.order c.requires.spans
+          c.index-in-loop-span.result.now c.min-start.result c.max.result c.max-in-loop-span.result c.requires.order
+          c.requires.spans
           c.requires.within c.loop-span-test.true (omega (arith, small, c.loop-span.invariant.sums))
           (c.loop-span.invariant.sums ∙ sym c.loop-span.invariant.ends) c.index_mut.ensures.value c.index-end.ensures
           to start c.min-start.ensures c.max.ensures c.max-in-loop-span.ensures n (c.loop-span.invariant.summed n l);

@@ -1,7 +1,6 @@
 -- No key is less than the one before it.
 use Rattle.std.proofs.Common.{rules, arith, ◌+◌, get_or}
 use Rattle.std.proofs.lemmas.List.Sorted.{answers_always}
-use Rattle.std.specs.declared.cmp.Reverse.{Reverse}
 use Rattle.tomex_loop_views.specs.declared.row.LoopRow.{LoopRow}
 use Rattle.tomex_loop_views.specs.Table.{key_of}
 use Rattle.tomex_loop_views.proofs.RowsOrder.{in_order, lines_in_order}
