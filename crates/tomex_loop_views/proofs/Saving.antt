@@ -1,21 +1,23 @@
 -- A loop on two machines.
 use Rattle.std.proofs.Common.{ℕ, suc, ◌+◌, ◌≡◌, ◌∙◌, refl, sym, ap, arith, cond, Bool, true, false, List, [], ◌∷◌}
-use Rattle.std.proofs.Common.{length, map, nat_eq, slice_index, Option}
+use Rattle.std.proofs.Common.{length, map, nat_eq, reverse, slice_index, Option}
 use Rattle.std.specs.Option.{option_map}
 use Rattle.std.proofs.lemmas.List.{length-map}
 use Rattle.tomex_rvexec.specs.declared.step.Step.{Step}
-use Rattle.tomex_config.specs.Configuration.{Configuration}
+use Rattle.tomex_config.specs.Configuration.{Configuration, latency_of}
 use Rattle.tomex_timing.specs.Search.{times_in}
+use Rattle.tomex_timing.proofs.Limits.{width_low}
 use Rattle.tomex_symbols.specs.Symbols.{symbols_of}
 use Rattle.tomex_symbols.specs.Functions.{function_at}
 use Rattle.tomex_loops.specs.Runs.{innermost_of, rounds_of, visits_of}
 use Rattle.tomex_loops.proofs.EachRun.{loops_are_sound}
-use Rattle.tomex_stretches.specs.Cycles.{is_key, sum_where}
-use Rattle.tomex_stretches.proofs.Totals.{stretches_take_their_floors}
+use Rattle.tomex_stretches.specs.Cycles.{floor_cycles, is_key, sum_where}
+use Rattle.tomex_stretches.proofs.Cycles.{floor_cycles_add_up}
+use Rattle.tomex_stretches.proofs.Totals.{stretches_take_their_floors, sum_reverse}
 use Rattle.tomex_loop_views.specs.Around.{around_of}
 use Rattle.tomex_loop_views.specs.ByLoop.{loops_of, round_cycles, rounds_of_loop}
 use Rattle.tomex_loop_views.specs.Groups.{with_key}
-use Rattle.tomex_loop_views.specs.Laws.{LoopsAreThePrograms, NoMachineSavesMore}
+use Rattle.tomex_loop_views.specs.Laws.{FloorsAreWithinTheRuns, LoopsAreThePrograms, NoMachineSavesMore}
 
 -- keys that are made of others
 where_map : (p : Option ℕ → Bool) (f : Option ℕ → Option ℕ) (keys : List (Option ℕ)) (numbers : List ℕ)
@@ -76,3 +78,11 @@ loops_are_the_programs config other file steps n line others is are =
       iterations = omega (arith, is.iterations, are.iterations, entered, many);
       steps = is.spent.many_is ∙ sym are.spent.many_is;
     }
+
+pub floors_are_within_the_runs : FloorsAreWithinTheRuns
+floors_are_within_the_runs config steps total within is =
+    let turned = sum_reverse (floor_cycles (latency_of config) config.width (reverse steps)
+    (reverse (innermost_of steps))) in
+    let all = floor_cycles_add_up (latency_of config) config.width (reverse steps) (reverse (innermost_of steps))
+    (width_low config within) in
+    omega (arith, is.floor, turned, all)

@@ -16,6 +16,7 @@ use Rattle.std.proofs.lemmas.List.Folds.{list_any-append}
 use Rattle.std.proofs.lemmas.List.Sums.{sum_by_more, sum_by-take-le}
 use Rattle.tomex_loop_views.specs.declared.spans.Span.{Span}
 use Rattle.tomex_stretches.specs.Cycles.{sum_below}
+use Rattle.tomex_stretches.proofs.Keyed.{below_none, below_plus}
 use Rattle.tomex_loop_views.specs.Spans.{is_in, sum_in}
 
 -- all of a list, and one more
@@ -36,10 +37,6 @@ below_same (suc m) f g same =
     let rest = below_same m f g (λ k l. same k (omega (arith, l))) in
     let here = same m (omega arith) in
     omega (arith, rest, here)
-
-below_plus : (m : ℕ) (f g : ℕ → ℕ) → sum_below m (λ k. f k + g k) ≡ sum_below m f + sum_below m g
-below_plus zero f g = refl
-below_plus (suc m) f g = let rest = below_plus m f g in omega (arith, rest)
 
 between_yes : (c b k : ℕ) → c ≤ k → k < b → (nat_le c k && nat_lt k b) ≡ true
 between_yes c b k low high = and_from (nat_le c k) (nat_lt k b) (le-leb c k low) (lt-ltb k b high)
@@ -245,10 +242,6 @@ summed_there n spans numbers x s end other was =
       is = omega (arith, each, had);
       covers = covers_there n spans x end other was.covers;
     }
-
-below_none : (m : ℕ) → sum_below m (λ k. 0) ≡ 0
-below_none zero = refl
-below_none (suc m) = let rest = below_none m in omega (arith, rest)
 
 pub summed_none : (n count : ℕ) (numbers sums ends : List ℕ) → n < count → sums ≡ replicate count 0
     → ends ≡ replicate count 0 → IsSummed n [] numbers (get_or sums n 0) (get_or ends n 0)

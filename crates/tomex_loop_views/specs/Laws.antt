@@ -3,6 +3,7 @@ use Rattle.std.specs.Prelude.{ℕ, ◌+◌, ◌≤◌, ◌≡◌, List, sum_by}
 use Rattle.tomex_rvdec.specs.declared.pool.UnitId.{UnitId}
 use Rattle.tomex_rvexec.specs.declared.step.Step.{Step}
 use Rattle.tomex_config.specs.Configuration.{Configuration, IsWithinLimits, latency_of}
+use Rattle.tomex_floor.specs.Floor.{floor_of}
 use Rattle.tomex_loop_views.specs.declared.row.LoopSums.{LoopSums}
 use Rattle.tomex_loop_views.specs.LoopsReport.{AreLines, IsLine, IsOutside, IsTotal}
 use Rattle.tomex_loop_views.specs.Table.{Line, RestLine}
@@ -13,6 +14,11 @@ NoMachineSavesMore = (config other : Configuration) (file : List ℕ) (steps : L
     → IsLine file config steps n line → IsLine file other steps n others → IsWithinLimits other
     → other.width ≤ config.width → ((unit : UnitId) → latency_of config unit ≤ latency_of other unit)
     → line.sums.floor ≤ others.sums.own
+
+-- All floors together are no more than the run's floor.
+abbrev pub FloorsAreWithinTheRuns : Type 0
+FloorsAreWithinTheRuns = (config : Configuration) (steps : List Step) (total : RestLine) → IsWithinLimits config
+    → IsTotal config steps total → total.sums.floor ≤ floor_of (latency_of config) config.width steps
 
 -- A loop's places, and how often it goes round, are the same.
 pub record IsSameLoop (a b : LoopSums) : Type 0 where

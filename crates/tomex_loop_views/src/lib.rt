@@ -24,6 +24,9 @@ mod table;
 mod turns;
 mod visited;
 
-pub use laws::{loops_add_up, loops_are_the_programs, no_machine_saves_more_of_a_loop};
+pub use laws::{
+    floors_are_within_the_runs, loops_add_up, loops_are_the_programs,
+    no_machine_saves_more_of_a_loop,
+};
 pub use path_cycles::path_cycles_add_up;
 pub use report::loops_report;

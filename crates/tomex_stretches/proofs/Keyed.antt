@@ -70,11 +70,11 @@ fits_at (Some m) by_key without n most some none = some m refl
 
 -- the sums of all keys
 
-below_plus : (count : ℕ) (f g : ℕ → ℕ) → sum_below count (λ n. f n + g n) ≡ sum_below count f + sum_below count g
+pub below_plus : (count : ℕ) (f g : ℕ → ℕ) → sum_below count (λ n. f n + g n) ≡ sum_below count f + sum_below count g
 below_plus zero f g = refl
 below_plus (suc n) f g = let rest = below_plus n f g in omega (arith, rest)
 
-below_none : (count : ℕ) → sum_below count (λ n. 0) ≡ 0
+pub below_none : (count : ℕ) → sum_below count (λ n. 0) ≡ 0
 below_none zero = refl
 below_none (suc n) = let rest = below_none n in omega (arith, rest)
 

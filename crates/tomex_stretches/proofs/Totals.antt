@@ -18,7 +18,7 @@ use Rattle.tomex_stretches.proofs.Cycles.{length_cycles, sum_all, sum_keyed}
 use Rattle.tomex_stretches.proofs.Keyed.{where_reverse}
 use Rattle.tomex_stretches.proofs.Walking.{rev_cons}
 
-sum_reverse : (xs : List ℕ) → sum (reverse xs) ≡ sum xs
+pub sum_reverse : (xs : List ℕ) → sum (reverse xs) ≡ sum xs
 sum_reverse [] = refl
 sum_reverse (x ∷ xs) =
     let rest = sum_reverse xs in
