@@ -11,6 +11,8 @@ mod images;
 #[cfg(test)]
 mod instructions;
 #[cfg(test)]
+mod loops;
+#[cfg(test)]
 mod machines;
 #[cfg(test)]
 mod refused_memory;
