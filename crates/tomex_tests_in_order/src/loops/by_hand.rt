@@ -1,4 +1,4 @@
-//! The loops of a run by their definition alone: plain lists, and a look through all of them for each question.
+//! The loops of a run by their definition: plain lists, and a look through all of them for each question.
 
 use std::alloc::Global;
 use std::test::Fail;
@@ -49,7 +49,7 @@ fn is_call(before: &Step, after: &Step) -> bool {
 /// The places and calls of a run's steps. The outermost call has number 0.
 fn stays_of(alloc: Global, steps: &[Step]) -> Result<Vec<Stay>, Fail> {
     let mut stays = Vec::new(alloc);
-    // The calls that aren't over, but for the outermost: their numbers, and the addresses after them.
+    // The calls that aren't over, except for the outermost: their numbers, and the addresses after them.
     let mut calls: Vec<(u32, u32)> = Vec::new(alloc);
     let mut begun = 0u32;
     let mut before: Option<Step> = None;
