@@ -151,7 +151,10 @@ pub fn is_in(loops: &[Option<u32>], head: u32, place: u32) -> bool {
     for _ in loops {
         match at {
             Some(other) if other == head => return true,
-            Some(other) => at = loops.get(other as usize).copied().flatten(),
+            Some(other) => at = loops
+                .get(usize::try_from(other).unwrap_or(usize::MAX))
+                .copied()
+                .flatten(),
             None => return false,
         }
     }

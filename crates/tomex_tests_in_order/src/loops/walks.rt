@@ -28,17 +28,21 @@ fn step_of(word: u32, pc: u32) -> Result<Step, Fail> {
     })
 }
 
-/// The next address: often where a call returns to if there may be a return, often the next one, or any.
+/// The next address: one of `count` addresses or, as often, that of a return if there may be one and else the next one.
 fn next_of(random: &mut Random, pc: u32, count: u32, back: Option<u32>) -> u32 {
-    let any = BASE.wrapping_add(random.word() % count.max(1) * 4);
-    match (random.below(4), back) {
-        (0 | 1, Some(address)) => address,
-        (1 | 2, None) => pc.wrapping_add(4) & 0x103c,
-        _ => any,
+    let any = BASE.wrapping_add((random.word() % count.max(1)).wrapping_mul(4));
+    if random.below(2) == 0 {
+        return any;
     }
+    if let Some(address) = back {
+        return address;
+    }
+    let next = pc.wrapping_add(4);
+    let end = BASE.wrapping_add(count.wrapping_mul(4));
+    if next < end { next } else { BASE }
 }
 
-/// A run of 40 to 120 steps over about 4 to 8 addresses.
+/// A run of 40 to 120 steps over 4 to 8 addresses, and maybe the one after them.
 pub fn random_steps(random: &mut Random, alloc: Global) -> Result<Vec<Step>, Fail> {
     let count = random.below(5) + 4;
     let length = random.below(81) + 40;
