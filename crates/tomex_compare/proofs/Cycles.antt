@@ -30,7 +30,7 @@ first_step zero s some is = absurd (omega (arith, some))
 first_step (suc n) s some is =
     subst (λ (x : Option Step). 0 < length (onto x (steps_after (step_of s) (steps_from n)))) (sym is.is) (omega arith)
 
--- a run that comes to a step begins with one
+-- a run that reaches a step begins with one
 first_coming : (old : State) (k : ℕ) (s : State) → Leads old k s → Coming s → Coming old
 first_coming old zero s same is = subst Coming same is
 first_coming old (suc k) s leads is = first_coming old k leads.0 leads.1 (goes_by_step leads.0 s leads.2)

@@ -1,4 +1,4 @@
--- Where an evaluation begins, where it ends, and how its evaluator comes to the run's next step.
+-- Where an evaluation begins, where it ends, and how its evaluator reaches the run's next step.
 use Rattle.std.proofs.Common.{ℕ, ◌+◌, ◌-◌, ◌<◌, ◌≤◌, ◌≡◌, ◌^◌, arith, sym, ap, subst, List, [], get_or}
 use Rattle.std.proofs.Common.{length}
 use Rattle.std.proofs.Common.{take, None}

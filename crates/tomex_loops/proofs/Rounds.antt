@@ -1,4 +1,4 @@
--- A place comes to a way: as a new one, or round.
+-- A place on a way: as a new one, or round.
 use Rattle.std.proofs.Common.{ℕ, ◌+◌, ◌<◌, ◌≤◌, ◌≡◌, ◌≢◌, ◌∙◌, refl, sym, ap, subst, arith, cond, Bool, true, false}
 use Rattle.std.proofs.Common.{List, [], ◌∷◌}
 use Rattle.std.proofs.Common.{◌++◌, length, take, drop, get_or, set, reverse, Option, Some, None, eqb, ⊎_elim}

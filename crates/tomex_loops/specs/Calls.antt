@@ -1,4 +1,4 @@
--- How a run comes to each of its steps: on in the same call, into a new one, or back from one. And at which place: a
+-- How a run reaches each of its steps: on in the same call, into a new one, or back from one. And at which place: a
 -- place is an address, named by the number of the first step there, counted from 0.
 use Rattle.std.specs.Prelude.{ℕ, ◌==◌, ◌&&◌, not, Bool, true, false, if◌then◌else◌, is_some, List, [], ◌∷◌, Option}
 use Rattle.std.specs.Prelude.{Some, None}
@@ -52,14 +52,14 @@ awaited_after Return awaited before = rest_of awaited
 abbrev pub place_of : List Step → ℕ → ℕ
 place_of steps address = position_or_len (λ x. x.pc == address) steps
 
--- how a run comes to the steps that are left, after a step
+-- how a run reaches the steps that are left, after a step
 abbrev pub comings_after : List Step → List ℕ → Step → List Step → List Coming
 comings_after steps awaited before [] = []
 comings_after steps awaited before (x ∷ left) =
     record { by = move_to awaited before x; place = place_of steps x.pc }
     ∷ comings_after steps (awaited_after (move_to awaited before x) awaited before) x left
 
--- how a run comes to each of its steps; to the first one it comes in the outermost call
+-- how a run reaches each of its steps; it reaches the first one in the outermost call
 abbrev pub comings_of : List Step → List Coming
 comings_of [] = []
 comings_of (x ∷ left) = record { by = On; place = place_of (x ∷ left) x.pc } ∷ comings_after (x ∷ left) [] x left

@@ -1,4 +1,4 @@
--- The loops of a run. A call keeps a way: the places that it came to, in order. If it comes to a place that is on its
+-- The loops of a run. A call keeps a way: the places that it reached, in order. If it reaches a place that is on its
 -- way, it has come round: that place and all after it on the way are one round.
 use Rattle.std.specs.Prelude.{ℕ, zero, suc, ◌+◌, min, ◌==◌, ◌&&◌, ◌||◌, not, Bool, true, false, if◌then◌else◌, is_none}
 use Rattle.std.specs.Prelude.{List, [], ◌∷◌, ◌++◌, take, drop, fold, Option, Some, None}

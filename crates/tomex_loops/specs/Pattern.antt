@@ -7,7 +7,7 @@ use Rattle.std.specs.Prelude.{drop, length, slice_index, take}
 abbrev pub second_half : List ℕ → List ℕ
 second_half cycles = drop (length cycles / 2) cycles
 
--- each round but the first p takes as much as the p-th before it
+-- each round except the first p takes as much as the p-th before it
 abbrev pub AreRepeated : ℕ → List ℕ → Type 0
 AreRepeated p cycles = (k : ℕ) → k + p < length cycles → slice_index cycles (k + p) ≡ slice_index cycles k
 

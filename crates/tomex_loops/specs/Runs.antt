@@ -15,7 +15,7 @@ abbrev pub heads_to : (ℕ → Bool) → ℕ → List ℕ
 heads_to heads zero = []
 heads_to heads (suc n) = heads_to heads n ++ (if heads n then n ∷ [] else [])
 
--- the heads of all loops, in the order in which the run first comes to them: that of the loop with number n stands at n
+-- the heads of all loops, in the order in which the run first reaches them: that of the loop with number n stands at n
 abbrev pub heads_of : List Step → List ℕ
 heads_of steps = heads_to (found_of steps).heads (length steps)
 

@@ -1,4 +1,4 @@
-//! How a run comes to each of its steps.
+//! How a run reaches each of its steps.
 
 ghost use Rattle.std.specs.Prelude.{◌≡◌, ℕ, ◌+◌, ◌^◌, ◌<◌, length, reverse, slice_index_or, All, IfOk};
 ghost use Rattle.tomex_rvexec.specs.declared.step.Step.{Step};
@@ -24,7 +24,7 @@ pub enum Move {
     Return,
 }
 
-/// How a run comes to a step.
+/// How a run reaches a step.
 #[derive(Clone, Copy, Debug, PartialEq, Eq)]
 pub struct Coming {
     pub by: Move,
@@ -108,7 +108,7 @@ fn place<A: Allocator + Clone>(
     Ok(k as u32)
 }
 
-/// How a run comes to each of its steps.
+/// How a run reaches each of its steps.
 ///
 /// The work is that of looking each step's address up in a map.
 pub(crate) fn comings<A: Allocator + Clone>(

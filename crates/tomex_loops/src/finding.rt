@@ -283,7 +283,7 @@ impl<A: Allocator + Clone> Finder<A> {
     }
 }
 
-/// The heads and loops of a run that comes to its steps so.
+/// The heads and loops of a run that reaches its steps in these ways.
 ///
 /// The work is linear in the steps: each puts at most one place on a way, and takes off what was put there.
 pub(crate) fn find<A: Allocator + Clone>(

@@ -14,7 +14,7 @@ use std::alloc::{AllocError, Allocator, Global};
 use std::marker::Model;
 use tomex_rvexec::Step;
 
-/// The loops of a run. A place, an address that the run came to, is named by the number of the first step there,
+/// The loops of a run. A place, an address that the run reached, is named by the number of the first step there,
 /// counted from 0, and a loop by the place of its head.
 #[derive(Drop)]
 pub struct Loops<A: Allocator = Global> {
@@ -93,7 +93,7 @@ impl<A: Allocator + Clone> Loops<A> {
 }
 
 impl<A: Allocator> Loops<A> {
-    /// The heads of the loops, in the order in which the run first comes to them: that of the loop with number n stands
+    /// The heads of the loops, in the order in which the run first reaches them: that of the loop with number n stands
     /// at n.
     pub fn heads(&self) -> &[u32]
         ensures { result.now ≡ self.now.heads }

@@ -288,7 +288,7 @@ impl<A: Allocator> Walker<A> {
     }
 }
 
-/// The visits of a run that comes to its steps so.
+/// The visits of a run that reaches its steps in these ways.
 pub(crate) fn walk<A: Allocator + Clone, B: Allocator>(
     alloc: A,
     forest: &Forest<B>,

@@ -1,4 +1,4 @@
--- Which rows a table of weights lists: those on the front, and those that come to it if one weight is replaced.
+-- Which rows a table of weights lists: those on the front, and those that join it if one weight is replaced.
 use Rattle.std.specs.Prelude.{◌≡◌, ℕ, ◌<◌, nat_lt, Bool, ◌||◌, List, length, map}
 use Rattle.std.specs.List.{filter, list_any}
 use Rattle.tomex_pareto.specs.Front.{by_cost, is_on}

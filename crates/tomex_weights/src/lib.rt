@@ -1,5 +1,5 @@
 //! Weights: the values of one program's weight, all others as stated, for which a row is on the front; and the rows
-//! that come to it. The percentage by which all weights may be wrong at once. And the table of all that.
+//! that join it. The percentage by which all weights may be wrong at once. And the table of all that.
 //! Tests: tomex_cases, tomex_tests_surveys.
 #![tactic(auto)]
 

@@ -1,4 +1,4 @@
-//! The rows that are on the front, or come to it if one weight is replaced.
+//! The rows that are on the front, or join it if one weight is replaced.
 
 ghost use Rattle.std.specs.Prelude.{◌≡◌, ◌<◌, length, slice_index_or, All, IfOk};
 ghost use Rattle.std.specs.List.{filter, list_any, Contains};
@@ -63,7 +63,7 @@ fn keep_listed<A: Allocator, B: Allocator>(
     Ok(listed)
 }
 
-/// The rows that are on the front, or come to it if one program's weight is replaced, by cost, then number. `columns`
+/// The rows that are on the front, or join it if one program's weight is replaced, by cost, then number. `columns`
 /// are the study's spans.
 #[tactic(auto, unfolding(crate::specs::Listed::listed_rows_of))]
 pub fn listed_rows<A: Allocator, B: Allocator>(

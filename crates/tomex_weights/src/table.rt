@@ -144,7 +144,7 @@ fn push_columns<A: Allocator>(
 }
 
 /// The table of a study's weights: a line of names, a line of the stated weights, and then a line for each row that is
-/// on the front, or comes to it if one program's weight is replaced, by cost, then number. A line has the row's number,
+/// on the front, or joins it if one program's weight is replaced, by cost, then number. A line has the row's number,
 /// cost and cycles; the percentage by which all weights may be wrong at once, if the row is on the front; and, for each
 /// program that takes differently many cycles on two rows, the weights of it for which the row is on the front.
 ///

@@ -1,4 +1,4 @@
--- The place comes to the end of its way, after a round or as a new one.
+-- The place goes to the end of its way, after a round or as a new one.
 use Rattle.std.proofs.Common.{◌≡◌, ◌∙◌, ◌<◌, ◌≤◌, ℕ, List, None, Option, ap, arith, drop, get_or, length, refl, subst}
 use Rattle.std.proofs.Common.{sym}
 use Rattle.tomex_loops.specs.declared.finding.Finder.{Finder}
