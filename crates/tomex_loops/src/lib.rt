@@ -2,6 +2,8 @@
 //!
 //! `specs/Calls.antt` says how a run reaches each step, `specs/Loops.antt` what a loop is, `specs/Visits.antt` what its
 //! visits and rounds are, and `specs/Rounds.antt` and `Pattern.antt` what is counted of rounds.
+//!
+//! Tests: tomex_tests_in_order, tomex_tests_commands.
 #![tactic(auto)]
 
 mod coming;

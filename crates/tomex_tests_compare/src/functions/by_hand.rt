@@ -26,7 +26,7 @@ struct NamedSteps {
 /// Calls, steps and cycles.
 type Sums = [u64; 3];
 
-/// The steps of a build's run on a machine. A function is called where control comes to its first address from another.
+/// The steps of a build's run on a machine. A function is called if control reaches its first address from another.
 fn steps_of(
     alloc: Global,
     config: &Config,
