@@ -1,0 +1,16 @@
+-- What is in a table's cells, as fields of CSV.
+use Rattle.std.specs.Prelude.{ℕ, ◌==◌, nat_lt, Bool, if◌then◌else◌, List, [], ◌∷◌, codes}
+use Rattle.std.specs.Fmt.{decimal}
+
+-- a number without its plus sign
+abbrev pub without_plus : List ℕ → List ℕ
+without_plus [] = []
+without_plus (sign ∷ digits) = if sign == 43 then digits else sign ∷ digits
+
+-- a percentage by which amounts may be wrong; 100 stands for any, and so for none
+abbrev pub percent_field : ℕ → List ℕ
+percent_field percent = if nat_lt percent 100 then decimal percent else []
+
+-- 1 if it is true, else 0
+abbrev pub flag_field : Bool → List ℕ
+flag_field flag = if flag then codes "1" else codes "0"
