@@ -3,9 +3,9 @@
 ghost use Rattle.std.specs.Prelude.{◌≡◌, ◌++◌, ◌∷◌, [], IfOk, OnOk, map};
 ghost use Rattle.std.specs.Fmt.{decimal};
 ghost use Rattle.csv.specs.Records.{fields_of};
-ghost use Rattle.tomex_csv.specs.Fields.{flag_field, percent_field, without_plus};
+ghost use Rattle.tomex_csv.specs.Fields.{flag_field, number_field, percent_field};
 
-use crate::cells::without_plus;
+use crate::cells::number_in;
 use csv::{ByteRecord, StringRecord};
 use std::alloc::{AllocError, Global};
 use std::fmt::Write;
@@ -56,11 +56,11 @@ impl Fields {
         self.record.push_field(field)
     }
 
-    /// Adds a number as a table's cell has it, without its plus sign.
+    /// Adds the number in a table's cell, without its plus sign, or nothing if `-` stands in it.
     pub fn push_number(&mut self, cell: &str) -> Result<(), AllocError>
-        ensures { OnOk result (self.new ≡ self.old ++ without_plus cell.now ∷ []) }
+        ensures { OnOk result (self.new ≡ self.old ++ number_field cell.now ∷ []) }
     {
-        self.record.push_field(without_plus(cell))
+        self.record.push_field(number_in(cell))
     }
 
     /// Adds a number in decimal.

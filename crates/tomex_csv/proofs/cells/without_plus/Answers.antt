@@ -17,7 +17,8 @@ goes cell digits is = rw is refl
 
 pub returns-in-Some : goal.returns-in-Some
 returns-in-Some c =
-    goes c.args.cell.now _ (strip_prefix_char 43 c.args.cell.now (Some c.in-Some.digits) c.in-Some.ensures.cases (omega arith))
+    goes c.args.cell.now _
+    (strip_prefix_char 43 c.args.cell.now (Some c.in-Some.digits) c.in-Some.ensures.cases (omega arith))
 
 pub returns-in-None : goal.returns-in-None
 returns-in-None c =
