@@ -2,6 +2,7 @@
 
 ghost use Rattle.std.specs.Prelude.{◌≡◌, ◌<◌, ◌++◌, ◌∷◌, [], length, map, slice_get, Some, IfOk, OnOk};
 ghost use Rattle.std.specs.List.{flat_map};
+ghost use Rattle.tomex_layout.specs.Rates.{rate_text};
 ghost use Rattle.tomex_worth.specs.Changes.{IsMachine};
 ghost use Rattle.tomex_worth.specs.WorthCsv.{change_fields, change_record, cycles_name, fields_under, if_trade};
 ghost use Rattle.tomex_worth.specs.WorthCsv.{kind_of, name_of_kind, names_of, program_field, shown_programs};
@@ -25,6 +26,18 @@ fn shown_programs<A: Allocator>(study: &Study<A>) -> &[Program<A>]
     if programs.len() > 1 { programs } else { &[] }
 }
 
+/// Adds the name of the column of a program's cycles.
+fn push_cycles_name<A: Allocator>(
+    fields: &mut Fields,
+    heap: Global,
+    program: &Program<A>,
+) -> Result<(), AllocError>
+    ensures { OnOk result (fields.new ≡ fields.old ++ cycles_name program.now ∷ []) }
+{
+    let name = program.name();
+    fields.push(format!(in heap; "{name}_cycles")?.as_str())
+}
+
 /// Adds the names of the columns of these programs' cycles.
 fn push_cycles_names<A: Allocator>(
     fields: &mut Fields,
@@ -34,8 +47,7 @@ fn push_cycles_names<A: Allocator>(
     ensures { OnOk result (fields.new ≡ fields.old ++ map cycles_name programs.now) }
 {
     for program in programs {
-        let name = program.name();
-        fields.push(format!(in heap; "{name}_cycles")?.as_str())?;
+        push_cycles_name(fields, heap, program)?;
     }
     Ok(())
 }
@@ -129,7 +141,10 @@ fn push_program<A: Allocator>(
     requires program { slice_get surveyed.now.programs place ≡ Some program.now }
     ensures { OnOk result (fields.new ≡ fields.old ++ program_field surveyed.now own change program.now ∷ []) }
 {
-    let (own, other) = (surveyed.total(own.row, place), surveyed.total(change.row.row, place));
+    let (own, other) = (
+        surveyed.total(own.row, place),
+        surveyed.total(change.row.row, place),
+    );
     fields.push_number(signed_difference(heap, own, other)?.as_str())
 }
 
@@ -162,7 +177,7 @@ fn with_changes<A: Allocator>(
 ) -> Result<CsvText<A>, AllocError>
     requires { IsMachine surveyed.now machine.own machine.changes.now }
     ensures { IfOk result (λ made. made
-        ≡ text ++ flat_map (change_record surveyed.now machine.entry.own) machine.changes.now) }
+        ≡ text ++ flat_map (change_record surveyed.now machine.entry.own) machine.entry.changes.now) }
 {
     let mut made = text;
     for change in machine.changes {
