@@ -1,11 +1,11 @@
 //! A text of records.
 
-ghost use Rattle.std.specs.Prelude.{◌≡◌, ◌++◌, [], IfOk};
+ghost use Rattle.std.specs.Prelude.{◌≡◌, ◌++◌, [], map, IfOk};
 ghost use Rattle.tomex_layout.specs.Csv.{record_text};
 
 use crate::fields::Fields;
 use csv::Writer;
-use std::alloc::{AllocError, Allocator};
+use std::alloc::{AllocError, Allocator, Global};
 use std::marker::Model;
 use tomex_layout::{into_text, put_record};
 
@@ -34,6 +34,13 @@ impl<A: Allocator> CsvText<A> {
         Self {
             writer: Writer::from_writer(Vec::new(alloc)),
         }
+    }
+
+    /// A header of these names.
+    pub fn with_header(alloc: A, heap: Global, names: &[&str]) -> Result<Self, AllocError>
+        ensures { IfOk result (λ text. text ≡ record_text (map (λ name. name.now) names.now)) }
+    {
+        Self::new(alloc).with(&Fields::of_names(heap, names)?)
     }
 
     /// The text with a record more. Without memory for it nothing is left of the text.
