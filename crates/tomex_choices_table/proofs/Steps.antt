@@ -1,6 +1,7 @@
 -- One list's text more, and one heading's column.
 use Rattle.std.proofs.Common.{◌≡◌, ◌∙◌, ap, ap₂, sym, ℕ, ◌+◌, ◌<◌, List, [], ◌∷◌, ◌++◌, append_assoc, drop, get_or}
 use Rattle.std.proofs.Common.{length, map, take}
+use Rattle.std.specs.List.{flat_map}
 use Rattle.std.proofs.lemmas.List.{at_drop_more, map-append, take_more}
 use Rattle.tomex_config.specs.Parts.{all_parts}
 use Rattle.tomex_config.specs.declared.part.Part.{Part}
@@ -15,6 +16,15 @@ text_more f k before after whole text low grown own so_far =
     ap (λ (xs : List (List ℕ)). xs ++ rest) (grown ∙ ap (λ (t : List ℕ). before ++ t ∷ []) own)
     ∙ (append_assoc before (f (part_at k) ∷ []) rest
     ∙ (ap (λ (xs : List (List ℕ)). before ++ xs) (sym (at_drop_more (map f) all_parts k Width low)) ∙ so_far))
+
+-- the record of one list more
+pub record_more : (f : Part → List ℕ) (k : ℕ) (before after whole : List ℕ) → k < 13 → after ≡ before ++ f (part_at k)
+    → before ++ flat_map f (drop k all_parts) ≡ whole → after ++ flat_map f (drop (k + 1) all_parts) ≡ whole
+record_more f k before after whole low grown so_far =
+    let rest : List ℕ = flat_map f (drop (k + 1) all_parts) in
+    ap (λ (xs : List ℕ). xs ++ rest) grown
+    ∙ (append_assoc before (f (part_at k)) rest
+    ∙ (ap (λ (xs : List ℕ). before ++ xs) (sym (at_drop_more (flat_map f) all_parts k Width low)) ∙ so_far))
 
 pub item_pushed : {X Y : Type 0} (f : X → Y) (xs : List X) (k : ℕ) (d : X) (y : Y) (before after : List Y)
     → k < length xs → before ≡ map f (take k xs) → y ≡ f (get_or xs k d) → after ≡ before ++ y ∷ []

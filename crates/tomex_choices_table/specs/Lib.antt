@@ -1,1 +1,2 @@
 pub mod ChoicesTable
+pub mod ChoicesCsv

@@ -4,7 +4,9 @@
 
 mod cells;
 mod heading;
+mod records;
 mod table;
 
 pub use cells::{push_cost, push_enough, push_entries, push_saving};
+pub use records::choices_csv;
 pub use table::{choices_table, push_floor};

@@ -49,7 +49,7 @@ fn push_under<A: Allocator>(
 }
 
 /// The text under a heading in the line of the list at a place.
-fn text_under<A: Allocator>(
+pub(crate) fn text_under<A: Allocator>(
     heap: Global,
     weighed: &WeighedChoices<'_, A>,
     heading: Heading,

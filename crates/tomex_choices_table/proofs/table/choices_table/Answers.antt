@@ -1,5 +1,5 @@
 -- Each column has a line for each list.
-use Rattle.std.proofs.Common.{◌≡◌, ◌∙◌, All, length, refl, subst, sym}
+use Rattle.std.proofs.Common.{◌≡◌, ◌∙◌, All, length, subst, sym}
 use Rattle.std.proofs.lemmas.List.{length-map}
 use Rattle.std.proofs.lemmas.List.Elements.{All-get_or}
 use Rattle.tomex_layout.proofs.Each.{all_map}
