@@ -25,10 +25,10 @@ use Rattle.tomex_page.specs.Page.{number_before, number_of, row_section, view_at
 use Rattle.tomex_page.proofs.ShownRows.{place_within}
 
 pub sections_are_views : SectionsAreViews
-sections_are_views s shown [] before = refl
-sections_are_views s shown (r ∷ rows) before =
-    ap (λ (z : List ℕ). row_section s shown (view_at s before r rows) ++ z)
-    (sections_are_views s shown rows (Some (row_of s r)))
+sections_are_views s hull shown [] before = refl
+sections_are_views s hull shown (r ∷ rows) before =
+    ap (λ (z : List ℕ). row_section s hull shown (view_at s before r rows) ++ z)
+    (sections_are_views s hull shown rows (Some (row_of s r)))
 
 pub views_are_of_rows : ViewsAreOfRows
 views_are_of_rows s before [] = refl

@@ -68,8 +68,8 @@ views_of s before (r ∷ rows) = view_at s before r rows ∷ views_of s (Some (r
 
 -- the sections of a page are a view for each row that is shown, in their order
 abbrev pub SectionsAreViews : Type 0
-SectionsAreViews = (s : DesignSpace) (shown rows : List FrontRow) (before : Option ShownRow)
-    → row_sections s shown before rows ≡ flat_map (row_section s shown) (views_of s before rows)
+SectionsAreViews = (s : DesignSpace) (hull shown rows : List FrontRow) (before : Option ShownRow)
+    → row_sections s hull shown before rows ≡ flat_map (row_section s hull shown) (views_of s before rows)
 
 abbrev pub ViewsAreOfRows : Type 0
 ViewsAreOfRows = (s : DesignSpace) (before : Option ShownRow) (rows : List FrontRow)

@@ -1,7 +1,7 @@
 //! The savings of rows of the front over the rows before them.
 
-ghost use Rattle.std.specs.Prelude.{◌≡◌, IfOk, string_bytes};
-ghost use Rattle.tomex_front_views.specs.FrontTable.{rate_after, rate_column};
+ghost use Rattle.std.specs.Prelude.{◌≡◌, None, IfOk, string_bytes};
+ghost use Rattle.tomex_front_views.specs.FrontTable.{rate_after, rate_column, rate_in};
 
 use std::alloc::{AllocError, Global};
 use tomex_layout::{Column, push_hundredths};
@@ -35,4 +35,18 @@ pub fn rate_column(heap: Global, front: &[FrontRow]) -> Result<Column, AllocErro
         before = Some(*row);
     }
     Ok(column)
+}
+
+/// The entry that the row of this number has in the column of the rates of `rows`; nothing if it is none of them.
+pub fn rate_in(heap: Global, rows: &[FrontRow], number: usize) -> Result<String, AllocError>
+    ensures { IfOk result (λ text. string_bytes text ≡ rate_in None rows.now number) }
+{
+    let mut before = None;
+    for row in rows {
+        if row.row == number {
+            return rate_after(heap, before, *row);
+        }
+        before = Some(*row);
+    }
+    Ok(String::new(heap))
 }

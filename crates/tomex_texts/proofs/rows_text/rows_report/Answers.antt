@@ -1,0 +1,12 @@
+-- The rows on the hull are rows of the front.
+use Rattle.std.proofs.Common.{◌∙◌, ◌<◌, All, length}
+use Rattle.std.proofs.lemmas.List.Elements.{All-filter}
+use Rattle.tomex_pareto.specs.Hull.{hull_of, is_unmixed}
+use Rattle.tomex_pareto.specs.declared.front_row.FrontRow.{FrontRow}
+use Rattle.tomex_texts.proofs.rows_text.rows_report.Goals as goal
+
+pub flags-2-requires : goal.flags-2-requires
+unfolding hull_of
+flags-2-requires g c =
+    rw (c.as_slice.ensures.value ∙ c.in_ok-hull.ensures)
+    (All-filter (is_unmixed c.front-front.result.now) (λ (r : FrontRow). r.row < c.rows-count.result) _ c.front.ensures.within)
