@@ -32,7 +32,7 @@ const EVENTS: [Event; 5] = [
 
 /// All events, in the order in which a view has them.
 #[tactic(auto, unfolding(crate::specs::Events::all_events))]
-fn all_events() -> &'static [Event]
+pub fn all_events() -> &'static [Event]
     ensures { result.now ≡ all_events }
 {
     &EVENTS

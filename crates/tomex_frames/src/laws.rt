@@ -1,14 +1,15 @@
 //! Laws of the table of instructions, and of the path in views. These functions do nothing: their contracts are the
 //! laws.
 
-ghost use Rattle.tomex_frames.specs.Laws.{NextIsListed, NothingIsLost, RowsAreOfSteps, StepsShowTheirWaits};
-ghost use Rattle.tomex_frames.specs.Laws.{ViewsShowStalls, WaitsComeBeforeIssues};
+ghost use Rattle.tomex_frames.specs.Laws.{BlankRowsAreOfSteps, NextIsListed, NothingIsLost, RowsAreOfSteps};
+ghost use Rattle.tomex_frames.specs.Laws.{StepsShowTheirWaits, ViewsShowStalls, WaitsComeBeforeIssues};
 ghost use Rattle.tomex_frames.specs.PathLaws.{EachViewHasOneFrame, FramesAddUp, FramesAreCycles};
 ghost use Rattle.tomex_frames.specs.PathLaws.{LineIsMarkedWhereItChanges, LineIsTheWaitBefore};
 
 /// Each step is listed in each view from its issue to its end, and before it while it is the next to issue.
 pub fn no_step_is_lost()
     ensures rows { RowsAreOfSteps }
+    ensures blank { BlankRowsAreOfSteps }
     ensures listed { NothingIsLost }
     ensures order { WaitsComeBeforeIssues }
     ensures next { NextIsListed }

@@ -1,8 +1,9 @@
 //! The pieces of a view: what happens in a cycle, whose it is on the critical path, the instruction status, the
-//! reservation stations and the register status after it, as HTML, each with what has changed.
+//! reservation stations and the register status after it, as HTML, each with what has changed, or with its cells empty.
 //! Tests: tomex_cases.
 #![tactic(auto)]
 
+mod blank;
 mod cells;
 mod constants;
 mod doing;
@@ -14,6 +15,7 @@ mod registers;
 mod stations;
 mod status;
 
+pub use blank::{push_blank_events, push_blank_registers, push_blank_stations, push_blank_status};
 pub use events::push_events;
 pub use laws::{
     frames_are_cycles, line_is_the_wait_before, no_step_is_lost, steps_show_their_waits,
