@@ -5,13 +5,15 @@ ghost use Rattle.std.specs.List.{flat_map};
 ghost use Rattle.tomex_layout.specs.Growth.{Appends};
 ghost use Rattle.tomex_frames.specs.OnPath.{IsOfRun, at_cycle, framed_step, path_line};
 ghost use Rattle.tomex_animate.specs.Machine.{cycles_of};
-ghost use Rattle.tomex_animate.specs.Page.{frame, frame_head, links_at};
+ghost use Rattle.tomex_animate.specs.Page.{blank_frame, frame, frame_head, links_at, view_of};
 
+use crate::cells::Cells;
 use std::alloc::{AllocError, Allocator, Global};
 use std::fmt::Write;
 use tomex_config::Config;
 use tomex_frames::{
-    OnPath, Scratch, link_at, place_of, push_events, push_path_line, push_register_status,
+    OnPath, Scratch, link_at, place_of, push_blank_events, push_blank_registers,
+    push_blank_stations, push_blank_status, push_events, push_path_line, push_register_status,
     push_station_table, push_status_table,
 };
 use tomex_html::{Links, push_links};
@@ -70,6 +72,7 @@ fn push_head<A: Allocator>(
 /// The data that all views of a page share.
 #[derive(Clone, Copy)]
 pub struct Views<'a> {
+    pub cells: Cells,
     pub config: &'a Config,
     pub page: Span,
     /// The cycles of the run.
@@ -91,9 +94,9 @@ fn framed_step(place: Option<OnPath>) -> Option<u64>
     }
 }
 
-/// Adds the view of a cycle.
+/// Adds the view of a cycle, with its cells full.
 #[tactic(auto, unfolding(crate::specs::Page::frame))]
-fn push_view<A: Allocator>(
+fn push_frame<A: Allocator>(
     text: &mut String<A>,
     heap: Global,
     scratch: &mut Scratch,
@@ -117,6 +120,46 @@ fn push_view<A: Allocator>(
     write!(text, "</section>\n")
 }
 
+/// Adds the view of a cycle, with its cells empty.
+#[tactic(auto, unfolding(crate::specs::Page::blank_frame))]
+fn push_blank_frame<A: Allocator>(
+    text: &mut String<A>,
+    views: &Views<'_>,
+    cycle: u64,
+) -> Result<(), AllocError>
+    requires { cycle < 2 ^ 63 }
+    ensures { OnOk result (Appends (blank_frame views.now.config.now views.now.page views.now.total
+        views.now.entries.now cycle) text.old text.new) }
+{
+    push_head(text, views, None, cycle)?;
+    push_blank_events(text)?;
+    push_blank_status(text, views.page, views.entries, cycle)?;
+    push_blank_stations(text, views.config)?;
+    push_blank_registers(text)?;
+    text.push_str("</section>\n")
+}
+
+/// Adds the view of a cycle.
+fn push_view<A: Allocator>(
+    text: &mut String<A>,
+    heap: Global,
+    scratch: &mut Scratch,
+    views: &Views<'_>,
+    place: Option<OnPath>,
+    cycle: u64,
+) -> Result<(), AllocError>
+    requires cycle { cycle < 2 ^ 63 }
+    requires place { place ≡ at_cycle cycle views.now.path.now }
+    requires steps { All (IsOfRun (length views.now.steps.now)) views.now.path.now }
+    ensures { OnOk result (Appends (view_of views.now.cells views.now.config.now views.now.page views.now.total
+        views.now.steps.now views.now.path.now views.now.entries.now cycle) text.old text.new) }
+{
+    match views.cells {
+        Cells::Filled => push_frame(text, heap, scratch, views, place, cycle),
+        Cells::Blank => push_blank_frame(text, views, cycle),
+    }
+}
+
 /// Adds the views of all cycles of the page.
 #[tactic(auto, unfolding(crate::specs::Machine::cycles_of))]
 pub fn push_views<A: Allocator>(
@@ -127,7 +170,7 @@ pub fn push_views<A: Allocator>(
     requires page { views.now.page.to < 2 ^ 63 }
     requires steps { All (IsOfRun (length views.now.steps.now)) views.now.path.now }
     ensures { OnOk result (string_bytes text.new ≡ string_bytes text.old
-        ++ flat_map (frame views.now.config.now views.now.page views.now.total views.now.steps.now
+        ++ flat_map (view_of views.now.cells views.now.config.now views.now.page views.now.total views.now.steps.now
         views.now.path.now views.now.entries.now) (cycles_of views.now.page)) }
 {
     let mut scratch = Scratch::new(heap);

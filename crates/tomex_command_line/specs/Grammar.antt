@@ -104,12 +104,13 @@ tables_shape = record (new_shape (codes "tables")) {
       ∷ numeral_rule (codes "CYCLE") 0 last_cycle ∷ [];
 }
 
--- `animate STUDY CONFIG PROGRAM [--from CYCLE] [--cycles N]`
+-- `animate STUDY CONFIG PROGRAM [--from CYCLE] [--cycles N] [--blank]`
 abbrev pub animate_shape : Shape
 animate_shape = record (new_shape (codes "animate")) {
   rules = word_rule (codes "STUDY") ∷ config_rule ∷ word_rule (codes "PROGRAM")
       ∷ option_rule (codes "from") 1 last_cycle (codes "1")
-      ∷ option_rule (codes "cycles") 1 256 (codes "64") ∷ [];
+      ∷ option_rule (codes "cycles") 1 256 (codes "64")
+      ∷ flag_rule (codes "blank") ∷ [];
 }
 
 -- `all STUDY`

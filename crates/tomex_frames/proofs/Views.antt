@@ -1,7 +1,7 @@
 -- What a run's views list, and how often a word is in them.
 use Rattle.std.proofs.Common.{ℕ, ◌+◌, ◌-◌, ◌<◌, ◌≤◌, ◌≡◌, ◌∙◌, ap, subst, sym, true, false, arith, refl}
 use Rattle.std.proofs.Common.{inl, inr, Option, None, List, [], ◌∷◌, ◌++◌, length, max, reverse}
-use Rattle.std.specs.Prelude.{All, codes, count_by, nat_le, sum_by}
+use Rattle.std.specs.Prelude.{All, codes, count_by, if◌then◌else◌, nat_le, sum_by}
 use Rattle.std.specs.List.{Contains, filter, flat_map, range_with_len}
 use Rattle.std.specs.Str.{bytes_eq}
 use Rattle.std.proofs.lemmas.Bool.{and_from, cases_Bool, cases_lt, le-leb}
@@ -29,7 +29,7 @@ use Rattle.tomex_frames.specs.Laws.{BlankRowsAreOfSteps, IsOn, NextIsListed, Not
 use Rattle.tomex_frames.specs.Laws.{StepsShowTheirWaits, ViewsShowStalls, WaitsComeBeforeIssues, cycles_with}
 use Rattle.tomex_frames.specs.Laws.{rows_of, rows_with, says}
 use Rattle.tomex_frames.specs.Constants.{status_head}
-use Rattle.tomex_frames.specs.Status.{listed_cycles, row_if, status_table, step_row}
+use Rattle.tomex_frames.specs.Status.{listed_cycles, status_table, step_row}
 use Rattle.tomex_frames.proofs.Sums.{by_steps, contains_kept, count_kept, sum_both, sum_same}
 use Rattle.tomex_frames.proofs.Placed.{entries_more, entry_at, placed_run}
 use Rattle.tomex_frames.proofs.Waits.{IsPlaced, after, before, shown_waits}
