@@ -101,7 +101,7 @@ same_row (q ∷ rows) a b far (inr x) (inl y) same =
     absurd (all_has (λ r. q.row ≢ r.row) rows a far.0 x (ap (λ (r : FrontRow). r.row) y ∙ sym same))
 same_row (q ∷ rows) a b far (inr x) (inr y) same = same_row rows a b far.1 x y same
 
-never_before : (a : FrontRow) → ComesBefore a a → ⊥
+pub never_before : (a : FrontRow) → ComesBefore a a → ⊥
 never_before a h = grind (arith, nat_tests)
 
 -- so the rows of its front are apart
