@@ -54,11 +54,6 @@ abbrev pub rates_after : Option FrontRow → List FrontRow → List (List ℕ)
 rates_after before [] = []
 rates_after before (r ∷ rows) = rate_after before r ∷ rates_after (Some r) rows
 
--- the rate of the row of this number; nothing if it is none of them
-abbrev pub rate_in : Option FrontRow → List FrontRow → ℕ → List ℕ
-rate_in before [] number = []
-rate_in before (r ∷ rows) number = if r.row == number then rate_after before r else rate_in (Some r) rows number
-
 unfoldable pub rate_column : List FrontRow → TableColumn
 rate_column front = record { name = codes "rate"; entries = rates_after None front }
 

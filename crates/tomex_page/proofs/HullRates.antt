@@ -3,7 +3,8 @@ use Rattle.std.proofs.Common.{◌≡◌, ◌≢◌, ◌∙◌, ◌==◌, ℕ, ap
 use Rattle.std.specs.List.{AllPairs, filter, list_any}
 use Rattle.std.proofs.lemmas.Bool.{eq-eqb, ne_eqb, or_parts}
 use Rattle.std.proofs.lemmas.List.Kept.{AllPairs-filter}
-use Rattle.tomex_front_views.specs.FrontTable.{rate_in, rates_after}
+use Rattle.tomex_front_views.specs.FrontTable.{rates_after}
+use Rattle.tomex_page_tables.specs.Front.{rate_in}
 use Rattle.tomex_pareto.specs.Front.{front_of, is_on}
 use Rattle.tomex_pareto.specs.Hull.{hull_of, is_unmixed}
 use Rattle.tomex_pareto.specs.Pareto.{ComesBefore}

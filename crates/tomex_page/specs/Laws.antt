@@ -5,7 +5,8 @@ use Rattle.std.specs.List.{Contains, flat_map}
 use Rattle.std.specs.Option.{ForSome}
 use Rattle.tomex_config.specs.Configuration.{Configuration, IsWithinLimits}
 use Rattle.tomex_html.specs.declared.links.Links.{Links}
-use Rattle.tomex_front_views.specs.FrontTable.{rate_in, rates_after}
+use Rattle.tomex_front_views.specs.FrontTable.{rates_after}
+use Rattle.tomex_page_tables.specs.Front.{rate_in}
 use Rattle.tomex_pareto.specs.Hull.{hull_of}
 use Rattle.tomex_pareto.specs.declared.front_row.FrontRow.{FrontRow}
 use Rattle.tomex_study.specs.StudyFront.{front_of_study}

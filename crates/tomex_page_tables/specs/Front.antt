@@ -11,7 +11,7 @@ use Rattle.tomex_study.specs.Program.{Workload}
 use Rattle.tomex_study.specs.Study.{DesignSpace}
 use Rattle.tomex_config.specs.Settings.{all_settings, differs, setting_of}
 use Rattle.tomex_layout.specs.Lists.{name_of_setting}
-use Rattle.tomex_front_views.specs.FrontTable.{rate_in}
+use Rattle.tomex_front_views.specs.FrontTable.{rate_after}
 use Rattle.tomex_front_views.specs.LinkedPlot.{link_to}
 use Rattle.tomex_config.specs.declared.setting.Setting.{Setting}
 use Rattle.tomex_layout.specs.Differences.{percent, signed_difference}
@@ -58,7 +58,12 @@ own_cells before r =
     number_cell r.row.cost ++ (td (more_cost before r) ++ (number_cell r.row.cycles
     ++ (td (more_cycles before r) ++ td (more_percent before r))))
 
--- the rate of a row of the hull, from the row of the hull before it
+-- the rate of the row of this number after the one before it; nothing if it is none of these
+abbrev pub rate_in : Option FrontRow → List FrontRow → ℕ → List ℕ
+rate_in before [] number = []
+rate_in before (r ∷ rows) number = if r.row == number then rate_after before r else rate_in (Some r) rows number
+
+-- that of a row of the hull
 unfoldable pub rate_cell : List FrontRow → ShownRow → List ℕ
 rate_cell hull r = td (rate_in None hull r.row.row)
 

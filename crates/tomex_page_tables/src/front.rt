@@ -1,13 +1,13 @@
 //! The front as a table, in which a row's differences are from the row above.
 
-ghost use Rattle.std.specs.Prelude.{◌≡◌, ◌<◌, length, All, None, OnOk};
+ghost use Rattle.std.specs.Prelude.{◌≡◌, ◌<◌, length, string_bytes, All, IfOk, None, OnOk};
 ghost use Rattle.std.specs.Fmt.{decimal};
 ghost use Rattle.tomex_layout.specs.Growth.{Appends};
 ghost use Rattle.tomex_front_views.specs.LinkedPlot.{link_to};
 ghost use Rattle.tomex_html.specs.Html.{td};
 ghost use Rattle.tomex_page_tables.specs.Front.{front_cells, front_row, front_row_start, front_rows, front_table};
 ghost use Rattle.tomex_page_tables.specs.Front.{hull_mark, more_cost, more_cycles, more_percent, own_cells};
-ghost use Rattle.tomex_page_tables.specs.Front.{rate_cell, row_text, settings_of};
+ghost use Rattle.tomex_page_tables.specs.Front.{rate_cell, rate_in, row_text, settings_of};
 ghost use Rattle.tomex_page_tables.specs.Shown.{row_of};
 ghost use Rattle.tomex_layout.specs.Differences.{percent, signed_difference};
 
@@ -16,7 +16,7 @@ use crate::shown::{ShownRow, row_of};
 use std::alloc::{AllocError, Allocator, Global};
 use std::fmt::Write;
 use tomex_config::Setting;
-use tomex_front_views::{push_link_start, rate_in};
+use tomex_front_views::{push_link_start, rate_after};
 use tomex_html::{
     push_empty, push_head_end, push_number, push_numbers, push_table_end, push_table_start,
 };
@@ -131,6 +131,20 @@ pub fn push_row_text<A: Allocator>(
     } else {
         write!(text, "{row}")
     }
+}
+
+/// The rate of the row of this number after the one before it; empty if it is none of these rows.
+fn rate_in(heap: Global, rows: &[FrontRow], number: usize) -> Result<String, AllocError>
+    ensures { IfOk result (λ text. string_bytes text ≡ rate_in None rows.now number) }
+{
+    let mut before = None;
+    for row in rows {
+        if row.row == number {
+            return rate_after(heap, before, *row);
+        }
+        before = Some(*row);
+    }
+    Ok(String::new(heap))
 }
 
 /// Adds the rate of a row of the hull.

@@ -1,14 +1,19 @@
 //! The savings of rows of the front over the rows before them.
 
-ghost use Rattle.std.specs.Prelude.{◌≡◌, None, IfOk, string_bytes};
-ghost use Rattle.tomex_front_views.specs.FrontTable.{rate_after, rate_column, rate_in};
+ghost use Rattle.std.specs.Prelude.{◌≡◌, IfOk, string_bytes};
+ghost use Rattle.tomex_front_views.specs.FrontTable.{rate_after, rate_column};
 
 use std::alloc::{AllocError, Global};
 use tomex_layout::{Column, push_hundredths};
 use tomex_pareto::FrontRow;
 
-/// The cycles that a row saves over the row before, for 1 of extra cost.
-fn rate_after(heap: Global, before: Option<FrontRow>, row: FrontRow) -> Result<String, AllocError>
+/// The cycles that a row saves over the row before, for 1 of extra cost: with two decimals, or `-` if there is no row
+/// before or it costs as much.
+pub fn rate_after(
+    heap: Global,
+    before: Option<FrontRow>,
+    row: FrontRow,
+) -> Result<String, AllocError>
     ensures { IfOk result (λ text. string_bytes text ≡ rate_after before row) }
 {
     let Some(before) = before else {
@@ -35,18 +40,4 @@ pub fn rate_column(heap: Global, front: &[FrontRow]) -> Result<Column, AllocErro
         before = Some(*row);
     }
     Ok(column)
-}
-
-/// The entry that the row of this number has in the column of the rates of `rows`; nothing if it is none of them.
-pub fn rate_in(heap: Global, rows: &[FrontRow], number: usize) -> Result<String, AllocError>
-    ensures { IfOk result (λ text. string_bytes text ≡ rate_in None rows.now number) }
-{
-    let mut before = None;
-    for row in rows {
-        if row.row == number {
-            return rate_after(heap, before, *row);
-        }
-        before = Some(*row);
-    }
-    Ok(String::new(heap))
 }

@@ -5,4 +5,4 @@ use Rattle.tomex_front_views.proofs.plot.points.push_circle_at.Goals as goal
 
 pub returns : goal.returns
 unfolding circle_at
-returns g c = on_ok_weaker c.write.result (λ last. rw c.fill_of.ensures at last) c.write.ensures.bytes
+returns g c = on_ok_weaker c.write.result (λ last. rw c.fill_of-fill.ensures at last) c.write.ensures.bytes
