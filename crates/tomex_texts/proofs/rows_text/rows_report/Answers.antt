@@ -5,8 +5,8 @@ use Rattle.tomex_pareto.specs.Hull.{hull_of, is_unmixed}
 use Rattle.tomex_pareto.specs.declared.front_row.FrontRow.{FrontRow}
 use Rattle.tomex_texts.proofs.rows_text.rows_report.Goals as goal
 
-pub flags-2-requires : goal.flags-2-requires
+pub flags-requires-2 : goal.flags-requires-2
 unfolding hull_of
-flags-2-requires g c =
+flags-requires-2 g c =
     rw (c.as_slice.ensures.value ∙ c.in_ok-hull.ensures)
     (All-filter (is_unmixed c.front-front.result.now) (λ (r : FrontRow). r.row < c.rows-count.result) _ c.front.ensures.within)
