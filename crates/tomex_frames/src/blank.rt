@@ -173,5 +173,5 @@ pub fn push_blank_registers<A: Allocator>(text: &mut String<A>) -> Result<(), Al
 {
     text.push_str("<div class=\"q\"><h3>Register status (Qi)</h3>\n<dl class=\"r\">\n")?;
     push_some_registers(text, 1, 32)?;
-    text.push_str("</dl></div>\n")
+    write!(text, "</dl></div>\n")
 }

@@ -55,7 +55,7 @@ fn push_page_name<A: Allocator>(
     push_name(text, name)?;
     text.push_str("</bdi>")?;
     push_counts(text, front, rows)?;
-    text.push_str("</h1>\n")
+    write!(text, "</h1>\n")
 }
 
 /// Adds the start of the page, up to the picture: its name, and which of the front's rows, `front` in number, are worth
@@ -74,7 +74,7 @@ pub fn push_page_head<A: Allocator>(
 {
     push_page_name(text, heap, name, front, rows)?;
     push_steps_sentence(text, hull, front, shown)?;
-    text.push_str("</header>\n<main>\n<div class=\"c\">\n")
+    write!(text, "</header>\n<main>\n<div class=\"c\">\n")
 }
 
 /// Adds the picture of all rows next to what was asked, and how far the fastest row is from the study's floors.

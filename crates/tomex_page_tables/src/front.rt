@@ -180,7 +180,7 @@ fn push_row_start<A: Allocator>(
     let mark = hull_mark(hull, row);
     write!(text, "<tr{mark}><th scope=\"row\">")?;
     push_row_link(text, row)?;
-    text.push_str("</th>")
+    write!(text, "</th>")
 }
 
 #[tactic(auto, unfolding(crate::specs::Front::front_cells))]

@@ -7,6 +7,6 @@ use Rattle.tomex_frames.proofs.blank.push_blank_registers.Goals as goal
 pub returns : goal.returns
 unfolding blank_registers
 returns g c =
-    on_ok_weaker c.push_str-2.result (λ last.
+    on_ok_weaker c.write.result (λ last.
     (c.in_ok-push_str.ensures.bytes ▸ c.in_ok-push_some_registers.ensures ▸ last_piece last).is)
-    c.push_str-2.ensures.bytes
+    c.write.ensures.bytes

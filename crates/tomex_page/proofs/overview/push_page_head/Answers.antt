@@ -7,6 +7,6 @@ use Rattle.tomex_page.proofs.overview.push_page_head.Goals as goal
 pub returns : goal.returns
 unfolding page_head
 returns g c =
-    on_ok_weaker c.push_str.result (λ last.
+    on_ok_weaker c.write.result (λ last.
     (c.in_ok-push_page_name.ensures ▸ c.in_ok-push_steps_sentence.ensures ▸ last_piece last).is)
-    c.push_str.ensures.bytes
+    c.write.ensures.bytes

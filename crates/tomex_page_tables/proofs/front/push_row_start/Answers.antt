@@ -7,6 +7,6 @@ use Rattle.tomex_page_tables.proofs.front.push_row_start.Goals as goal
 pub returns : goal.returns
 unfolding front_row_start
 returns g c =
-    on_ok_weaker c.push_str.result (λ last.
+    on_ok_weaker c.write-2.result (λ last.
     ((rw c.hull_mark-mark.ensures at c.in_ok-write.ensures.bytes) ▸ c.in_ok-push_row_link.ensures ▸ last_piece last).is)
-    c.push_str.ensures.bytes
+    c.write-2.ensures.bytes
