@@ -39,7 +39,8 @@ pub fn all_events() -> &'static [Event]
 }
 
 impl Event {
-    fn name(self) -> &'static str
+    /// Its name in a view.
+    pub fn name(self) -> &'static str
         ensures { result.now ≡ name_of_event self }
     {
         match self {

@@ -83,7 +83,8 @@ hull_mark hull row = if is_on hull row then codes " class=\"h\"" else []
 -- the start of a row, whose head leads to the row's view
 unfoldable pub front_row_start : List FrontRow → ℕ → List ℕ
 front_row_start hull row =
-    codes "<tr" ++ (hull_mark hull row ++ (codes "><th scope=\"row\">" ++ (link_to row (decimal row) ++ codes "</th>")))
+    (codes "<tr" ++ (hull_mark hull row ++ codes "><th scope=\"row\">"))
+    ++ (link_to row (decimal row) ++ codes "</th>")
 
 unfoldable pub front_row : DesignSpace → List FrontRow → Option ShownRow → ShownRow → List ℕ
 front_row s hull before r =
