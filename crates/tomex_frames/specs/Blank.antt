@@ -31,8 +31,8 @@ seven_cells = codes "<td></td><td></td><td></td><td></td><td></td><td></td><td><
 
 unfoldable pub blank_step : Entry → List ℕ
 blank_step e =
-    codes "<tr><td>" ++ (decimal e.number ++ (codes "</td><th scope=\"row\">" ++ (instr_text e.step.instr
-    ++ (codes "</th>" ++ (six_cells ++ codes "</tr>\n")))))
+    (codes "<tr><td>" ++ (decimal e.number ++ (codes "</td><th scope=\"row\">" ++ (instr_text e.step.instr
+    ++ codes "</th>")))) ++ (six_cells ++ codes "</tr>\n")
 
 abbrev pub blank_step_if : Span → Entry → List ℕ
 blank_step_if span e = if is_listed_in span e then blank_step e else []
@@ -43,8 +43,8 @@ blank_status page es t = status_head ++ (flat_map (blank_step_if (listed_cycles 
 
 unfoldable pub blank_station : PoolId → ℕ → List ℕ
 blank_station pool number =
-    codes "<tr><th scope=\"row\">" ++ (tag_text (record { pool = pool; number = number })
-    ++ (codes "</th>" ++ (seven_cells ++ codes "</tr>\n")))
+    (codes "<tr><th scope=\"row\">" ++ (tag_text (record { pool = pool; number = number }) ++ codes "</th>"))
+    ++ (seven_cells ++ codes "</tr>\n")
 
 unfoldable pub blank_pool : Configuration → PoolId → List ℕ
 blank_pool config pool = flat_map (blank_station pool) (range_with_len 0 (stations_of config pool))

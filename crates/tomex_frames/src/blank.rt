@@ -42,7 +42,7 @@ pub fn push_blank_events<A: Allocator>(text: &mut String<A>) -> Result<(), Alloc
 {
     text.push_str("<dl class=\"e\">\n")?;
     push_all_events(text, all_events())?;
-    text.push_str("</dl>\n")
+    write!(text, "</dl>\n")
 }
 
 /// Adds the row of a step: its number and its instruction.
@@ -53,7 +53,7 @@ fn push_blank_step<A: Allocator>(text: &mut String<A>, entry: &Entry) -> Result<
     let (number, instr) = (entry.number, entry.step.instr);
     write!(text, "<tr><td>{number}</td><th scope=\"row\">{instr}</th>")?;
     text.push_str("<td></td><td></td><td></td><td></td><td></td><td></td>")?;
-    text.push_str("</tr>\n")
+    write!(text, "</tr>\n")
 }
 
 /// Adds the rows of the steps that are listed in some of these cycles.
@@ -99,7 +99,7 @@ fn push_blank_station<A: Allocator>(
     let name = Name(Some(Tag { pool, number }));
     write!(text, "<tr><th scope=\"row\">{name}</th>")?;
     text.push_str("<td></td><td></td><td></td><td></td><td></td><td></td><td></td>")?;
-    text.push_str("</tr>\n")
+    write!(text, "</tr>\n")
 }
 
 fn push_blank_pool<A: Allocator>(

@@ -2,4 +2,5 @@ pub mod Commands
 pub mod Images
 pub mod Faults
 pub mod Studies
+pub mod Looking
 pub mod Refusals

@@ -1,7 +1,6 @@
 -- All refusals of the program, and how to find a text's.
 use Rattle.std.specs.Prelude.{◌≡◌, ◌≢◌, ◌⊎◌, ℕ, List, [], ◌∷◌, ◌++◌, codes, Option, Some, None}
 use Rattle.std.specs.List.{Contains, flat_map}
-use Rattle.std.specs.Str.Iter.{HasSubslice}
 use Rattle.tomex_refusals.specs.declared.commands.CommandRefusal.TheVariants as commands
 use Rattle.tomex_refusals.specs.declared.explaining.ExplainError.{ExplainError}
 use Rattle.tomex_refusals.specs.declared.explaining.ExplainError.TheVariants.{NoSuchRefusal, Memory}
@@ -14,6 +13,7 @@ use Rattle.tomex_refusals.specs.Commands as of_commands
 use Rattle.tomex_refusals.specs.Faults as of_faults
 use Rattle.tomex_refusals.specs.Images as of_images
 use Rattle.tomex_refusals.specs.Studies as of_studies
+use Rattle.tomex_refusals.specs.Looking.{HasWords}
 
 -- in the order in which they are looked for: those with a name in them first
 abbrev pub all_refusals : List Refusal
@@ -52,9 +52,9 @@ advice_of (Image refusal) = of_images.advice_of refusal
 advice_of (Fault refusal) = of_faults.advice_of refusal
 advice_of (Study refusal) = of_studies.advice_of refusal
 
--- its words are somewhere in a text
+-- its words are somewhere in a text; capitals are as small letters
 abbrev pub IsIn : List ℕ → Refusal → Type 0
-IsIn text refusal = HasSubslice text (words_of refusal)
+IsIn text refusal = HasWords text (words_of refusal)
 
 -- the first of some refusals that is in a text, if one is
 unfoldable pub IsFirstIn : List ℕ → List Refusal → Option Refusal → Type 0
@@ -72,7 +72,7 @@ line_of refusal = form_of refusal ++ codes "\n"
 
 -- the words are a part of its line
 abbrev pub HasPart : List ℕ → Refusal → Type 0
-HasPart words refusal = HasSubslice (form_of refusal) words
+HasPart words refusal = HasWords (form_of refusal) words
 
 -- those of some refusals that have the part, in their order
 unfoldable pub AreWith : List ℕ → List Refusal → List Refusal → Type 0

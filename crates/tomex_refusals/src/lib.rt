@@ -6,6 +6,7 @@ mod commands;
 mod explaining;
 mod faults;
 mod images;
+mod looking;
 mod refusal;
 mod studies;
 

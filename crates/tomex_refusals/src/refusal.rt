@@ -9,6 +9,7 @@ ghost use Rattle.tomex_refusals.specs.Refusals.{form_of, words_of};
 use crate::commands::CommandRefusal;
 use crate::faults::FaultRefusal;
 use crate::images::ImageRefusal;
+use crate::looking::has_words;
 use crate::studies::StudyRefusal;
 use std::alloc::{AllocError, Allocator};
 
@@ -101,12 +102,12 @@ impl Refusal {
     }
 }
 
-/// The refusal in a text: the first one whose words it has, if any.
+/// The refusal in a text: the first one whose words it has, if any. Capitals are as small letters.
 pub fn refusal_in(text: &str) -> Option<Refusal>
     ensures { IsFirstIn text.now all_refusals result }
 {
     for refusal in Refusal::ALL {
-        if text.contains(refusal.words()) {
+        if has_words(text, refusal.words()) {
             return Some(refusal);
         }
     }
@@ -122,7 +123,7 @@ pub fn refusals_with<A: Allocator>(alloc: A, words: &str) -> Result<Vec<Refusal,
 {
     let mut found = Vec::new(alloc);
     for refusal in Refusal::ALL {
-        if refusal.form().contains(words) {
+        if has_words(refusal.form(), words) {
             found.push(refusal)?;
         }
     }
