@@ -7,12 +7,14 @@ use Rattle.tomex_refusals.specs.declared.explaining.ExplainError.TheVariants.{No
 use Rattle.tomex_refusals.specs.declared.faults.FaultRefusal.TheVariants as faults
 use Rattle.tomex_refusals.specs.declared.images.ImageRefusal.TheVariants as images
 use Rattle.tomex_refusals.specs.declared.refusal.Refusal.{Refusal}
-use Rattle.tomex_refusals.specs.declared.refusal.Refusal.TheVariants.{Command, Image, Fault, Study}
+use Rattle.tomex_refusals.specs.declared.refusal.Refusal.TheVariants.{Command, Image, Fault, Study, Status}
 use Rattle.tomex_refusals.specs.declared.studies.StudyRefusal.TheVariants as studies
+use Rattle.tomex_refusals.specs.declared.statuses.ExitStatus.TheVariants as statuses
 use Rattle.tomex_refusals.specs.Commands as of_commands
 use Rattle.tomex_refusals.specs.Faults as of_faults
 use Rattle.tomex_refusals.specs.Images as of_images
 use Rattle.tomex_refusals.specs.Studies as of_studies
+use Rattle.tomex_refusals.specs.Statuses as of_statuses
 use Rattle.tomex_refusals.specs.Looking.{HasWords}
 
 -- in the order in which they are looked for: those with a name in them first
@@ -29,7 +31,7 @@ all_refusals =
     ∷ Image images.Segment ∷ Image images.Overlap ∷ Image images.Entry ∷ Fault faults.Fetch ∷ Fault faults.Illegal
     ∷ Fault faults.MisalignedTarget ∷ Fault faults.Access ∷ Study studies.NotToml ∷ Study studies.UnknownKey
     ∷ Study studies.Missing ∷ Study studies.WrongKind ∷ Study studies.OutOfRange ∷ Study studies.TooMany
-    ∷ Study studies.NumberOfFiles ∷ []
+    ∷ Study studies.NumberOfFiles ∷ Status statuses.Input ∷ Status statuses.Line ∷ Status statuses.System ∷ []
 
 -- the words by which a refusal is known
 abbrev pub words_of : Refusal → List ℕ
@@ -37,6 +39,7 @@ words_of (Command refusal) = of_commands.words_of refusal
 words_of (Image refusal) = of_images.words_of refusal
 words_of (Fault refusal) = of_faults.words_of refusal
 words_of (Study refusal) = of_studies.words_of refusal
+words_of (Status status) = of_statuses.words_of status
 
 -- its form, with names in place of the parts that vary
 abbrev pub form_of : Refusal → List ℕ
@@ -44,6 +47,7 @@ form_of (Command refusal) = of_commands.form_of refusal
 form_of (Image refusal) = of_images.words_of refusal
 form_of (Fault refusal) = of_faults.form_of refusal
 form_of (Study refusal) = of_studies.form_of refusal
+form_of (Status status) = of_statuses.words_of status
 
 -- the advice on it: its meaning, the usual causes, and what to do
 abbrev pub advice_of : Refusal → List ℕ
@@ -51,6 +55,7 @@ advice_of (Command refusal) = of_commands.advice_of refusal
 advice_of (Image refusal) = of_images.advice_of refusal
 advice_of (Fault refusal) = of_faults.advice_of refusal
 advice_of (Study refusal) = of_studies.advice_of refusal
+advice_of (Status status) = of_statuses.advice_of status
 
 -- its words are somewhere in a text; capitals are as small letters
 abbrev pub IsIn : List ℕ → Refusal → Type 0

@@ -10,21 +10,23 @@ use crate::commands::CommandRefusal;
 use crate::faults::FaultRefusal;
 use crate::images::ImageRefusal;
 use crate::looking::has_words;
+use crate::statuses::ExitStatus;
 use crate::studies::StudyRefusal;
 use std::alloc::{AllocError, Allocator};
 
-/// A refusal that some command can report.
+/// A refusal that some command can report, or an exit status.
 #[derive(Clone, Copy)]
 pub enum Refusal {
     Command(CommandRefusal),
     Image(ImageRefusal),
     Fault(FaultRefusal),
     Study(StudyRefusal),
+    Status(ExitStatus),
 }
 
 impl Refusal {
     /// All refusals, in the order in which they are looked for: those with a name in them first.
-    pub const ALL: [Refusal; 38] = [
+    pub const ALL: [Refusal; 41] = [
         Refusal::Command(CommandRefusal::CannotRead),
         Refusal::Command(CommandRefusal::NoSuchChoice),
         Refusal::Command(CommandRefusal::BadWindow),
@@ -63,6 +65,9 @@ impl Refusal {
         Refusal::Study(StudyRefusal::OutOfRange),
         Refusal::Study(StudyRefusal::TooMany),
         Refusal::Study(StudyRefusal::NumberOfFiles),
+        Refusal::Status(ExitStatus::Input),
+        Refusal::Status(ExitStatus::Line),
+        Refusal::Status(ExitStatus::System),
     ];
 
     /// The words by which it is known.
@@ -74,6 +79,7 @@ impl Refusal {
             Refusal::Image(refusal) => refusal.words(),
             Refusal::Fault(refusal) => refusal.words(),
             Refusal::Study(refusal) => refusal.words(),
+            Refusal::Status(status) => status.words(),
         }
     }
 
@@ -86,6 +92,7 @@ impl Refusal {
             Refusal::Image(refusal) => refusal.words(),
             Refusal::Fault(refusal) => refusal.form(),
             Refusal::Study(refusal) => refusal.form(),
+            Refusal::Status(status) => status.words(),
         }
     }
 
@@ -98,6 +105,7 @@ impl Refusal {
             Refusal::Image(refusal) => refusal.advice(),
             Refusal::Fault(refusal) => refusal.advice(),
             Refusal::Study(refusal) => refusal.advice(),
+            Refusal::Status(status) => status.advice(),
         }
     }
 }
