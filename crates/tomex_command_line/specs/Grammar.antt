@@ -196,8 +196,8 @@ bare_app = on_top (λ s. record s { has_version = true; subcommand_required = tr
 abbrev pub tomex_app : App
 tomex_app = record {
   top = record (new_shape (codes "tomex")) { has_version = true; is_leaf = false; subcommand_required = true };
-  subs = run_shape ∷ times_shape ∷ stalls_shape ∷ path_shape ∷ loops_shape ∷ pipeline_shape ∷ tables_shape
-      ∷ animate_shape ∷ all_shape ∷ explore_shape ∷ front_shape ∷ plot_shape ∷ rows_shape ∷ worth_shape
-      ∷ choices_shape ∷ prices_shape ∷ weights_shape ∷ compare_shape ∷ functions_shape ∷ page_shape ∷ find_shape
-      ∷ explain_shape ∷ [];
+  subs = run_shape ∷ times_shape ∷ pipeline_shape ∷ tables_shape ∷ animate_shape ∷ stalls_shape ∷ path_shape
+      ∷ loops_shape ∷ front_shape ∷ plot_shape ∷ rows_shape ∷ find_shape ∷ page_shape ∷ worth_shape
+      ∷ choices_shape ∷ prices_shape ∷ weights_shape ∷ compare_shape ∷ functions_shape ∷ explore_shape
+      ∷ all_shape ∷ explain_shape ∷ [];
 }
