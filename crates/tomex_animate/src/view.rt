@@ -136,7 +136,7 @@ fn push_blank_frame<A: Allocator>(
     push_blank_status(text, views.page, views.entries, cycle)?;
     push_blank_stations(text, views.config)?;
     push_blank_registers(text)?;
-    text.push_str("</section>\n")
+    write!(text, "</section>\n")
 }
 
 /// Adds the view of a cycle.
