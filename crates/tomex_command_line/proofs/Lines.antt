@@ -4,7 +4,7 @@ use Rattle.clap.specs.Words.{Row}
 use Rattle.tomex_command_line.specs.Asked.{HasNoLine}
 use Rattle.tomex_command_line.specs.Values.{IsNoRun, IsNoOneRun, IsNoStalls, IsNoPath, IsNoPipeline, IsNoTables}
 use Rattle.tomex_command_line.specs.Values.{IsNoAll, IsNoAnimate, IsNoExplore, IsNoFront, IsNoPlot, IsNoWorth}
-use Rattle.tomex_command_line.specs.Values.{IsNoCompare, IsNoFunctions, IsNoPage, IsNoFind}
+use Rattle.tomex_command_line.specs.Values.{IsNoCompare, IsNoFunctions, IsNoPage, IsNoFind, IsNoTable}
 use Rattle.tomex_command_line.specs.declared.line.Line.TheVariants as lines
 use Rattle.tomex_command_line.specs.declared.line.command_name.CommandName.{CommandName}
 use Rattle.tomex_command_line.specs.declared.line.command_name.CommandName.TheVariants.{Run, Times, Stalls, Path, Loops}
@@ -72,23 +72,23 @@ module _ (rows : List Row) where
   no_rows none line asked = absurd asked
 
   pub no_worth : IsNoWorth rows → HasNoLine Worth rows
-  no_worth none (lines.Worth line) asked = none _ _ _ asked
+  no_worth none (lines.Worth line) asked = none _ _ _ _ asked
   no_worth none line asked = absurd asked
 
-  pub no_choices : IsNoExplore rows → HasNoLine Choices rows
-  no_choices none (lines.Choices line) asked = none _ _ asked
+  pub no_choices : IsNoTable rows → HasNoLine Choices rows
+  no_choices none (lines.Choices line) asked = none _ _ _ asked
   no_choices none line asked = absurd asked
 
-  pub no_prices : IsNoExplore rows → HasNoLine Prices rows
-  no_prices none (lines.Prices line) asked = none _ _ asked
+  pub no_prices : IsNoTable rows → HasNoLine Prices rows
+  no_prices none (lines.Prices line) asked = none _ _ _ asked
   no_prices none line asked = absurd asked
 
-  pub no_weights : IsNoExplore rows → HasNoLine Weights rows
-  no_weights none (lines.Weights line) asked = none _ _ asked
+  pub no_weights : IsNoTable rows → HasNoLine Weights rows
+  no_weights none (lines.Weights line) asked = none _ _ _ asked
   no_weights none line asked = absurd asked
 
   pub no_compare : IsNoCompare rows → HasNoLine Compare rows
-  no_compare none (lines.Compare line) asked = none _ _ _ _ asked
+  no_compare none (lines.Compare line) asked = none _ _ _ _ _ asked
   no_compare none line asked = absurd asked
 
   pub no_functions : IsNoFunctions rows → HasNoLine Functions rows

@@ -20,7 +20,7 @@ use Rattle.tomex_command_line.specs.Names.{name_of}
 use Rattle.tomex_command_line.specs.Values.{IsRunAsked, IsOneRunAsked, IsStallsAsked, IsPathAsked, IsPipelineAsked}
 use Rattle.tomex_command_line.specs.Values.{IsTablesAsked, IsAnimateAsked, IsAllAsked, IsExploreAsked, IsFrontAsked}
 use Rattle.tomex_command_line.specs.Values.{IsPlotAsked, IsWorthAsked, IsCompareAsked, IsFunctionsAsked, IsPageAsked}
-use Rattle.tomex_command_line.specs.Values.{IsFindAsked, IsExplainAsked}
+use Rattle.tomex_command_line.specs.Values.{IsFindAsked, IsTableAsked, IsExplainAsked}
 
 -- the line is one of this command, and its values are among the rows
 abbrev pub IsLineOf : CommandName → List Row → Line → Type 0
@@ -42,12 +42,13 @@ IsLineOf Explore rows (lines.Explore line) = IsExploreAsked rows line.study.now 
 IsLineOf Front rows (lines.Front line) = IsFrontAsked rows line.explore.study.now line.explore.workers line.hull
 IsLineOf Plot rows (lines.Plot line) = IsPlotAsked rows line.explore.study.now line.explore.workers line.all
 IsLineOf Rows rows (lines.Rows line) = IsExploreAsked rows line.study.now line.workers
-IsLineOf Worth rows (lines.Worth line) = IsWorthAsked rows line.explore.study.now line.config line.explore.workers
-IsLineOf Choices rows (lines.Choices line) = IsExploreAsked rows line.study.now line.workers
-IsLineOf Prices rows (lines.Prices line) = IsExploreAsked rows line.study.now line.workers
-IsLineOf Weights rows (lines.Weights line) = IsExploreAsked rows line.study.now line.workers
+IsLineOf Worth rows (lines.Worth line) =
+    IsWorthAsked rows line.explore.study.now line.config line.explore.workers line.csv
+IsLineOf Choices rows (lines.Choices line) = IsTableAsked rows line.explore.study.now line.explore.workers line.csv
+IsLineOf Prices rows (lines.Prices line) = IsTableAsked rows line.explore.study.now line.explore.workers line.csv
+IsLineOf Weights rows (lines.Weights line) = IsTableAsked rows line.explore.study.now line.explore.workers line.csv
 IsLineOf Compare rows (lines.Compare line) =
-    IsCompareAsked rows line.explore.study.now line.builds.old.now line.builds.new.now line.explore.workers
+    IsCompareAsked rows line.explore.study.now line.builds.old.now line.builds.new.now line.explore.workers line.csv
 IsLineOf Functions rows (lines.Functions line) =
     IsFunctionsAsked rows line.study.now line.config line.builds.old.now line.builds.new.now
 IsLineOf Page rows (lines.Page line) = IsPageAsked rows line.explore.study.now line.explore.workers line.choices

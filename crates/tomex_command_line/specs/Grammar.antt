@@ -141,27 +141,37 @@ plot_shape = record (new_shape (codes "plot")) {
 abbrev pub rows_shape : Shape
 rows_shape = exploring_shape (codes "rows")
 
--- `worth STUDY CONFIG [--workers N]`
+-- the flag of a command that prints a table, or the same as CSV
+abbrev pub csv_rule : Rule
+csv_rule = flag_rule (codes "csv")
+
+-- such a command: `NAME STUDY [--workers N] [--csv]`
+abbrev pub table_shape : Text → Shape
+table_shape name = record (new_shape name) {
+  rules = word_rule (codes "STUDY") ∷ option_rule (codes "workers") 1 32 (codes "1") ∷ csv_rule ∷ [];
+}
+
+-- `worth STUDY CONFIG [--workers N] [--csv]`
 abbrev pub worth_shape : Shape
 worth_shape = record (new_shape (codes "worth")) {
   rules = word_rule (codes "STUDY") ∷ option_rule (codes "workers") 1 32 (codes "1")
-      ∷ config_rule ∷ [];
+      ∷ config_rule ∷ csv_rule ∷ [];
 }
 
 abbrev pub choices_shape : Shape
-choices_shape = exploring_shape (codes "choices")
+choices_shape = table_shape (codes "choices")
 
 abbrev pub prices_shape : Shape
-prices_shape = exploring_shape (codes "prices")
+prices_shape = table_shape (codes "prices")
 
 abbrev pub weights_shape : Shape
-weights_shape = exploring_shape (codes "weights")
+weights_shape = table_shape (codes "weights")
 
--- `compare STUDY OLD NEW [--workers N]`
+-- `compare STUDY OLD NEW [--workers N] [--csv]`
 abbrev pub compare_shape : Shape
 compare_shape = record (new_shape (codes "compare")) {
   rules = word_rule (codes "STUDY") ∷ option_rule (codes "workers") 1 32 (codes "1")
-      ∷ word_rule (codes "OLD") ∷ word_rule (codes "NEW") ∷ [];
+      ∷ word_rule (codes "OLD") ∷ word_rule (codes "NEW") ∷ csv_rule ∷ [];
 }
 
 -- `functions STUDY CONFIG OLD NEW`

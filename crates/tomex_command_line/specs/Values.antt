@@ -148,13 +148,24 @@ pub record IsPlotAsked (rows : List Row) (study : List ℕ) (workers : ℕ) (all
 abbrev pub IsNoPlot : List Row → Type 0
 IsNoPlot rows = (study : List ℕ) (workers : ℕ) (all : Bool) → IsPlotAsked rows study workers all → ⊥
 
+-- the values of a command that prints a table, or the same as CSV
+pub record IsTableAsked (rows : List Row) (study : List ℕ) (workers : ℕ) (csv : Bool) : Type 0 where
+  pub of_study : IsExploreAsked rows study workers
+  pub is_csv : IsFlag rows (codes "csv") csv
+
+abbrev pub IsNoTable : List Row → Type 0
+IsNoTable rows = (study : List ℕ) (workers : ℕ) (csv : Bool) → IsTableAsked rows study workers csv → ⊥
+
 -- the values of `worth`
-pub record IsWorthAsked (rows : List Row) (study : List ℕ) (config : ConfigName) (workers : ℕ) : Type 0 where
+pub record IsWorthAsked (rows : List Row) (study : List ℕ) (config : ConfigName) (workers : ℕ) (csv : Bool)
+    : Type 0 where
   pub of_study : IsExploreAsked rows study workers
   pub is_config : IsConfigAsked rows config
+  pub is_csv : IsFlag rows (codes "csv") csv
 
 abbrev pub IsNoWorth : List Row → Type 0
-IsNoWorth rows = (study : List ℕ) (config : ConfigName) (workers : ℕ) → IsWorthAsked rows study config workers → ⊥
+IsNoWorth rows = (study : List ℕ) (config : ConfigName) (workers : ℕ) (csv : Bool)
+    → IsWorthAsked rows study config workers csv → ⊥
 
 -- the two builds of a program
 pub record AreBuildsAsked (rows : List Row) (old new : List ℕ) : Type 0 where
@@ -165,12 +176,14 @@ abbrev pub AreNoBuilds : List Row → Type 0
 AreNoBuilds rows = (old new : List ℕ) → AreBuildsAsked rows old new → ⊥
 
 -- the values of `compare`
-pub record IsCompareAsked (rows : List Row) (study old new : List ℕ) (workers : ℕ) : Type 0 where
+pub record IsCompareAsked (rows : List Row) (study old new : List ℕ) (workers : ℕ) (csv : Bool) : Type 0 where
   pub of_study : IsExploreAsked rows study workers
   pub are_builds : AreBuildsAsked rows old new
+  pub is_csv : IsFlag rows (codes "csv") csv
 
 abbrev pub IsNoCompare : List Row → Type 0
-IsNoCompare rows = (study old new : List ℕ) (workers : ℕ) → IsCompareAsked rows study old new workers → ⊥
+IsNoCompare rows = (study old new : List ℕ) (workers : ℕ) (csv : Bool)
+    → IsCompareAsked rows study old new workers csv → ⊥
 
 -- the values of `functions`
 pub record IsFunctionsAsked (rows : List Row) (study : List ℕ) (config : ConfigName) (old new : List ℕ) : Type 0 where

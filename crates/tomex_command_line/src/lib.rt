@@ -22,6 +22,7 @@ pub use line::pipeline::PipelineLine;
 pub use line::plot::PlotLine;
 pub use line::run::RunLine;
 pub use line::stalls::StallsLine;
+pub use line::table_or_csv::TableLine;
 pub use line::tables::TablesLine;
 pub use line::worth::WorthLine;
 pub use line::{Line, read_line};

@@ -33,6 +33,7 @@ mod prices;
 mod rows;
 pub mod run;
 pub mod stalls;
+pub mod table_or_csv;
 pub mod tables;
 mod texts;
 mod times;
@@ -58,6 +59,7 @@ use plot::PlotLine;
 use run::RunLine;
 use stalls::StallsLine;
 use std::alloc::{AllocError, Global};
+use table_or_csv::TableLine;
 use tables::TablesLine;
 use texts::with_command;
 use tomex_arguments::{LineFault, fault_of, refusal_of};
@@ -80,9 +82,9 @@ pub enum Line<'a> {
     Plot(PlotLine<'a>),
     Rows(ExploreLine<'a>),
     Worth(WorthLine<'a>),
-    Choices(ExploreLine<'a>),
-    Prices(ExploreLine<'a>),
-    Weights(ExploreLine<'a>),
+    Choices(TableLine<'a>),
+    Prices(TableLine<'a>),
+    Weights(TableLine<'a>),
     Compare(CompareLine<'a>),
     Functions(FunctionsLine<'a>),
     Page(PageLine<'a>),
@@ -200,9 +202,9 @@ fn line_with<'a>(
         CommandName::Plot => Ok(Line::Plot(plot::line_of(alloc, args)?)),
         CommandName::Rows => Ok(Line::Rows(explore::line_of(alloc, args)?)),
         CommandName::Worth => Ok(Line::Worth(worth::line_of(alloc, args)?)),
-        CommandName::Choices => Ok(Line::Choices(explore::line_of(alloc, args)?)),
-        CommandName::Prices => Ok(Line::Prices(explore::line_of(alloc, args)?)),
-        CommandName::Weights => Ok(Line::Weights(explore::line_of(alloc, args)?)),
+        CommandName::Choices => Ok(Line::Choices(table_or_csv::line_of(alloc, args)?)),
+        CommandName::Prices => Ok(Line::Prices(table_or_csv::line_of(alloc, args)?)),
+        CommandName::Weights => Ok(Line::Weights(table_or_csv::line_of(alloc, args)?)),
         CommandName::Compare => Ok(Line::Compare(compare::line_of(alloc, args)?)),
         CommandName::Functions => Ok(Line::Functions(functions::line_of(alloc, args)?)),
         CommandName::Page => Ok(Line::Page(page::line_of(alloc, args)?)),

@@ -13,7 +13,7 @@ use Rattle.std.proofs.lemmas.List.Sums.{sum_by-cons}
 use Rattle.tomex_pareto.proofs.OnFront.{contains_map}
 use Rattle.tomex_study.specs.Program.{Workload}
 use Rattle.tomex_study.specs.Study.{DesignSpace, IsStudy}
-use Rattle.tomex_compare.specs.GroupTable.{takes_as_many, takes_fewer, takes_more}
+use Rattle.tomex_compare.specs.GroupTable.{takes_as_many, takes_fewer}
 use Rattle.tomex_compare.specs.Laws.{BoundRatios, ItselfIsTheSame, TurnedCountsChangePlaces, chosen}
 use Rattle.tomex_compare.specs.Laws.{TurnedRatiosAreInverse}
 use Rattle.tomex_compare.specs.Pairs.{by_ratio, pair_at, pairs_of, row_numbers}

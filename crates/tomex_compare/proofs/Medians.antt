@@ -1,5 +1,5 @@
 -- The medians of an odd number of pairs, either way round.
-use Rattle.std.proofs.Common.{◌≡◌, ◌∙◌, ap, arith, inl, inr, refl, sym, ℕ, suc, ◌+◌, ◌*◌, ◌<◌, ◌≤◌, Bool, true, false}
+use Rattle.std.proofs.Common.{◌≡◌, ◌∙◌, arith, inl, inr, refl, sym, ℕ, suc, ◌+◌, ◌*◌, ◌<◌, ◌≤◌, Bool, true}
 use Rattle.std.proofs.Common.{cond, not, nat_lt, List, [], ◌∷◌, length, Some}
 use Rattle.std.specs.Prelude.{count_by, map}
 use Rattle.std.specs.List.{AllByRecursion}
@@ -8,7 +8,7 @@ use Rattle.std.proofs.lemmas.Bool.Decides.{nat_tests}
 use Rattle.tomex_study.specs.Program.{Workload}
 use Rattle.tomex_study.specs.Study.{DesignSpace}
 use Rattle.tomex_compare.specs.GroupTable.{median}
-use Rattle.tomex_compare.specs.Laws.{AreBounds, AreBuilds, TurnedMediansAreInverse, chosen}
+use Rattle.tomex_compare.specs.Laws.{AreBuilds, TurnedMediansAreInverse, chosen}
 use Rattle.tomex_compare.specs.Pairs.{by_ratio, has_less, pair_at, pairs_of, row_numbers}
 use Rattle.tomex_compare.specs.declared.pairs.Pair.{Pair}
 use Rattle.tomex_compare.proofs.Chosen.{bound_ratios, count_turned}

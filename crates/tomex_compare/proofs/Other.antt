@@ -9,10 +9,12 @@ use Rattle.tomex_study.specs.Program.{Workload}
 use Rattle.tomex_study.specs.Study.{DesignSpace}
 use Rattle.tomex_config.specs.Parts.{all_parts}
 use Rattle.tomex_compare.specs.Compare.{tables_of}
+use Rattle.tomex_compare.specs.GroupCsv.{group_csv_of}
 use Rattle.tomex_compare.specs.GroupTable.{group_table_of}
-use Rattle.tomex_compare.specs.Groups.{RowGroup, entry_group, front_group, group, groups_from, list_groups, on_front}
-use Rattle.tomex_compare.specs.Groups.{own_front}
+use Rattle.tomex_compare.specs.Groups.{RowGroup, entry_group, front_group, group, groups_from, groups_of}
+use Rattle.tomex_compare.specs.Groups.{list_groups, on_front, own_front}
 use Rattle.tomex_compare.specs.Laws.{CostsMatterOnFrontsOnly, IsSameProgram, OnlyTheTwoMatter}
+use Rattle.tomex_compare.specs.Laws.{OnlyTheTwoMatterInCsv}
 use Rattle.tomex_compare.specs.Pairs.{pairs_of}
 use Rattle.tomex_compare.specs.ProgramTable.{best_row, profile_of, program_table_of, worst_row}
 use Rattle.tomex_study.proofs.Rows.{as_many_cycles}
@@ -81,6 +83,39 @@ only_the_two_matter s t old new first second study other rows costs same also =
     ∙ (sym (with_fronts u (weighed old first) (weighed new second))
     ∙ (ap₂ (tables_of u) (same_program old first same) (same_program new second also)
     ∙ ap (λ (v : DesignSpace). tables_of v first second) space))))
+
+-- the groups by themselves
+groups_with : DesignSpace → (old new : Workload) → (on_old on_new : List FrontRow) → List RowGroup
+groups_with s old new on_old on_new =
+    let pairs = pairs_of s old new in
+    group (codes "all") (codes "-") pairs
+    ∷ ((front_group old.name (on_front on_old pairs) ∷ front_group new.name (on_front on_new pairs)
+    ∷ front_group (codes "both") (on_front on_new (on_front on_old pairs)) ∷ [])
+    ++ flat_map (list_groups s pairs) all_parts)
+
+by_fronts : (s : DesignSpace) (old new : Workload)
+    → groups_of s old new ≡ groups_with s old new (own_front s old) (own_front s new)
+unfolding groups_from groups_with
+by_fronts s old new = refl
+
+same_groups : (s t : DesignSpace) (old new first second : Workload) (on_old on_new : List FrontRow)
+    → groups_with s old new on_old on_new
+    ≡ groups_with (moved t s.rows s.costs) (weighed old first) (weighed new second) on_old on_new
+unfolding groups_with pairs_of list_groups entry_group
+same_groups s t old new first second on_old on_new = refl
+
+pub only_the_two_matter_in_csv : OnlyTheTwoMatterInCsv
+only_the_two_matter_in_csv s t old new first second study other rows costs same also =
+    let u = moved t s.rows s.costs in
+    let many : length (cycles_of s) ≡ length (cycles_of u) = as_many_cycles s ∙ sym (as_many_cycles u) in
+    let space = same_space s t rows costs in
+    ap group_csv_of (by_fronts s old new
+    ∙ (same_groups s t old new first second (own_front s old) (own_front s new)
+    ∙ (ap₂ (groups_with u (weighed old first) (weighed new second)) (own_fronts s t old first many)
+    (own_fronts s t new second many)
+    ∙ (sym (by_fronts u (weighed old first) (weighed new second))
+    ∙ (ap₂ (groups_of u) (same_program old first same) (same_program new second also)
+    ∙ ap (λ (v : DesignSpace). groups_of v first second) space)))))
 
 lists_of : DesignSpace → (old new : Workload) → List RowGroup
 lists_of s old new = flat_map (list_groups s (pairs_of s old new)) all_parts

@@ -3,6 +3,7 @@ use Rattle.std.proofs.Common.{◌≡◌, ◌∙◌, ap, ap₂, ℕ, List, [], �
 use Rattle.tomex_study.specs.Program.{Workload}
 use Rattle.tomex_study.specs.Study.{DesignSpace}
 use Rattle.tomex_compare.specs.Compare.{compare_table_of, tables_of}
+use Rattle.tomex_compare.specs.GroupCsv.{compare_csv_of, group_csv_of}
 use Rattle.tomex_compare.specs.GroupTable.{group_table_of}
 use Rattle.tomex_compare.specs.Groups.{RowGroup, groups_from}
 use Rattle.tomex_compare.specs.Pairs.{pairs_of}
@@ -21,3 +22,12 @@ printed s a b old new first second pushed all pairs groups at_a at_b one are tho
     ∙ (append_assoc first (10 ∷ []) second
     ∙ ap₂ (λ (t u : List ℕ). t ++ 10 ∷ u) one
     (two ∙ ap group_table_of (those ∙ ap (groups_from s old new) are)))))
+
+-- the groups as CSV
+pub printed_csv : (s : DesignSpace) (a b : ℕ) (old new : Workload) (text : List ℕ) (pairs : List Pair)
+    (groups : List RowGroup) → slice_get s.programs a ≡ Some old → slice_get s.programs b ≡ Some new
+    → pairs ≡ pairs_of s old new → groups ≡ groups_from s old new pairs → text ≡ group_csv_of groups
+    → text ≡ compare_csv_of s a b
+unfolding compare_csv_of
+printed_csv s a b old new text pairs groups at_a at_b are those is =
+    rw (at_a, at_b) (is ∙ ap group_csv_of (those ∙ ap (groups_from s old new) are))

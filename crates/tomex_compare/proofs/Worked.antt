@@ -7,7 +7,7 @@ use Rattle.tomex_rvdec.specs.declared.pool.UnitId.TheVariants.{Mul}
 use Rattle.tomex_config.specs.declared.part.Part.TheVariants.{Buses, Units}
 use Rattle.tomex_layout.specs.Table.{aligned_in, spaced_in, table_line, table_of, width_of}
 use Rattle.tomex_layout.specs.Differences.{percent, tenths}
-use Rattle.tomex_compare.specs.GroupTable.{all_headings, best, median, text_under, worst}
+use Rattle.tomex_compare.specs.GroupTable.{all_headings, best, median, text_under}
 use Rattle.tomex_compare.specs.Groups.{entries_of, group, if_several}
 use Rattle.tomex_compare.specs.Pairs.{by_ratio}
 use Rattle.tomex_compare.specs.ProgramTable.{BuildProfile, heading_column, is_better, is_worse, program_table_of}

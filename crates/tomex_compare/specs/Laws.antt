@@ -7,8 +7,9 @@ use Rattle.tomex_study.specs.Study.{DesignSpace, IsStudy}
 use Rattle.tomex_config.specs.Parts.{all_parts}
 use Rattle.tomex_config.specs.declared.part.Part.{Part}
 use Rattle.tomex_compare.specs.Compare.{tables_of}
+use Rattle.tomex_compare.specs.GroupCsv.{group_csv_of}
 use Rattle.tomex_compare.specs.GroupTable.{best, median, takes_as_many, takes_fewer, takes_more, worst}
-use Rattle.tomex_compare.specs.Groups.{entries_of, list_groups, with_entry}
+use Rattle.tomex_compare.specs.Groups.{entries_of, groups_of, list_groups, with_entry}
 use Rattle.tomex_compare.specs.Pairs.{has_less, pairs_of}
 use Rattle.tomex_compare.specs.declared.pairs.Pair.{Pair}
 
@@ -93,6 +94,12 @@ abbrev pub OnlyTheTwoMatter : Type 0
 OnlyTheTwoMatter = (s t : DesignSpace) (old new first second : Workload) → IsStudy s → IsStudy t → s.rows ≡ t.rows
     → s.costs ≡ t.costs → IsSameProgram old first → IsSameProgram new second
     → tables_of s old new ≡ tables_of t first second
+
+-- nor does anything else make one in CSV
+abbrev pub OnlyTheTwoMatterInCsv : Type 0
+OnlyTheTwoMatterInCsv = (s t : DesignSpace) (old new first second : Workload) → IsStudy s → IsStudy t
+    → s.rows ≡ t.rows → s.costs ≡ t.costs → IsSameProgram old first → IsSameProgram new second
+    → group_csv_of (groups_of s old new) ≡ group_csv_of (groups_of t first second)
 
 -- and the costs make none to the groups of the lists
 abbrev pub CostsMatterOnFrontsOnly : Type 0

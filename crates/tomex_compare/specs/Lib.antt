@@ -4,6 +4,7 @@ pub mod Builds
 pub mod Pairs
 pub mod Groups
 pub mod GroupTable
+pub mod GroupCsv
 pub mod ProgramTable
 pub mod Compare
 pub mod Laws

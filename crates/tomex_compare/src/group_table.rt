@@ -138,7 +138,11 @@ fn row_text(heap: Global, pair: Option<Pair>) -> Result<String, AllocError>
 
 /// The text under a heading in a group's line.
 #[tactic(auto, unfolding(crate::specs::GroupTable::text_under))]
-fn text_under(heap: Global, heading: Heading, group: &Group) -> Result<String, AllocError>
+pub(crate) fn text_under(
+    heap: Global,
+    heading: Heading,
+    group: &Group,
+) -> Result<String, AllocError>
     ensures { IfOk result (λ text. string_bytes text ≡ text_under heading group.now) }
 {
     let pairs = group.pairs.as_slice();

@@ -1,8 +1,9 @@
 //! Laws of two builds on all rows of a study. These functions do nothing: their contracts are the laws.
 
 ghost use Rattle.tomex_compare.specs.Laws.{BestIsMet, BoundRatios, CostsMatterOnFrontsOnly, CountsAddUp};
-ghost use Rattle.tomex_compare.specs.Laws.{EachIsCountedOnce, ItselfIsTheSame, OnlyTheTwoMatter, WorstIsMet};
-ghost use Rattle.tomex_compare.specs.Laws.{TurnedCountsChangePlaces, TurnedMediansAreInverse, TurnedRatiosAreInverse};
+ghost use Rattle.tomex_compare.specs.Laws.{EachIsCountedOnce, ItselfIsTheSame, OnlyTheTwoMatter};
+ghost use Rattle.tomex_compare.specs.Laws.{OnlyTheTwoMatterInCsv, TurnedCountsChangePlaces, TurnedMediansAreInverse};
+ghost use Rattle.tomex_compare.specs.Laws.{TurnedRatiosAreInverse, WorstIsMet};
 
 /// The groups of a list share all rows: each row is in one of them, so their numbers of rows add up to that of all
 /// rows, and so do their numbers of rows on which the new build takes fewer cycles, as many, and more. The best ratio
@@ -34,5 +35,6 @@ pub fn turned_around_gains_are_losses()
 /// the lists.
 pub fn only_the_two_builds_matter()
     ensures all { OnlyTheTwoMatter }
+    ensures csv { OnlyTheTwoMatterInCsv }
     ensures costs { CostsMatterOnFrontsOnly }
 {}

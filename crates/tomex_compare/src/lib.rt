@@ -6,6 +6,7 @@ mod build;
 mod entries;
 mod extremes;
 mod fronts;
+mod group_records;
 mod group_table;
 mod groups;
 mod laws;
@@ -18,4 +19,4 @@ pub use laws::{
     turned_around_gains_are_losses,
 };
 pub use pairs::Pair;
-pub use tables::compare_table;
+pub use tables::{compare_csv, compare_table};

@@ -2,8 +2,10 @@
 
 ghost use Rattle.std.specs.Prelude.{◌≡◌, ◌<◌, length, IfOk};
 ghost use Rattle.tomex_compare.specs.Compare.{compare_table_of};
+ghost use Rattle.tomex_compare.specs.GroupCsv.{compare_csv_of};
 
 use crate::build::build_at;
+use crate::group_records::group_csv;
 use crate::group_table::group_table;
 use crate::groups::groups_of;
 use crate::pairs::pairs_of;
@@ -35,4 +37,24 @@ pub fn compare_table<A: Allocator>(
     text.push(b'\n')?;
     text.extend_from_slice(second.as_slice())?;
     Ok(text)
+}
+
+/// The second of these tables as CSV: a header, and a record for each group of rows.
+///
+/// Rows with their cycles and small values are allocated in `heap`.
+pub fn compare_csv<A: Allocator>(
+    alloc: A,
+    heap: Global,
+    surveyed: &Surveyed<'_, A>,
+    old: usize,
+    new: usize,
+) -> Result<Vec<u8, A>, AllocError>
+    requires old { old < length surveyed.now.programs }
+    requires new { new < length surveyed.now.programs }
+    ensures { IfOk result (λ text. text.items ≡ compare_csv_of surveyed.now old new) }
+{
+    let (old, new) = (build_at(surveyed, old), build_at(surveyed, new));
+    let pairs = pairs_of(heap, surveyed, &old, &new)?;
+    let groups = groups_of(heap, surveyed, &old, &new, pairs.as_slice())?;
+    group_csv(alloc, heap, groups.as_slice())
 }

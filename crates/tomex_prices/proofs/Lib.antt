@@ -9,6 +9,7 @@ pub mod StatedAndEqual
 pub mod FirstOptions
 pub mod Counting
 pub mod Columns
+mod CsvRecords
 pub mod AllCosts
 pub mod NewCosts
 pub mod Factors

@@ -2,17 +2,16 @@
 use Rattle.std.proofs.Common.{◌≡◌, ◌∙◌, ◌<◌, ℕ, ap, arith}
 use Rattle.std.proofs.Common.{sym, subst, List, get_or, length, map}
 use Rattle.std.specs.Prelude.{sum_by}
-use Rattle.std.specs.List.{Contains}
 use Rattle.std.proofs.lemmas.List.{get_or-map}
 use Rattle.tomex_config.specs.Configuration.{plain}
 use Rattle.tomex_config.specs.Cost.{cost_of}
 use Rattle.tomex_pareto.specs.Front.{front_of, is_on, is_undominated}
 use Rattle.tomex_pareto.specs.declared.front_row.FrontRow.{FrontRow}
-use Rattle.tomex_pareto.proofs.Rows.{row_at, rows_apart, rows_numbered}
-use Rattle.tomex_pareto.proofs.Pareto.{Has, IsFree, contains_has, front_is}
+use Rattle.tomex_pareto.proofs.Rows.{row_at, rows_numbered}
+use Rattle.tomex_pareto.proofs.Pareto.{Has}
 use Rattle.tomex_study.specs.Study.{DesignSpace, IsStudy}
 use Rattle.tomex_study.specs.Cycles.{cycles_of}
-use Rattle.tomex_study.specs.StudyFront.{all_rows, front_of_study}
+use Rattle.tomex_study.specs.StudyFront.{all_rows}
 use Rattle.tomex_pareto.proofs.NewCosts.{costed, costed_on}
 use Rattle.tomex_prices.specs.Prices.{prices_of}
 use Rattle.tomex_prices.specs.Studies.{config_of}

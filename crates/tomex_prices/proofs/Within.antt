@@ -1,13 +1,12 @@
 -- A row that stays at some price stays at exactly the prices of its interval: those of its span.
-use Rattle.std.proofs.Common.{◌≡◌, ◌∙◌, ℕ, suc, ◌<◌, ◌≤◌, List, arith, sym, subst, true}
+use Rattle.std.proofs.Common.{◌≡◌, ◌∙◌, ℕ, suc, ◌<◌, arith, sym, subst}
 use Rattle.std.proofs.lemmas.Bool.Decides.{nat_tests}
-use Rattle.tomex_pareto.specs.declared.line_row.LineRow.{LineRow}
 use Rattle.tomex_pareto.specs.declared.spans.ValueSpan.{ValueSpan}
-use Rattle.tomex_pareto.specs.Spans.{holds, span, stays}
+use Rattle.tomex_pareto.specs.Spans.{holds, span}
 use Rattle.tomex_pareto.proofs.AllRivals.{numbered_at, on_front_stays}
 use Rattle.tomex_pareto.proofs.SpanEnds.{some_end, stays_is}
 use Rattle.tomex_prices.specs.declared.price.TheConstants.{GREATEST_PRICE}
-use Rattle.tomex_prices.specs.Interval.{interval, is_within, range_of}
+use Rattle.tomex_prices.specs.Interval.{is_within, range_of}
 use Rattle.tomex_prices.specs.Laws.{IsOnFrontExactlyWithin, StaysExactlyWithin}
 
 range_holds : (s : ValueSpan) (q : ℕ) → 0 < s.end → is_within (range_of s) q ≡ holds s q

@@ -11,3 +11,4 @@ pub mod Percent
 pub mod AllPrices
 pub mod Together
 pub mod PricesTable
+pub mod PricesCsv

@@ -1,5 +1,6 @@
 //! Laws of the prices at which a row stays. These functions do nothing: their contracts are the laws.
 
+ghost use Rattle.tomex_prices.specs.PricesCsv.{HasTheSameEnds};
 ghost use Rattle.tomex_prices.specs.AllPrices.{IsStatedAtHundred, LeavesBeyondPercent, StaysIfHundred};
 ghost use Rattle.tomex_prices.specs.AllPrices.{StaysWithinPercent};
 ghost use Rattle.tomex_prices.specs.Laws.{IsOnFrontExactlyWithin, StaysExactlyWithin};
@@ -64,4 +65,10 @@ pub fn all_prices_may_be_wrong_by_the_percentage()
 pub fn prices_may_move_by_shares()
     ensures stays { StaysByShares }
     ensures stated { IsStatedAtStated }
+{}
+
+/// The ends of an interval in CSV are those of its text in the table, which has `..` between them, or is `any` if
+/// nothing bounds it.
+pub fn csv_has_the_same_ends()
+    ensures { HasTheSameEnds }
 {}

@@ -91,7 +91,7 @@ fn push_columns<A: Allocator>(
 
 /// True if there are too many intervals for a table. Allocates nothing.
 #[tactic(auto, unfolding(crate::specs::PricesTable::is_too_large))]
-fn is_too_large<A: Allocator>(surveyed: &Surveyed<'_, A>) -> bool
+pub(crate) fn is_too_large<A: Allocator>(surveyed: &Surveyed<'_, A>) -> bool
     ensures { result ≡ is_too_large surveyed.now }
 {
     let intervals = surveyed.front().len() as u128 * count_relevant(surveyed.study()) as u128;

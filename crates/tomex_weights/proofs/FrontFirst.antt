@@ -2,12 +2,11 @@
 use Rattle.std.proofs.Common.{◌≡◌, ◌∙◌, ◌&&◌, ℕ, arith, inl, inr, refl, subst, sym, true, false, List, map, nat_le}
 use Rattle.std.proofs.Common.{nat_lt}
 use Rattle.std.proofs.Common.{All}
-use Rattle.std.specs.List.{Contains, filter}
+use Rattle.std.specs.List.{Contains}
 use Rattle.std.proofs.lemmas.Bool.{and_from, and_parts, cases_Bool, le-leb, leb-true, lt-ltb, ltb-true, true≢false}
-use Rattle.std.proofs.lemmas.List.Elements.{All-contains, All-contains_itself, All-filter, All-map, All-weaker}
-use Rattle.std.proofs.lemmas.List.Sorted.{All-permutation}
+use Rattle.std.proofs.lemmas.List.Elements.{All-contains, All-map, All-weaker}
 use Rattle.tomex_pareto.specs.declared.front_row.FrontRow.{FrontRow}
-use Rattle.tomex_pareto.specs.Front.{by_cost, front_of, is_undominated}
+use Rattle.tomex_pareto.specs.Front.{front_of, is_undominated}
 use Rattle.tomex_pareto.proofs.OnFront.{contains_map}
 use Rattle.tomex_pareto.proofs.Pareto.{among, free_undominated, has_contains, kept_there, undominated_free}
 use Rattle.tomex_pareto.specs.declared.line_row.LineRow.{LineRow}

@@ -1,18 +1,17 @@
 -- Rows with other cycles: when one of them is on the front.
 use Rattle.std.proofs.Common.{◌≡◌, ◌∙◌, ◌==◌, ℕ, ap, refl, subst, sym, List, [], ◌∷◌, map}
-use Rattle.std.specs.List.{Contains}
 use Rattle.tomex_pareto.specs.Front.{front_of, is_on, is_undominated}
 use Rattle.tomex_pareto.specs.Pareto.{AreNumbered}
 use Rattle.tomex_pareto.specs.declared.front_row.FrontRow.{FrontRow}
 use Rattle.tomex_pareto.proofs.OnFront.{contains_map, distinct_map, on_front}
-use Rattle.tomex_pareto.proofs.Pareto.{Has, IsFree, among, apart, front_is, has_contains}
-use Rattle.tomex_pareto.proofs.Rows.{rows_apart, rows_numbered}
+use Rattle.tomex_pareto.proofs.Pareto.{Has, among, apart, has_contains}
+use Rattle.tomex_pareto.proofs.Rows.{rows_numbered}
 use Rattle.tomex_pareto.specs.Spans.{swapped}
 use Rattle.tomex_pareto.proofs.NewCosts.{costed}
 use Rattle.tomex_pareto.proofs.Swapped.{undominated_swapped}
 use Rattle.tomex_study.specs.Cycles.{cycles_of}
 use Rattle.tomex_study.specs.Study.{DesignSpace}
-use Rattle.tomex_study.specs.StudyFront.{all_rows, front_of_study}
+use Rattle.tomex_study.specs.StudyFront.{all_rows}
 
 -- all rows, with their cycles as costs
 abbrev pub turned : DesignSpace → List FrontRow

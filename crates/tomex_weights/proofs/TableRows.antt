@@ -1,13 +1,11 @@
 -- The rows and programs of the table: the listed rows are rows of the study, whose spans stand at their numbers.
 use Rattle.std.proofs.Common.{◌≡◌, ◌∙◌, ◌<◌, ℕ, suc, ap, ap₂, append_assoc, arith, refl, sym, List, [], ◌∷◌, ◌++◌}
 use Rattle.std.proofs.Common.{get_or, length, map, All}
-use Rattle.std.specs.List.{Contains, filter, range_with_len}
+use Rattle.std.specs.List.{Contains, flat_map, range_with_len}
 use Rattle.std.proofs.lemmas.List.{get_or-map, length-map}
-use Rattle.std.proofs.lemmas.List.Elements.{All-contains_itself, All-filter, All-map}
+use Rattle.std.proofs.lemmas.List.Elements.{All-filter, All-map}
 use Rattle.std.proofs.lemmas.List.FromFn.{get_or-range_with_len, length-range_with_len}
-use Rattle.std.proofs.lemmas.List.Sorted.{All-permutation}
 use Rattle.tomex_pareto.specs.declared.front_row.FrontRow.{FrontRow}
-use Rattle.tomex_pareto.specs.Front.{by_cost}
 use Rattle.tomex_pareto.proofs.Pareto.{kept_there}
 use Rattle.tomex_layout.specs.RowColumns.{row_columns}
 use Rattle.tomex_layout.proofs.Lengths.{HasEntries, columns_long}
@@ -20,6 +18,7 @@ use Rattle.tomex_weights.specs.Listed.{IsOfProgram, ProgramSpans, all_spans_of, 
 use Rattle.tomex_weights.specs.Programs.{is_relevant, relevant_programs_of}
 use Rattle.tomex_weights.specs.Reweighted.{weight_at}
 use Rattle.tomex_weights.specs.Spans.{span_of}
+use Rattle.tomex_weights.specs.WeightsCsv.{row_records, span_record}
 use Rattle.tomex_weights.specs.WeightsTable.{columns_of, name_at, percent_column, weight_column}
 use Rattle.tomex_weights.proofs.Listing.{at_number}
 use Rattle.tomex_weights.proofs.SmallRows.{row_of}
@@ -119,3 +118,16 @@ pub all_long : (s : DesignSpace) (rows : List FrontRow) → All (HasEntries rows
 all_long s rows =
     columns_long rows (percent_column s rows) (weight_column s rows) (relevant_programs_of s) (percent_long s rows)
     (weight_long s rows)
+
+-- the records of a row, by the programs of the spans
+
+pub records_are : (s : DesignSpace) (r : FrontRow) {all : List ProgramSpans} → all ≡ all_spans_of s
+    → flat_map (λ p. span_record s r p.place) all ≡ row_records s r
+unfolding all_spans_of row_records
+records_are s r is =
+    ap (flat_map (λ (p : ProgramSpans). span_record s r p.place)) is ∙ each (relevant_programs_of s) where
+      each : (places : List ℕ)
+          → flat_map (λ (p : ProgramSpans). span_record s r p.place) (map (spans_by s) places)
+          ≡ flat_map (span_record s r) places
+      each [] = refl
+      each (place ∷ places) = ap (λ (more : List ℕ). span_record s r place ++ more) (each places)

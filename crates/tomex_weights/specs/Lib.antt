@@ -10,3 +10,4 @@ pub mod AllWeights
 pub mod Together
 pub mod Texts
 pub mod WeightsTable
+pub mod WeightsCsv

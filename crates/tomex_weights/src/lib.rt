@@ -1,5 +1,5 @@
 //! Weights: the values of one program's weight, all others as stated, for which a row is on the front; and the rows
-//! that join it. The percentage by which all weights may be wrong at once. And the table of all that.
+//! that join it. The percentage by which all weights may be wrong at once. And the table of all that, also as CSV.
 //! Tests: tomex_cases, tomex_tests_surveys.
 #![tactic(auto)]
 
@@ -9,6 +9,7 @@ mod line_rows;
 mod listed;
 mod percents;
 mod programs;
+mod records;
 mod spans;
 mod table;
 mod texts;
@@ -23,6 +24,7 @@ pub use line_rows::rows_by_weight;
 pub use listed::listed_rows;
 pub use percents::percent;
 pub use programs::relevant_programs;
+pub use records::weights_csv;
 pub use spans::{GREATEST_WEIGHT, span_of};
 pub use table::weights_table;
 pub use texts::span_text;

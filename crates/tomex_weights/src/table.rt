@@ -53,7 +53,7 @@ fn percent_column<A: Allocator>(
 }
 
 /// The span of a row among those of all rows.
-fn span_at<A: Allocator>(
+pub(crate) fn span_at<A: Allocator>(
     surveyed: &Surveyed<'_, A>,
     spans: &WeightColumn,
     row: FrontRow,
@@ -67,7 +67,7 @@ fn span_at<A: Allocator>(
 }
 
 /// The name of the program at a place.
-fn name_at<'s, A: Allocator>(surveyed: &Surveyed<'s, A>, place: usize) -> &'s str
+pub(crate) fn name_at<'s, A: Allocator>(surveyed: &Surveyed<'s, A>, place: usize) -> &'s str
     requires { place < length surveyed.now.programs }
     ensures { result.now ≡ name_at surveyed.now place }
 {
@@ -75,7 +75,7 @@ fn name_at<'s, A: Allocator>(surveyed: &Surveyed<'s, A>, place: usize) -> &'s st
 }
 
 /// Its stated weight.
-fn weight_at<A: Allocator>(surveyed: &Surveyed<'_, A>, place: usize) -> u32
+pub(crate) fn weight_at<A: Allocator>(surveyed: &Surveyed<'_, A>, place: usize) -> u32
     requires { place < length surveyed.now.programs }
     ensures { result ≡ weight_at surveyed.now place }
 {

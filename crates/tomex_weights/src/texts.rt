@@ -11,7 +11,7 @@ use tomex_layout::push_hundredths;
 use tomex_pareto::ValueSpan;
 
 /// Adds the first weight of a span, except if it is the least one.
-fn push_first(text: &mut String, span: ValueSpan) -> Result<(), AllocError>
+pub(crate) fn push_first(text: &mut String, span: ValueSpan) -> Result<(), AllocError>
     ensures { OnOk result (Appends (first_text span) text.old text.new) }
 {
     if span.first > 1 {
@@ -21,7 +21,7 @@ fn push_first(text: &mut String, span: ValueSpan) -> Result<(), AllocError>
 }
 
 /// Adds the last weight of a span, except if it is the greatest one.
-fn push_last(text: &mut String, span: ValueSpan) -> Result<(), AllocError>
+pub(crate) fn push_last(text: &mut String, span: ValueSpan) -> Result<(), AllocError>
     ensures { OnOk result (Appends (last_text span) text.old text.new) }
 {
     if span.end <= GREATEST_WEIGHT {

@@ -1,9 +1,9 @@
 -- The lengths of columns: a line for the machine, and one for each change.
-use Rattle.std.proofs.Common.{◌≡◌, ap, cond, refl, sym, suc, ◌<◌, ◌≤◌, List, [], ◌∷◌, ◌++◌, length, map, All}
-use Rattle.std.specs.Prelude.{Bool, true, false, if◌then◌else◌, nat_lt}
+use Rattle.std.proofs.Common.{◌≡◌, ap, cond, refl, sym, suc, ◌<◌, ◌≤◌, List, [], ◌++◌, length, map, All}
+use Rattle.std.specs.Prelude.{Bool, nat_lt}
 use Rattle.std.proofs.lemmas.Bool.{le-ltb, lt-ltb}
 use Rattle.std.proofs.lemmas.List.{length-map}
-use Rattle.std.proofs.lemmas.List.Elements.{All-append, All-cons, All-nil}
+use Rattle.std.proofs.lemmas.List.Elements.{All-append}
 use Rattle.tomex_pareto.specs.declared.front_row.FrontRow.{FrontRow}
 use Rattle.tomex_study.specs.Study.{DesignSpace}
 use Rattle.tomex_layout.specs.Table.{TableColumn}

@@ -1,3 +1,4 @@
 -- Lemmas of this crate.
 pub mod Rows
 mod Columns
+mod Shown

@@ -1,7 +1,7 @@
 -- The changes of a machine are rows of the study.
-use Rattle.std.proofs.Common.{◌<◌, List, [], ◌∷◌, length, All}
-use Rattle.std.specs.List.{flat_map, range_with_len}
-use Rattle.std.proofs.lemmas.List.Elements.{All-append, All-filter, All-map, All-nil}
+use Rattle.std.proofs.Common.{◌<◌, length, All}
+use Rattle.std.specs.List.{range_with_len}
+use Rattle.std.proofs.lemmas.List.Elements.{All-filter, All-map}
 use Rattle.tomex_pareto.specs.declared.front_row.FrontRow.{FrontRow}
 use Rattle.tomex_study.proofs.Rows.{rows_within}
 use Rattle.tomex_study.specs.Study.{DesignSpace, IsStudy, config_at}

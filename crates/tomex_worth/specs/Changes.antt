@@ -2,15 +2,13 @@
 -- the stations of each pool, the options of each kind of unit, the buses and the widths. The definitions are about
 -- configurations, not places in a study's lists, so they hold for any list of configurations.
 use Rattle.std.specs.Prelude.{◌≡◌, ℕ, ◌<◌, ◌==◌, Bool, not, if◌then◌else◌, List, length, map}
-use Rattle.std.specs.Prelude.{slice_index_or, All}
+use Rattle.std.specs.Prelude.{All}
 use Rattle.std.specs.List.{filter, flat_map, list_all, range_with_len}
-use Rattle.tomex_config.specs.Configuration.{Configuration, option_of, same_option}
+use Rattle.tomex_config.specs.Configuration.{Configuration}
 use Rattle.tomex_pareto.specs.declared.front_row.FrontRow.{FrontRow}
 use Rattle.tomex_study.specs.Study.{DesignSpace, config_at}
 use Rattle.tomex_study.specs.StudyFront.{all_rows}
-use Rattle.tomex_config.specs.Parts.{all_parts, count_of}
 use Rattle.tomex_config.specs.declared.part.Part.{Part}
-use Rattle.tomex_config.specs.declared.part.Part.TheVariants.{Units, Width}
 use Rattle.tomex_config.specs.Parts.{part_at, same_entry}
 use Rattle.tomex_worth.specs.declared.changes.Change.{Change}
 

@@ -1,24 +1,18 @@
 -- What one more or one less part is worth on a machine, as a table.
-use Rattle.std.specs.Prelude.{ℕ, suc, ◌*◌, ◌/◌, ◌==◌, nat_lt, if◌then◌else◌, List, [], ◌∷◌, ◌++◌}
+use Rattle.std.specs.Prelude.{ℕ, suc, nat_lt, if◌then◌else◌, List, [], ◌∷◌, ◌++◌}
 use Rattle.std.specs.Prelude.{codes, length, map}
 use Rattle.std.specs.Fmt.{decimal}
-use Rattle.tomex_rvdec.specs.Parts.{name_of_pool, name_of_unit}
-use Rattle.tomex_config.specs.Configuration.{Configuration, option_of}
 use Rattle.tomex_pareto.specs.Front.{is_on}
 use Rattle.tomex_pareto.specs.declared.front_row.FrontRow.{FrontRow}
-use Rattle.tomex_layout.specs.Hundredths.{hundredths}
 use Rattle.tomex_study.specs.Cycles.{total_at}
 use Rattle.tomex_study.specs.StudyFront.{front_of_study, row_at}
 use Rattle.tomex_study.specs.Program.{Workload}
 use Rattle.tomex_study.specs.Study.{DesignSpace, config_at}
 use Rattle.tomex_layout.specs.Table.{TableColumn, table_of}
-use Rattle.tomex_config.specs.Parts.{count_of}
-use Rattle.tomex_config.specs.declared.part.Part.{Part}
-use Rattle.tomex_config.specs.declared.part.Part.TheVariants.{Stations, Units, Buses, Width}
 use Rattle.tomex_layout.specs.Lists.{entry_text, name_of_list}
 use Rattle.tomex_layout.specs.Rates.{rate_text}
 use Rattle.tomex_worth.specs.Changes.{changes_of}
-use Rattle.tomex_layout.specs.Differences.{distance, percent, signed_difference}
+use Rattle.tomex_layout.specs.Differences.{percent, signed_difference}
 use Rattle.tomex_worth.specs.declared.changes.Change.{Change}
 use Rattle.tomex_worth.specs.declared.heading.Heading.{Heading}
 use Rattle.tomex_worth.specs.declared.heading.Heading.TheVariants as headings

@@ -5,7 +5,10 @@
 
 mod changes;
 mod heading;
+mod kind;
+mod records;
 mod table;
 
 pub use changes::{Change, changes_of};
+pub use records::worth_csv;
 pub use table::worth_table;

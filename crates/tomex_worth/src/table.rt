@@ -18,9 +18,9 @@ use tomex_study::{Program, Surveyed};
 
 /// A machine, and the rows that differ from it in only one list.
 #[derive(Clone, Copy)]
-struct Machine<'m> {
-    own: FrontRow,
-    changes: &'m [Change],
+pub(crate) struct Machine<'m> {
+    pub(crate) own: FrontRow,
+    pub(crate) changes: &'m [Change],
 }
 
 /// The text of the column `front` for a row.
@@ -56,7 +56,7 @@ fn own_under<A: Allocator>(
 
 /// The text under a heading in the line of a change.
 #[tactic(auto, unfolding(crate::specs::Worth::text_under))]
-fn text_under<A: Allocator>(
+pub(crate) fn text_under<A: Allocator>(
     heap: Global,
     surveyed: &Surveyed<'_, A>,
     own: FrontRow,

@@ -1,9 +1,9 @@
-//! `choices STUDY [--workers N]`
+//! `choices STUDY [--workers N] [--csv]`
 ghost use Rattle.std.specs.Prelude.{◌≡◌, IfOk};
 ghost use Rattle.clap.specs.Simple.{shape_of};
 ghost use Rattle.tomex_command_line.specs.Grammar.{choices_shape};
 
-use super::explore::study_and_workers;
+use super::table_or_csv::grammar_of;
 use super::texts::Texts;
 use clap::Command;
 use std::alloc::{AllocError, Global};
@@ -30,6 +30,10 @@ may bring more than each of them.
 The last line has the fewest cycles of any configuration, and the floor: with
 the latencies and the widths that the study has, no machine takes fewer, however
 many stations, units and buses it has; and the floor at any width up to 4.
+
+With --csv the lines of the lists are printed as CSV: list, front, unused, add,
+percent, cost, enough. Choices have a space between them. A number has no `+`,
+and what isn't there is empty.
 
 STUDY is a TOML document that names programs, prices, axes and unit options;
 its files are read from the current folder. docs/STUDIES.md lists the keys of a
@@ -59,5 +63,5 @@ const TEXTS: Texts = Texts {
 pub(super) fn grammar<'a>(alloc: Global) -> Result<Command<'a>, AllocError>
     ensures { IfOk result (λ c. shape_of c ≡ choices_shape) }
 {
-    study_and_workers(alloc, "choices", TEXTS)
+    grammar_of(alloc, "choices", TEXTS)
 }

@@ -1,4 +1,4 @@
-//! `compare STUDY OLD NEW [--workers N]`
+//! `compare STUDY OLD NEW [--workers N] [--csv]`
 ghost use Rattle.std.specs.Prelude.{◌≡◌, IfOk, IfErr};
 ghost use Rattle.tomex_arguments.specs.Faults.{IsRefusedIf};
 ghost use Rattle.tomex_command_line.specs.Grammar.{compare_shape};
@@ -9,16 +9,19 @@ ghost use Rattle.tomex_command_line.specs.Values.{IsCompareAsked, IsNoCompare};
 
 use super::builds::{Builds, builds_of, on_builds};
 use super::explore::{ExploreLine, line_of as explore_of, on_rows};
-use super::texts::Texts;
+use super::table_or_csv::csv_flag;
+use super::texts::{Texts, with_argument};
 use clap::{ArgMatches, Command};
 use std::alloc::{AllocError, Global};
-use tomex_arguments::LineFault;
+use tomex_arguments::{LineFault, flag_of};
 
 /// A request for two builds of a program on every configuration.
 #[derive(Clone, Copy)]
 pub struct CompareLine<'a> {
     pub explore: ExploreLine<'a>,
     pub builds: Builds<'a>,
+    /// True if only the second table is printed, as CSV.
+    pub csv: bool,
 }
 
 const ABOUT: &str = "Prints on which configurations a new build of a program is faster";
@@ -40,6 +43,10 @@ program; and, for each list of the study, those with each choice of it. After
 how many there are, it says on how many of them the new build takes fewer
 cycles, as many, and more; and the difference in percent of the old build's
 cycles where the new one does best, in the middle, and where it does worst.
+
+With --csv only the second table is printed, as CSV: part, value, rows, fewer,
+same, more, best, best_row, median, worst, worst_row. A number has no `+`, and
+what isn't there is empty.
 
 STUDY is a TOML document that names programs, prices, axes and unit options;
 its files are read from the current folder. docs/STUDIES.md lists the keys of a
@@ -66,10 +73,13 @@ const TEXTS: Texts = Texts {
     after_long_help: AFTER_LONG_HELP,
 };
 
+const CSV_HELP: &str = "Print the second table as CSV";
+
 pub(super) fn grammar<'a>(alloc: Global) -> Result<Command<'a>, AllocError>
     ensures { IfOk result (λ c. shape_of c ≡ compare_shape) }
 {
-    on_builds(alloc, on_rows(alloc, "compare", TEXTS))
+    let command = on_builds(alloc, on_rows(alloc, "compare", TEXTS));
+    with_argument(command, csv_flag(alloc, CSV_HELP))
 }
 
 pub(super) fn line_of<'a>(
@@ -77,11 +87,12 @@ pub(super) fn line_of<'a>(
     matches: &ArgMatches<'a>,
 ) -> Result<CompareLine<'a>, LineFault>
     ensures line { IfOk result (λ line. IsCompareAsked (rows_of (found_of matches.now))
-        line.explore.study.now line.builds.old.now line.builds.new.now line.explore.workers) }
+        line.explore.study.now line.builds.old.now line.builds.new.now line.explore.workers line.csv) }
     ensures refused { IfErr result (IsRefusedIf (IsNoCompare (rows_of (found_of matches.now)))) }
 {
     Ok(CompareLine {
         explore: explore_of(alloc, matches)?,
         builds: builds_of(alloc, matches)?,
+        csv: flag_of(matches, "csv"),
     })
 }

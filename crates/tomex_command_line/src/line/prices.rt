@@ -1,9 +1,9 @@
-//! `prices STUDY [--workers N]`
+//! `prices STUDY [--workers N] [--csv]`
 ghost use Rattle.std.specs.Prelude.{◌≡◌, IfOk};
 ghost use Rattle.clap.specs.Simple.{shape_of};
 ghost use Rattle.tomex_command_line.specs.Grammar.{prices_shape};
 
-use super::explore::study_and_workers;
+use super::table_or_csv::grammar_of;
 use super::texts::Texts;
 use clap::Command;
 use std::alloc::{AllocError, Global};
@@ -26,6 +26,11 @@ comes a line for each configuration on the front. Under a price:
   any    whatever the price is
 Under `all` is the greatest percentage by which all prices may be wrong, each in
 its own direction, without taking the configuration off the front.
+
+With --csv the table is printed as CSV: row, cost, cycles, all, price, now, low,
+high. It has a record for each configuration on the front and each price that
+has a column. `low` and `high` are the ends of the interval. A number has no
+`+`, and what isn't there is empty.
 
 STUDY is a TOML document that names programs, prices, axes and unit options;
 its files are read from the current folder. docs/STUDIES.md lists the keys of a
@@ -59,5 +64,5 @@ const TEXTS: Texts = Texts {
 pub(super) fn grammar<'a>(alloc: Global) -> Result<Command<'a>, AllocError>
     ensures { IfOk result (λ c. shape_of c ≡ prices_shape) }
 {
-    study_and_workers(alloc, "prices", TEXTS)
+    grammar_of(alloc, "prices", TEXTS)
 }

@@ -1,9 +1,9 @@
-//! `weights STUDY [--workers N]`
+//! `weights STUDY [--workers N] [--csv]`
 ghost use Rattle.std.specs.Prelude.{◌≡◌, IfOk};
 ghost use Rattle.clap.specs.Simple.{shape_of};
 ghost use Rattle.tomex_command_line.specs.Grammar.{weights_shape};
 
-use super::explore::study_and_workers;
+use super::table_or_csv::grammar_of;
 use super::texts::Texts;
 use clap::Command;
 use std::alloc::{AllocError, Global};
@@ -29,6 +29,12 @@ front, or would be if one of the weights were another. Under a program:
 Under `all` is the greatest percentage by which all weights may be wrong, each in
 its own direction, without taking the configuration off the front; `-` if it
 isn't on it as the weights are stated.
+
+With --csv the table is printed as CSV: row, cost, cycles, front, all, program,
+weight, low, high. It has a record for each configuration of the table and each
+program for some weight of which it is on the front, from `low` to `high`;
+`front` is 1 on the front, else 0. A number has no `+`, and what isn't there is
+empty.
 
 STUDY is a TOML document that names programs, prices, axes and unit options;
 its files are read from the current folder. docs/STUDIES.md lists the keys of a
@@ -59,5 +65,5 @@ const TEXTS: Texts = Texts {
 pub(super) fn grammar<'a>(alloc: Global) -> Result<Command<'a>, AllocError>
     ensures { IfOk result (λ c. shape_of c ≡ weights_shape) }
 {
-    study_and_workers(alloc, "weights", TEXTS)
+    grammar_of(alloc, "weights", TEXTS)
 }

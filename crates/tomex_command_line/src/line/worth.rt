@@ -1,4 +1,4 @@
-//! `worth STUDY CONFIG [--workers N]`
+//! `worth STUDY CONFIG [--workers N] [--csv]`
 ghost use Rattle.std.specs.Prelude.{◌≡◌, IfOk, IfErr};
 ghost use Rattle.tomex_arguments.specs.Faults.{IsRefusedIf};
 ghost use Rattle.tomex_command_line.specs.Grammar.{worth_shape};
@@ -9,16 +9,19 @@ ghost use Rattle.tomex_command_line.specs.Values.{IsWorthAsked, IsNoWorth};
 
 use super::config::{ConfigName, config_argument, config_of};
 use super::explore::{ExploreLine, line_of as explore_of, on_rows};
+use super::table_or_csv::table_flag;
 use super::texts::{Texts, with_argument};
 use clap::{ArgMatches, Command};
 use std::alloc::{AllocError, Global};
-use tomex_arguments::LineFault;
+use tomex_arguments::{LineFault, flag_of};
 
 /// A request for the machines that differ from one in one list.
 #[derive(Clone, Copy)]
 pub struct WorthLine<'a> {
     pub explore: ExploreLine<'a>,
     pub config: ConfigName<'a>,
+    /// True if they are printed as CSV.
+    pub csv: bool,
 }
 
 const ABOUT: &str = "Prints what one more or one less of a part brings on a configuration";
@@ -38,6 +41,12 @@ no more and takes no more cycles, and is better in one of the two, `worse` if
 the same holds the other way round, `same` if neither differs. `front` is `yes`
 on the front. A study of several programs has a column for each program's own
 cycles.
+
+With --csv the lines after that of the configuration are printed as CSV: part,
+from, to, row, cost, cycles, percent, kind, rate, front, and for several
+programs NAME_cycles. `kind` is trade, better, worse or same, and only a trade
+has a rate; `front` is 1 on the front, else 0. A number has no `+`, and what
+isn't there is empty.
 
 STUDY is a TOML document that names programs, prices, axes and unit options;
 its files are read from the current folder. CONFIG is a configuration of it:
@@ -72,7 +81,8 @@ pub(super) fn grammar<'a>(alloc: Global) -> Result<Command<'a>, AllocError>
     ensures { IfOk result (λ c. shape_of c ≡ worth_shape) }
 {
     let command = on_rows(alloc, "worth", TEXTS);
-    with_argument(command, config_argument(alloc))
+    let command = with_argument(command, config_argument(alloc));
+    with_argument(command, table_flag(alloc))
 }
 
 pub(super) fn line_of<'a>(
@@ -80,11 +90,12 @@ pub(super) fn line_of<'a>(
     matches: &ArgMatches<'a>,
 ) -> Result<WorthLine<'a>, LineFault>
     ensures line { IfOk result (λ line. IsWorthAsked (rows_of (found_of matches.now))
-        line.explore.study.now line.config line.explore.workers) }
+        line.explore.study.now line.config line.explore.workers line.csv) }
     ensures refused { IfErr result (IsRefusedIf (IsNoWorth (rows_of (found_of matches.now)))) }
 {
     Ok(WorthLine {
         explore: explore_of(alloc, matches)?,
         config: config_of(alloc, matches)?,
+        csv: flag_of(matches, "csv"),
     })
 }

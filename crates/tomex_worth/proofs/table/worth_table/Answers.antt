@@ -1,5 +1,5 @@
 -- The machine is the row of its number, and its changes are rows of the study; each column has a line for each.
-use Rattle.std.proofs.Common.{◌≡◌, ◌∙◌, ap, ap₂, arith, subst, sym, suc, ◌+◌, ◌<◌, length, All}
+use Rattle.std.proofs.Common.{◌≡◌, ◌∙◌, ap, ap₂, arith, subst, sym, suc, ◌+◌, length, All}
 use Rattle.std.proofs.lemmas.List.Elements.{All-get_or}
 use Rattle.std.proofs.lemmas.Result.{IfOk-weaker}
 use Rattle.tomex_pareto.specs.declared.front_row.FrontRow.{FrontRow}

@@ -5,9 +5,9 @@ use Rattle.tomex_command_line.proofs.line.compare.line_of.Goals as goal
 pub returns-in_err-line_of-clause-refused : goal.returns-in_err-line_of-clause-refused
 returns-in_err-line_of-clause-refused c =
     passed_on _ _ _ c.from_residual.result c.from_residual.ensures.1 c.in_err-line_of.ensures.refused
-    (λ none study old new workers asked. none study workers asked.of_study)
+    (λ none study old new workers csv asked. none study workers asked.of_study)
 
 pub returns-in_err-builds_of-clause-refused : goal.returns-in_err-builds_of-clause-refused
 returns-in_err-builds_of-clause-refused c =
     passed_on _ _ _ c.from_residual-in_err-builds_of.result c.from_residual-in_err-builds_of.ensures.1
-    c.in_err-builds_of.ensures.refused (λ none study old new workers asked. none old new asked.are_builds)
+    c.in_err-builds_of.ensures.refused (λ none study old new workers csv asked. none old new asked.are_builds)

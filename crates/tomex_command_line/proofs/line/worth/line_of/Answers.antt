@@ -5,10 +5,10 @@ use Rattle.tomex_command_line.proofs.line.worth.line_of.Goals as goal
 pub returns-in_err-line_of-clause-refused : goal.returns-in_err-line_of-clause-refused
 returns-in_err-line_of-clause-refused c =
     passed_on _ _ _ c.from_residual.result c.from_residual.ensures.1 c.in_err-line_of.ensures.refused
-    (λ none study config workers asked. none study workers asked.of_study)
+    (λ none study config workers csv asked. none study workers asked.of_study)
 
 pub returns-in_err-config_of-clause-refused : goal.returns-in_err-config_of-clause-refused
 returns-in_err-config_of-clause-refused c =
     passed_on _ _ _ c.from_residual-in_err-config_of.result c.from_residual-in_err-config_of.ensures.1
     c.in_err-config_of.ensures.refused
-    (λ none study config workers asked. none config asked.is_config)
+    (λ none study config workers csv asked. none config asked.is_config)
