@@ -1,11 +1,12 @@
 -- The value of a result that is shown is what its step wrote.
 use Rattle.std.proofs.Common.{◌≡◌, ◌∙◌, ◌++◌, ℕ, true, ap, subst, sym, refl, inl, inr, append_assoc, List, [], ◌∷◌, reverse}
-use Rattle.std.proofs.Common.{Option, Some, None}
+use Rattle.std.proofs.Common.{Some, None}
 use Rattle.std.specs.Prelude.{option_map, slice_index_or}
 use Rattle.std.proofs.lemmas.Bool.{cases_Bool, eq-eqb, eqb-true}
 use Rattle.std.proofs.lemmas.List.{reverse-append}
 use Rattle.tomex_image.specs.Image.{Loaded}
-use Rattle.tomex_rvdec.specs.Operands.{form_of, sources_at}
+use Rattle.tomex_rvdec.specs.Meaning.{form_of}
+use Rattle.tomex_rvdec.specs.Operands.{sources_at}
 use Rattle.tomex_rvdec.specs.declared.op.Form.{Form}
 use Rattle.tomex_rvdec.specs.declared.op.Form.TheVariants as forms
 use Rattle.tomex_rvexec.specs.History.{Follows, IsFlow, byte_after, register_after}
