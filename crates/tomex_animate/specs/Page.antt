@@ -3,7 +3,13 @@ use Rattle.std.specs.Prelude.{◌≡◌, ℕ, ◌+◌, ◌-◌, ◌<◌, ◌≤�
 use Rattle.std.specs.Prelude.{Some, None}
 use Rattle.std.specs.List.{flat_map}
 use Rattle.std.specs.Fmt.{decimal}
+use Rattle.tomex_image.specs.Image.{Loaded}
+use Rattle.tomex_rvexec.specs.Machine.{State}
+use Rattle.tomex_rvexec.specs.Run.{RunEnds, start_of}
+use Rattle.tomex_rvexec.specs.Trace.{steps_from}
+use Rattle.tomex_rvexec.specs.declared.outcome.EndKind.{EndKind}
 use Rattle.tomex_rvexec.specs.declared.step.Step.{Step}
+use Rattle.tomex_study.specs.Program.{Workload}
 use Rattle.tomex_config.specs.Configuration.{Configuration}
 use Rattle.tomex_timing.specs.Search.{history, times_in, total_of}
 use Rattle.tomex_path.specs.Path.{path_of}
@@ -42,12 +48,12 @@ frame_head page total t line =
     ++ (codes " <small>of " ++ (decimal total ++ codes "</small></h2>\n"))))))
     ++ (links (links_at page t) ++ (line ++ codes "</header>\n"))
 
--- the view of a cycle of a run with these steps and this path
-unfoldable pub frame : Configuration → Span → ℕ → List Step → List Link → List Entry → ℕ → List ℕ
-frame config page total steps path es t =
+-- the view of a cycle of a run with these steps, these registers at its end and this path
+unfoldable pub frame : Configuration → Span → ℕ → List Step → List ℕ → List Link → List Entry → ℕ → List ℕ
+frame config page total steps last path es t =
     let place = at_cycle t path in
     frame_head page total t (path_line steps t place)
-    ++ (events t es ++ (status_table (framed_step place) page es t ++ (station_table config t (history_of es)
+    ++ (events steps last t es ++ (status_table (framed_step place) page es t ++ (station_table config t (history_of es)
     ++ (register_status t (history_of es) ++ codes "</section>\n"))))
 
 -- the same view to be filled in; the path's line is among what is left out
@@ -86,26 +92,36 @@ page_foot cells config page =
     ++ (codes "</footer>\n" ++ page_end))))
 
 -- the view of a cycle, whose cells are full, or empty
-abbrev pub view_of : Cells → Configuration → Span → ℕ → List Step → List Link → List Entry → ℕ → List ℕ
-view_of Filled config page total steps path es t = frame config page total steps path es t
-view_of Blank config page total steps path es t = blank_frame config page total es t
+abbrev pub view_of : Cells → Configuration → Span → ℕ → List Step → List ℕ → List Link → List Entry → ℕ → List ℕ
+view_of Filled config page total steps last path es t = frame config page total steps last path es t
+view_of Blank config page total steps last path es t = blank_frame config page total es t
 
-abbrev pub animate_page : Cells → List ℕ → List ℕ → ℕ → Configuration → Span → ℕ → List Step → List Link → List Entry
-    → List ℕ
-animate_page cells study program number config page total steps path es =
+abbrev pub animate_page : Cells → List ℕ → List ℕ → ℕ → Configuration → Span → ℕ → List Step → List ℕ → List Link
+    → List Entry → List ℕ
+animate_page cells study program number config page total steps last path es =
     page_head cells study program number page
-    ++ (flat_map (view_of cells config page total steps path es) (cycles_of page) ++ page_foot cells config page)
+    ++ (flat_map (view_of cells config page total steps last path es) (cycles_of page) ++ page_foot cells config page)
 
 -- from the first cycle on, as many as are asked for, but none after the total
 abbrev pub page_of : ℕ → ℕ → ℕ → Span
 page_of first count total = record { from = first; to = min (first + count - 1) total }
 
+-- a run within this limit ends, and these are its registers then
+abbrev pub LeavesRegisters : Loaded → ℕ → List ℕ → Type 0
+LeavesRegisters i limit last =
+    (k : ℕ) × (s : State) × (kind : EndKind) × (k < limit) × RunEnds i k s kind × (last ≡ s.regs)
+
 -- the text is the page of the cycles that are asked for; the path is that of the whole run
 pub record IsAnimationOf (cells : Cells) (study program : List ℕ) (number : ℕ) (config : Configuration)
-    (steps : List Step) (first count : ℕ) (text : List ℕ) : Type 0 where
+    (steps : List Step) (last : List ℕ) (first count : ℕ) (text : List ℕ) : Type 0 where
   pub reached : first ≤ total_of (times_in config steps)
   pub is : text ≡ animate_page cells study program number config (page_of first count (total_of (times_in config steps)))
-      (total_of (times_in config steps)) steps (path_of config (history config steps)) (entries_of config steps)
+      (total_of (times_in config steps)) steps last (path_of config (history config steps)) (entries_of config steps)
+
+-- of a program's run
+abbrev pub IsAnimation : Cells → List ℕ → Workload → ℕ → Configuration → ℕ → ℕ → List ℕ → Type 0
+IsAnimation cells study p number config first count text = (last : List ℕ) × LeavesRegisters p.image p.limit last
+    × IsAnimationOf cells study p.name number config (steps_from p.limit (start_of p.image)) last first count text
 
 -- why there is no page
 abbrev pub IsUnanimated : Configuration → List Step → ℕ → AnimationError → Type 0

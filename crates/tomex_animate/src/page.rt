@@ -9,8 +9,8 @@ ghost use Rattle.tomex_layout.specs.Growth.{Appends};
 ghost use Rattle.tomex_snapshots.specs.Entries.{entries_of};
 ghost use Rattle.tomex_frames.specs.OnPath.{IsOfRun};
 ghost use Rattle.tomex_animate.specs.declared.animation_error.AnimationError.TheVariants.{PastEnd};
-ghost use Rattle.tomex_animate.specs.Page.{IsAnimationOf, IsUnanimated, animate_page, page_foot, page_head, page_of};
-ghost use Rattle.tomex_animate.specs.Page.{run_named, title_of};
+ghost use Rattle.tomex_animate.specs.Page.{IsAnimation, IsUnanimated, LeavesRegisters, animate_page, page_foot, page_head};
+ghost use Rattle.tomex_animate.specs.Page.{page_of, run_named, title_of};
 
 use crate::animation_error::AnimationError;
 use crate::cells::{Cells, help_of, style_of};
@@ -22,7 +22,7 @@ use std::fmt::Write;
 use tomex_config::Config;
 use tomex_html::{push_name, push_page_end, push_page_start};
 use tomex_path::path;
-use tomex_rvexec::Step;
+use tomex_rvexec::{Step, run};
 use tomex_snapshots::{Entry, Span, entries_of};
 use tomex_study::Program;
 use tomex_timing::Times;
@@ -114,8 +114,8 @@ fn page_text<A: Allocator>(
     requires page { views.now.page.to < 2 ^ 63 }
     requires steps { All (IsOfRun (length views.now.steps.now)) views.now.path.now }
     ensures { IfOk result (λ text. text.items ≡ animate_page views.now.cells study.now program.now number
-        views.now.config.now views.now.page views.now.total views.now.steps.now views.now.path.now
-        views.now.entries.now) }
+        views.now.config.now views.now.page views.now.total views.now.steps.now views.now.last.now
+        views.now.path.now views.now.entries.now) }
 {
     let mut text = String::new(alloc);
     push_page_head(
@@ -146,6 +146,17 @@ fn entries_in<A: Allocator + Clone>(
 {
     let waits = waits(alloc.clone()?, steps, config)?;
     entries_of(alloc, steps, times, waits.as_slice())
+}
+
+/// The registers after a program's run.
+fn registers_of<A: Allocator>(alloc: A, program: &Program<A>) -> Result<[u32; 32], AnimationError>
+    ensures { IfOk result (λ last. LeavesRegisters program.now.image program.now.limit last) }
+{
+    // A program of a study ends, so only memory may be missing.
+    match run(alloc, program.image(), program.limit()) {
+        Ok(end) => Ok(end.regs),
+        Err(_) => Err(AnimationError::Memory),
+    }
 }
 
 /// The cycles of a page: at most `count` from `first` on.
@@ -183,12 +194,13 @@ pub fn animation<A: Allocator + Clone>(
 ) -> Result<Vec<u8, A>, AnimationError>
     requires first { 0 < first }
     requires count { 0 < count }
-    ensures text { IfOk result (λ text. IsAnimationOf cells study.now program.now.name number config.now
-        (steps_from program.now.limit (start_of program.now.image)) first count text.items) }
+    ensures text { IfOk result
+        (λ text. IsAnimation cells study.now program.now number config.now first count text.items) }
     ensures refused { IfErr result (λ error. IsUnanimated config.now
         (steps_from program.now.limit (start_of program.now.image)) first error) }
 {
     let steps = program.steps();
+    let last = registers_of(alloc.clone()?, program)?;
     let run = path(alloc.clone()?, program.run(), config)?;
     let total = total(run.times.as_slice());
     let page = page_in(first, count, total)?;
@@ -199,6 +211,7 @@ pub fn animation<A: Allocator + Clone>(
         page,
         total,
         steps,
+        last: &last,
         path: run.links.as_slice(),
         entries: stretch(entries.as_slice(), page),
     };

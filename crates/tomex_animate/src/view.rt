@@ -12,7 +12,7 @@ use std::alloc::{AllocError, Allocator, Global};
 use std::fmt::Write;
 use tomex_config::Config;
 use tomex_frames::{
-    OnPath, Scratch, link_at, place_of, push_blank_events, push_blank_registers,
+    OnPath, Scratch, Values, link_at, place_of, push_blank_events, push_blank_registers,
     push_blank_stations, push_blank_status, push_events, push_path_line, push_register_status,
     push_station_table, push_status_table,
 };
@@ -77,8 +77,9 @@ pub struct Views<'a> {
     pub page: Span,
     /// The cycles of the run.
     pub total: u64,
-    /// The steps of the run, and its critical path.
+    /// The steps of the run, its registers at the end, and its critical path.
     pub steps: &'a [Step],
+    pub last: &'a [u32; 32],
     pub path: &'a [Link],
     /// The steps that the page shows.
     pub entries: &'a [Entry],
@@ -108,12 +109,16 @@ fn push_frame<A: Allocator>(
     requires place { place ≡ at_cycle cycle views.now.path.now }
     requires steps { All (IsOfRun (length views.now.steps.now)) views.now.path.now }
     ensures { OnOk result (Appends (frame views.now.config.now views.now.page views.now.total views.now.steps.now
-        views.now.path.now views.now.entries.now cycle) text.old text.new) }
+        views.now.last.now views.now.path.now views.now.entries.now cycle) text.old text.new) }
 {
     let view = View::new(views.entries, cycle);
     let framed = framed_step(place);
     push_head(text, views, place, cycle)?;
-    push_events(text, heap, &view)?;
+    let values = Values {
+        steps: views.steps,
+        last: views.last,
+    };
+    push_events(text, heap, &values, &view)?;
     push_status_table(text, framed, views.page, views.entries, cycle)?;
     push_station_table(text, scratch, &view, views.config)?;
     push_register_status(text, &view)?;
@@ -152,7 +157,7 @@ fn push_view<A: Allocator>(
     requires place { place ≡ at_cycle cycle views.now.path.now }
     requires steps { All (IsOfRun (length views.now.steps.now)) views.now.path.now }
     ensures { OnOk result (Appends (view_of views.now.cells views.now.config.now views.now.page views.now.total
-        views.now.steps.now views.now.path.now views.now.entries.now cycle) text.old text.new) }
+        views.now.steps.now views.now.last.now views.now.path.now views.now.entries.now cycle) text.old text.new) }
 {
     match views.cells {
         Cells::Filled => push_frame(text, heap, scratch, views, place, cycle),
@@ -171,7 +176,7 @@ pub fn push_views<A: Allocator>(
     requires steps { All (IsOfRun (length views.now.steps.now)) views.now.path.now }
     ensures { OnOk result (string_bytes text.new ≡ string_bytes text.old
         ++ flat_map (view_of views.now.cells views.now.config.now views.now.page views.now.total views.now.steps.now
-        views.now.path.now views.now.entries.now) (cycles_of views.now.page)) }
+        views.now.last.now views.now.path.now views.now.entries.now) (cycles_of views.now.page)) }
 {
     let mut scratch = Scratch::new(heap);
     let mut place = 0;

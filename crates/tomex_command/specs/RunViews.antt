@@ -21,7 +21,7 @@ use Rattle.tomex_path_views.specs.ByFunction.{IsPathByFunction}
 use Rattle.tomex_path_views.specs.ByLink.{IsPathLinks}
 use Rattle.tomex_path_views.specs.ByPlace.{IsPathByPlace}
 use Rattle.tomex_path_views.specs.ByReason.{IsPathReport}
-use Rattle.tomex_animate.specs.Page.{IsAnimationOf, IsUnanimated}
+use Rattle.tomex_animate.specs.Page.{IsAnimation, IsUnanimated}
 use Rattle.tomex_animate.specs.declared.animation_error.AnimationError.TheVariants as animations
 use Rattle.tomex_animate.specs.declared.cells.Cells.{Cells}
 use Rattle.tomex_animate.specs.declared.cells.Cells.TheVariants as cells
@@ -97,8 +97,7 @@ IsShown (Loops run) c text = IsLoopsReport c.config (steps_in c) c.file text
 IsShown (Pipeline line) c text = IsLogOrPicture line.konata c.config (steps_in c) line.from line.steps text
 IsShown (Tables line) c text = IsTextAfter c.config c.program line.cycle text
 IsShown (Animate line) c text =
-    IsAnimationOf (cells_for line.blank) line.run.study.now c.program.name c.number c.config (steps_in c) line.from
-    line.cycles text
+    IsAnimation (cells_for line.blank) line.run.study.now c.program c.number c.config line.from line.cycles text
 
 -- functions are asked for, and the file has no symbols
 abbrev pub HasNoSymbols : Bool → RunChoice → Type 0

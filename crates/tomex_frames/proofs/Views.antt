@@ -1,6 +1,6 @@
 -- What a run's views list, and how often a word is in them.
 use Rattle.std.proofs.Common.{ℕ, ◌+◌, ◌-◌, ◌<◌, ◌≤◌, ◌≡◌, ◌∙◌, ap, subst, sym, true, false, arith, refl}
-use Rattle.std.proofs.Common.{inl, inr, Option, None, List, [], ◌∷◌, ◌++◌, length, max, reverse}
+use Rattle.std.proofs.Common.{inl, inr, None, List, [], ◌∷◌, ◌++◌, length, max, reverse}
 use Rattle.std.specs.Prelude.{All, codes, count_by, if◌then◌else◌, nat_le, sum_by}
 use Rattle.std.specs.List.{Contains, filter, flat_map, range_with_len}
 use Rattle.std.specs.Str.{bytes_eq}

@@ -4,6 +4,7 @@ pub mod Cells
 pub mod Status
 pub mod Stations
 pub mod Blank
+pub mod Values
 pub mod OnPath
 pub mod PathLaws
 pub mod Laws

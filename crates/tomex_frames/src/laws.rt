@@ -3,6 +3,7 @@
 
 ghost use Rattle.tomex_frames.specs.Laws.{BlankRowsAreOfSteps, NextIsListed, NothingIsLost, RowsAreOfSteps};
 ghost use Rattle.tomex_frames.specs.Laws.{StepsShowTheirWaits, ViewsShowStalls, WaitsComeBeforeIssues};
+ghost use Rattle.tomex_frames.specs.Values.{ValuesAreResults};
 ghost use Rattle.tomex_frames.specs.PathLaws.{EachViewHasOneFrame, FramesAddUp, FramesAreCycles};
 ghost use Rattle.tomex_frames.specs.PathLaws.{LineIsMarkedWhereItChanges, LineIsTheWaitBefore};
 
@@ -13,6 +14,11 @@ pub fn no_step_is_lost()
     ensures listed { NothingIsLost }
     ensures order { WaitsComeBeforeIssues }
     ensures next { NextIsListed }
+{}
+
+/// The value that a view shows of a result is what its step wrote.
+pub fn values_are_results()
+    ensures { ValuesAreResults }
 {}
 
 /// A step's row shows each cause for as many cycles as the step waits for it. The address cycle of a load or store
