@@ -57,8 +57,8 @@ pub animated : {cells : Cells} {study program : List ℕ} {number : ℕ} {config
     → entries ≡ entries_of config made → all ≡ entries → IsStretch page all some
     → text ≡ animate_page cells study program number config page total made end path some
     → IsAnimationOf cells study program number config run end first count text
-animated {cells = cells} {study = study} {program = program} {number = number} {config = config} {run = run} {made = made}
-    {path = path} {end = end} {first = first} {count = count} {total = total} {page = page} {all = all} {some = some} {text = text}
+animated {cells = cells} {study = study} {program = program} {number = number} {config = config} {run = run} {made = made} {end = end}
+    {path = path} {first = first} {count = count} {total = total} {page = page} {all = all} {some = some} {text = text}
     run_is walked_is kept_is same total_is links_are path_is page_is some_first some_count entries_are all_is stretch
     text_is =
     let low : first ≤ total = page_is.0 in

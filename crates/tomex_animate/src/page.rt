@@ -8,7 +8,7 @@ ghost use Rattle.tomex_timing.specs.Search.{times_in};
 ghost use Rattle.tomex_layout.specs.Growth.{Appends};
 ghost use Rattle.tomex_snapshots.specs.Entries.{entries_of};
 ghost use Rattle.tomex_frames.specs.OnPath.{IsOfRun};
-ghost use Rattle.tomex_animate.specs.declared.animation_error.AnimationError.TheVariants.{PastEnd};
+ghost use Rattle.tomex_animate.specs.declared.animation_error.AnimationError.TheVariants.{Memory, PastEnd};
 ghost use Rattle.tomex_animate.specs.Page.{IsAnimation, IsUnanimated, LeavesRegisters, animate_page, page_foot, page_head};
 ghost use Rattle.tomex_animate.specs.Page.{page_of, run_named, title_of};
 
@@ -150,7 +150,8 @@ fn entries_in<A: Allocator + Clone>(
 
 /// The registers after a program's run.
 fn registers_of<A: Allocator>(alloc: A, program: &Program<A>) -> Result<[u32; 32], AnimationError>
-    ensures { IfOk result (λ last. LeavesRegisters program.now.image program.now.limit last) }
+    ensures last { IfOk result (λ last. LeavesRegisters program.now.image program.now.limit last) }
+    ensures memory { IfErr result (λ error. error ≡ Memory) }
 {
     // A program of a study ends, so only memory may be missing.
     match run(alloc, program.image(), program.limit()) {
