@@ -11,6 +11,5 @@ returns g c =
     let new = rw c.build_at-new.ensures.place at c.build_at-new.ensures.build in
     IfOk-weaker c.group_csv.result _ _
     (λ text is. printed_csv s c.args.old c.args.new c.build_at-old.result.program.now c.build_at-new.result.program.now
-    text.items c.as_slice.result.now c.as_slice-2.result.now old new
-    (c.as_slice.ensures.value ∙ c.in_ok-pairs.ensures.pairs) (c.as_slice-2.ensures.value ∙ c.in_ok-groups.ensures) is)
+    text.items c.as_slice.result.now old new (c.as_slice.ensures.value ∙ c.in_ok-groups.ensures) is)
     c.group_csv.ensures

@@ -9,7 +9,6 @@ returns g c =
     let old = rw c.build_at-old.ensures.place at c.build_at-old.ensures.build in
     let new = rw c.build_at-new.ensures.place at c.build_at-new.ensures.build in
     printed s c.args.old c.args.new c.build_at-old.result.program.now c.build_at-new.result.program.now
-    c.in_ok-text.text.items c.as_slice-3.result.now _ _ c.as_slice.result.now c.as_slice-2.result.now old new
-    c.in_ok-text.ensures (c.as_slice.ensures.value ∙ c.in_ok-pairs.ensures.pairs)
-    (c.as_slice-2.ensures.value ∙ c.in_ok-groups.ensures) (c.as_slice-3.ensures.value ∙ c.in_ok-second.ensures)
+    c.in_ok-text.text.items c.as_slice-2.result.now _ _ c.as_slice.result.now old new c.in_ok-text.ensures
+    (c.as_slice.ensures.value ∙ c.in_ok-groups.ensures) (c.as_slice-2.ensures.value ∙ c.in_ok-second.ensures)
     c.in_ok-push.ensures.items c.in_ok-extend_from_slice.ensures.items
