@@ -23,14 +23,19 @@ use Rattle.tomex_snapshots.specs.declared.entries.Span.{Span}
 use Rattle.tomex_snapshots.specs.Entries.{history_of, is_listed_in}
 use Rattle.tomex_animate.specs.Stretch.{earliest}
 use Rattle.tomex_snapshots.specs.Takers.{occupant, operand_takers, register_takers, takers, takers_from, takers_to}
-use Rattle.tomex_frames.specs.Events.{all_events, event_text, events, happens, item, item_if, items}
+use Rattle.tomex_frames.specs.Events.{all_events, event_text, events, happens, item, item_if, items, sent_text}
 use Rattle.tomex_animate.specs.Machine.{cycles_of}
-use Rattle.tomex_animate.specs.Page.{frame}
+use Rattle.tomex_html.specs.Html.{table_end}
+use Rattle.tomex_animate.specs.declared.cells.Cells.{Cells}
+use Rattle.tomex_animate.specs.declared.cells.Cells.TheVariants.{Filled, Blank}
+use Rattle.tomex_animate.specs.Page.{blank_frame, frame, view_of}
 use Rattle.tomex_animate.specs.Stretch.{IsStretch}
 use Rattle.tomex_frames.specs.OnPath.{at_cycle, framed_step}
 use Rattle.tomex_frames.specs.Stations.{pool_rows, register_at, register_cell, register_status, registers_text, row_in}
 use Rattle.tomex_frames.specs.Stations.{station_row, station_table, all_pools}
-use Rattle.tomex_frames.specs.Status.{listed_cycles, row_if, status_table}
+use Rattle.tomex_frames.specs.Blank.{blank_status, blank_step}
+use Rattle.tomex_frames.specs.Constants.{status_head}
+use Rattle.tomex_frames.specs.Status.{listed_cycles, status_table, step_row}
 use Rattle.tomex_frames.specs.declared.events.Event.{Event}
 use Rattle.tomex_frames.specs.declared.events.Event.TheVariants.{Issue, Address, Start, Finish, Write}
 use Rattle.tomex_snapshots.specs.declared.takers.Taker.{Taker}
@@ -171,23 +176,28 @@ takers_same : (t : ℕ) (all some : List Entry) (e : Entry) → ShowSame t (hist
 unfolding takers
 takers_same t all some e same = takers_from_same t (history_of all) (history_of some) _ _ same
 
-item_same : (t : ℕ) (all some : List Entry) (event : Event) (e : Entry) → ShowSame t (history_of all) (history_of some)
-    → item t all event e ≡ item t some event e
-unfolding item
-item_same t all some Issue e same = refl
-item_same t all some Address e same = refl
-item_same t all some Start e same = refl
-item_same t all some Finish e same = refl
-item_same t all some Write e same = rw (takers_same t all some e same) refl
+item_same : (steps : List Step) (last : List ℕ) (t : ℕ) (all some : List Entry) (event : Event) (e : Entry) → ShowSame t (history_of all) (history_of some)
+    → item steps last t all event e ≡ item steps last t some event e
+unfolding item sent_text
+item_same steps last t all some Issue e same = refl
+item_same steps last t all some Address e same = refl
+item_same steps last t all some Start e same = refl
+item_same steps last t all some Finish e same = refl
+item_same steps last t all some Write e same = rw (takers_same t all some e same) refl
 
-item_if_same : (t : ℕ) (all some : List Entry) (event : Event) (e : Entry)
-    → ShowSame t (history_of all) (history_of some) → item_if t all event e ≡ item_if t some event e
+item_if_same : (steps : List Step) (last : List ℕ) (t : ℕ) (all some : List Entry) (event : Event) (e : Entry)
+    → ShowSame t (history_of all) (history_of some) → item_if steps last t all event e ≡ item_if steps last t some event e
 unfolding item_if
-item_if_same t all some event e same = rw (item_same t all some event e same) refl
+item_if_same steps last t all some event e same = rw (item_same steps last t all some event e same) refl
 
-no_item : (t : ℕ) (es : List Entry) (event : Event) (e : Entry) → happens event t e ≡ false → item_if t es event e ≡ []
+no_item : (steps : List Step) (last : List ℕ) (t : ℕ) (es : List Entry) (event : Event) (e : Entry)
+    → happens event t e ≡ false → item_if steps last t es event e ≡ []
 unfolding item_if
-no_item t es event e quiet = rw quiet refl
+no_item steps last t es event e quiet = rw quiet refl
+
+-- a step's row, if it is listed
+abbrev listed_row : (Entry → List ℕ) → Span → Entry → List ℕ
+listed_row row span e = if is_listed_in span e then row e else []
 
 module _ (first last t : ℕ) (front some rest : List Entry) (low : first ≤ t) (high : t ≤ last)
     (past : AllByRecursion (Past first) front) (later : AllByRecursion (Later last) rest) where
@@ -200,55 +210,71 @@ module _ (first last t : ℕ) (front some rest : List Entry) (low : first ≤ t)
   quiet_later : (event : Event) (e : Entry) → Later last e → happens event t e ≡ false
   quiet_later event e q = quiet event t e (later_bounds last t e high q)
 
-  items_same : (event : Event) → items t (front ++ (some ++ rest)) event ≡ items t some event
+  items_same : (steps : List Step) (end : List ℕ) (event : Event)
+      → items steps end t (front ++ (some ++ rest)) event ≡ items steps end t some event
   unfolding items
-  items_same event =
+  items_same steps end event =
       let all = front ++ (some ++ rest) in
       ap₂ (λ (b : Bool) (x : List ℕ). if b then x else codes "<dd>-</dd>")
       (any_mid (happens event t) (Past first) (Later last) (quiet_past event) (quiet_later event) front some rest
       past later)
-      (flat_map_same (item_if t all event) (item_if t some event) (λ e. item_if_same t all some event e same_here) all
-      ∙ flat_mid (item_if t some event) (Past first) (Later last)
-      (λ e p. no_item t some event e (quiet_past event e p)) (λ e q. no_item t some event e (quiet_later event e q))
+      (flat_map_same (item_if steps end t all event) (item_if steps end t some event) (λ e. item_if_same steps end t all some event e same_here) all
+      ∙ flat_mid (item_if steps end t some event) (Past first) (Later last)
+      (λ e p. no_item steps end t some event e (quiet_past event e p)) (λ e q. no_item steps end t some event e (quiet_later event e q))
       front some rest past later)
 
-  event_same : (event : Event) → event_text t (front ++ (some ++ rest)) event ≡ event_text t some event
+  event_same : (steps : List Step) (end : List ℕ) (event : Event)
+      → event_text steps end t (front ++ (some ++ rest)) event ≡ event_text steps end t some event
   unfolding event_text
-  event_same event = rw (items_same event) refl
+  event_same steps end event = rw (items_same steps end event) refl
 
-  events_same : events t (front ++ (some ++ rest)) ≡ events t some
+  events_same : (steps : List Step) (end : List ℕ)
+      → events steps end t (front ++ (some ++ rest)) ≡ events steps end t some
   unfolding events
-  events_same = rw (flat_map_same (event_text t (front ++ (some ++ rest))) (event_text t some) event_same all_events)
-      refl
+  events_same steps end = rw (flat_map_same (event_text steps end t (front ++ (some ++ rest)))
+      (event_text steps end t some) (event_same steps end) all_events) refl
 
-  row_past : (framed : Option ℕ) (span : Span) (e : Entry) → first ≤ span.from + 2 → Past first e
-      → row_if framed span t e ≡ []
-  row_past framed span e l p = rw (gone first span e l p) refl
+  row_past : (row : Entry → List ℕ) (span : Span) (e : Entry) → first ≤ span.from + 2 → Past first e
+      → listed_row row span e ≡ []
+  row_past row span e l p = rw (gone first span e l p) refl
 
-  row_later : (framed : Option ℕ) (span : Span) (e : Entry) → span.to ≤ last → Later last e
-      → row_if framed span t e ≡ []
-  row_later framed span e l q = rw (to_come last span e l q) refl
+  row_later : (row : Entry → List ℕ) (span : Span) (e : Entry) → span.to ≤ last → Later last e
+      → listed_row row span e ≡ []
+  row_later row span e l q = rw (to_come last span e l q) refl
 
-  rows_same : (framed : Option ℕ) (span : Span) → first ≤ span.from + 2 → span.to ≤ last
-      → flat_map (row_if framed span t) (front ++ (some ++ rest)) ≡ flat_map (row_if framed span t) some
-  rows_same framed span l h = flat_mid (row_if framed span t) (Past first) (Later last)
-      (λ e p. row_past framed span e l p) (λ e q. row_later framed span e h q) front some rest past later
+  rows_same : (row : Entry → List ℕ) (span : Span) → first ≤ span.from + 2 → span.to ≤ last
+      → flat_map (listed_row row span) (front ++ (some ++ rest)) ≡ flat_map (listed_row row span) some
+  rows_same row span l h = flat_mid (listed_row row span) (Past first) (Later last)
+      (λ e p. row_past row span e l p) (λ e q. row_later row span e h q) front some rest past later
+
+  -- whatever a step's row is
+  listed_same : (row : Entry → List ℕ) (page : Span) → page.from ≡ first → page.to ≡ last
+      → flat_map (listed_row row (listed_cycles page (front ++ (some ++ rest)) t)) (front ++ (some ++ rest))
+      ≡ flat_map (listed_row row (listed_cycles page some t)) some
+  listed_same row page is_first is_last =
+      let counted : count_by (is_listed_in page) (front ++ (some ++ rest)) ≡ count_by (is_listed_in page) some =
+      count_mid (is_listed_in page) (Past first) (Later last) (λ e p. gone first page e (omega (arith, is_first)) p)
+      (λ e q. to_come last page e (omega (arith, is_last)) q) front some rest past later in
+      let spans : listed_cycles page (front ++ (some ++ rest)) t ≡ listed_cycles page some t = rw counted refl in
+      let within : flat_map (listed_row row (listed_cycles page some t)) (front ++ (some ++ rest))
+      ≡ flat_map (listed_row row (listed_cycles page some t)) some =
+      elim (cases_Bool (nat_le (count_by (is_listed_in page) some) 16)) [
+        | inl e ↦ rw e (rows_same row page (omega (arith, is_first)) (omega (arith, is_last)))
+        | inr e ↦ rw e (rows_same row (record { from = t - 2; to = t }) (omega (arith, low)) high)
+      ] in
+      rw spans within
 
   status_same : (framed : Option ℕ) (page : Span) → page.from ≡ first → page.to ≡ last
       → status_table framed page (front ++ (some ++ rest)) t ≡ status_table framed page some t
   unfolding status_table
   status_same framed page is_first is_last =
-      let counted : count_by (is_listed_in page) (front ++ (some ++ rest)) ≡ count_by (is_listed_in page) some =
-      count_mid (is_listed_in page) (Past first) (Later last) (λ e p. gone first page e (omega (arith, is_first)) p)
-      (λ e q. to_come last page e (omega (arith, is_last)) q) front some rest past later in
-      let spans : listed_cycles page (front ++ (some ++ rest)) t ≡ listed_cycles page some t = rw counted refl in
-      let within : flat_map (row_if framed (listed_cycles page some t) t) (front ++ (some ++ rest))
-      ≡ flat_map (row_if framed (listed_cycles page some t) t) some =
-      elim (cases_Bool (nat_le (count_by (is_listed_in page) some) 16)) [
-        | inl e ↦ rw e (rows_same framed page (omega (arith, is_first)) (omega (arith, is_last)))
-        | inr e ↦ rw e (rows_same framed (record { from = t - 2; to = t }) (omega (arith, low)) high)
-      ] in
-      rw (spans, within) refl
+      ap (λ (z : List ℕ). status_head ++ (z ++ table_end)) (listed_same (step_row framed t) page is_first is_last)
+
+  blank_status_same : (page : Span) → page.from ≡ first → page.to ≡ last
+      → blank_status page (front ++ (some ++ rest)) t ≡ blank_status page some t
+  unfolding blank_status
+  blank_status_same page is_first is_last =
+      ap (λ (z : List ℕ). status_head ++ (z ++ table_end)) (listed_same blank_step page is_first is_last)
 
   row_same : (pool : PoolId) (n : ℕ)
       → row_in t (history_of (front ++ (some ++ rest))) pool n ≡ row_in t (history_of some) pool n
@@ -284,39 +310,55 @@ module _ (first last t : ℕ) (front some rest : List Entry) (low : first ≤ t)
       (register_at t (history_of some)) register_same (range_with_len 1 31))
 
   -- the view is the same
-  frame_same : (config : Configuration) (page : Span) (total : ℕ) (steps : List Step) (path : List Link)
+  frame_same : (config : Configuration) (page : Span) (total : ℕ) (steps : List Step) (end : List ℕ) (path : List Link)
       → page.from ≡ first → page.to ≡ last
-      → frame config page total steps path (front ++ (some ++ rest)) t ≡ frame config page total steps path some t
+      → frame config page total steps end path (front ++ (some ++ rest)) t
+      ≡ frame config page total steps end path some t
   unfolding frame
-  frame_same config page total steps path is_first is_last = rw (
-    events_same,
+  frame_same config page total steps end path is_first is_last = rw (
+    events_same steps end,
     status_same (framed_step (at_cycle t path)) page is_first is_last,
     stations_same config,
     registers_same,
   ) refl
 
+  blank_frame_same : (config : Configuration) (page : Span) (total : ℕ) → page.from ≡ first → page.to ≡ last
+      → blank_frame config page total (front ++ (some ++ rest)) t ≡ blank_frame config page total some t
+  unfolding blank_frame
+  blank_frame_same config page total is_first is_last = rw (blank_status_same page is_first is_last) refl
+
+  view_same : (cells : Cells) (config : Configuration) (page : Span) (total : ℕ) (steps : List Step) (end : List ℕ)
+      (path : List Link) → page.from ≡ first → page.to ≡ last
+      → view_of cells config page total steps end path (front ++ (some ++ rest)) t
+      ≡ view_of cells config page total steps end path some t
+  view_same Filled config page total steps end path = frame_same config page total steps end path
+  view_same Blank config page total steps end path = blank_frame_same config page total
+
 -- all views of the page are the same
-frames_from : (config : Configuration) (page : Span) (total : ℕ) (steps : List Step) (path : List Link) (from n : ℕ)
+views_from : (cells : Cells) (config : Configuration) (page : Span) (total : ℕ) (steps : List Step)
+    (end : List ℕ) (path : List Link) (from n : ℕ)
     (front some rest : List Entry) → page.from ≤ from → from + n ≤ page.to + 1 → AllByRecursion (Past page.from) front
     → AllByRecursion (Later page.to) rest
-    → flat_map (frame config page total steps path (front ++ (some ++ rest))) (range_with_len from n)
-    ≡ flat_map (frame config page total steps path some) (range_with_len from n)
-frames_from config page total steps path from zero front some rest low high past later = refl
-frames_from config page total steps path from (suc n) front some rest low high past later =
+    → flat_map (view_of cells config page total steps end path (front ++ (some ++ rest))) (range_with_len from n)
+    ≡ flat_map (view_of cells config page total steps end path some) (range_with_len from n)
+views_from cells config page total steps end path from zero front some rest low high past later = refl
+views_from cells config page total steps end path from (suc n) front some rest low high past later =
     ap₂ (λ (a b : List ℕ). a ++ b)
-    (frame_same page.from page.to from front some rest low (omega (arith, high)) past later config page total steps path
-    refl refl)
-    (frames_from config page total steps path (from + 1) n front some rest (omega (arith, low)) (omega (arith, high))
-    past later)
+    (view_same page.from page.to from front some rest low (omega (arith, high)) past later cells config page total steps
+    end path refl refl)
+    (views_from cells config page total steps end path (from + 1) n front some rest (omega (arith, low)) (omega (
+      arith,
+      high,
+    )) past later)
 
-pub frames_same : (config : Configuration) (page : Span) (total : ℕ) (steps : List Step) (path : List Link)
-    (all some : List Entry) → page.from ≤ page.to + 1 → IsStretch page all some
-    → flat_map (frame config page total steps path all) (cycles_of page)
-    ≡ flat_map (frame config page total steps path some) (cycles_of page)
+pub views_same : (cells : Cells) (config : Configuration) (page : Span) (total : ℕ) (steps : List Step)
+    (end : List ℕ) (path : List Link) (all some : List Entry) → page.from ≤ page.to + 1 → IsStretch page all some
+    → flat_map (view_of cells config page total steps end path all) (cycles_of page)
+    ≡ flat_map (view_of cells config page total steps end path some) (cycles_of page)
 unfolding cycles_of
-frames_same config page total steps path all some low stretch =
-    ap (λ (es : List Entry). flat_map (frame config page total steps path es)
+views_same cells config page total steps end path all some low stretch =
+    ap (λ (es : List Entry). flat_map (view_of cells config page total steps end path es)
     (range_with_len page.from (page.to + 1 - page.from))) stretch.is
-    ∙ frames_from config page total steps path page.from (page.to + 1 - page.from) stretch.front some stretch.rest
+    ∙ views_from cells config page total steps end path page.from (page.to + 1 - page.from) stretch.front some stretch.rest
     (omega arith) (omega (arith, low)) (recursion_from_All _ stretch.front stretch.past)
     (recursion_from_All _ stretch.rest stretch.later)

@@ -39,6 +39,12 @@ animate_css =
     ++ (codes "@supports selector(:has(*)){@media screen{section,section :target{scroll-margin-top:100vh}}}\n"
     ++ codes "@media print{footer{break-before:page}}\n"))))))))))))))))))))))))))))))))
 
+-- what the style of a view to be filled in has more: room to write
+unfoldable pub blank_css : List ℕ
+blank_css =
+    codes ".s td,.t td{height:2.2rem;border:1px solid var(--line)}\n"
+    ++ codes ".r>div{border-right:1px solid var(--line)}\n"
+
 -- the explanation of a page
 unfoldable pub animate_help : List ℕ
 animate_help =
@@ -57,6 +63,21 @@ animate_help =
     ++ (codes "These instructions are the critical path, and their cycles add up to the total. Beside the links "
     ++ (codes "stand the cycles that belong to it, after which instruction it could go on, and what it had waited "
     ++ codes "for; (order) is no wait but its turn.</p></div>\n")))))))))))))
+
+-- that of a page to be filled in
+unfoldable pub blank_help : List ℕ
+blank_help =
+    codes "<div><h2>How to read this</h2>\n"
+    ++ (codes "<p>Each view is the machine after a cycle, to be filled in. Follow <i>"
+    ++ (codes "next</i> once, then Enter goes on from cycle to cycle; so it does with <i>previous</i>.</p>\n"
+    ++ (codes "<p>An instruction issues to a station and stays there to its end. V is the value of an operand, "
+    ++ (codes "Q the station that will have it. A is the offset of a load or store, and after its address "
+    ++ (codes "cycle its address. Qi is the station whose result a register waits for. A result on a bus goes "
+    ++ (codes "to all that wait for its station; a register waits for the youngest instruction issued so far "
+    ++ (codes "that writes it.</p>\n"
+    ++ (codes "<p>What an instruction waits for is the first that is wanting: before its issue an older branch,"
+    ++ (codes " the issue width, a station; before its start an operand, its address, an older access to its "
+    ++ codes "bytes, a unit; at last a bus.</p></div>\n")))))))))
 
 -- the head of the machine's table
 unfoldable pub machine_head : List ℕ

@@ -1,7 +1,7 @@
 //! The constant pieces of a page.
 
 ghost use Rattle.std.specs.Prelude.{◌≡◌};
-ghost use Rattle.tomex_animate.specs.Constants.{animate_css, animate_help, machine_head};
+ghost use Rattle.tomex_animate.specs.Constants.{animate_css, animate_help, blank_css, blank_help, machine_head};
 
 const ANIMATE_CSS: &str = "\
 h2{min-width:11rem}
@@ -53,6 +53,24 @@ are the critical path, and their cycles add up to the total. Beside the links st
 after which instruction it could go on, and what it had waited for; (order) is no wait but its turn.</p></div>
 ";
 
+const BLANK_HELP: &str = "\
+<div><h2>How to read this</h2>
+<p>Each view is the machine after a cycle, to be filled in. Follow <i>next</i> once, then Enter goes on from \
+cycle to cycle; so it does with <i>previous</i>.</p>
+<p>An instruction issues to a station and stays there to its end. V is the value of an operand, Q the station \
+that will have it. A is the offset of a load or store, and after its address cycle its address. Qi is the \
+station whose result a register waits for. A result on a bus goes to all that wait for its station; a \
+register waits for the youngest instruction issued so far that writes it.</p>
+<p>What an instruction waits for is the first that is wanting: before its issue an older branch, the issue \
+width, a station; before its start an operand, its address, an older access to its bytes, a unit; at last a \
+bus.</p></div>
+";
+
+const BLANK_CSS: &str = "\
+.s td,.t td{height:2.2rem;border:1px solid var(--line)}
+.r>div{border-right:1px solid var(--line)}
+";
+
 const MACHINE_HEAD: &str = "\
 <table>
 <caption>The machine</caption>
@@ -75,6 +93,22 @@ pub fn animate_help() -> &'static str
     ensures { result.now ≡ animate_help }
 {
     ANIMATE_HELP
+}
+
+/// What the style of a view to be filled in has more.
+#[tactic(auto, unfolding(crate::specs::Constants::blank_css))]
+pub fn blank_css() -> &'static str
+    ensures { result.now ≡ blank_css }
+{
+    BLANK_CSS
+}
+
+/// The explanation of a page to be filled in.
+#[tactic(auto, unfolding(crate::specs::Constants::blank_help))]
+pub fn blank_help() -> &'static str
+    ensures { result.now ≡ blank_help }
+{
+    BLANK_HELP
 }
 
 /// The head of the machine's table.

@@ -8,12 +8,12 @@ ghost use Rattle.tomex_timing.specs.Search.{times_in};
 ghost use Rattle.tomex_layout.specs.Growth.{Appends};
 ghost use Rattle.tomex_snapshots.specs.Entries.{entries_of};
 ghost use Rattle.tomex_frames.specs.OnPath.{IsOfRun};
-ghost use Rattle.tomex_animate.specs.declared.animation_error.AnimationError.TheVariants.{PastEnd};
-ghost use Rattle.tomex_animate.specs.Page.{IsAnimationOf, IsUnanimated, animate_page, page_foot, page_head, page_of};
-ghost use Rattle.tomex_animate.specs.Page.{run_named, title_of};
+ghost use Rattle.tomex_animate.specs.declared.animation_error.AnimationError.TheVariants.{Memory, PastEnd};
+ghost use Rattle.tomex_animate.specs.Page.{IsAnimation, IsUnanimated, LeavesRegisters, animate_page, page_foot, page_head};
+ghost use Rattle.tomex_animate.specs.Page.{page_of, run_named, title_of};
 
 use crate::animation_error::AnimationError;
-use crate::constants::{animate_css, animate_help};
+use crate::cells::{Cells, help_of, style_of};
 use crate::machine::{push_index, push_machine_table};
 use crate::stretch::stretch;
 use crate::view::{Views, push_views};
@@ -22,7 +22,7 @@ use std::fmt::Write;
 use tomex_config::Config;
 use tomex_html::{push_name, push_page_end, push_page_start};
 use tomex_path::path;
-use tomex_rvexec::Step;
+use tomex_rvexec::{Step, run};
 use tomex_snapshots::{Entry, Span, entries_of};
 use tomex_study::Program;
 use tomex_timing::Times;
@@ -65,15 +65,17 @@ fn title_of(
 fn push_page_head<A: Allocator>(
     text: &mut String<A>,
     heap: Global,
+    cells: Cells,
     study: &str,
     program: &str,
     number: usize,
     page: Span,
 ) -> Result<(), AllocError>
-    ensures { OnOk result (Appends (page_head study.now program.now number page) text.old text.new) }
+    ensures { OnOk result (Appends (page_head cells study.now program.now number page) text.old text.new) }
 {
     let title = title_of(heap, study, program, number, page)?;
-    push_page_start(text, title.as_str(), animate_css())?;
+    let style = style_of(heap, cells)?;
+    push_page_start(text, title.as_str(), style.as_str())?;
     text.push_str("<header><h1>")?;
     push_run_name(text, program, number)?;
     text.push_str("<bdi>")?;
@@ -85,16 +87,17 @@ fn push_page_head<A: Allocator>(
 #[tactic(auto, unfolding(crate::specs::Page::page_foot))]
 fn push_page_foot<A: Allocator>(
     text: &mut String<A>,
+    cells: Cells,
     config: &Config,
     page: Span,
 ) -> Result<(), AllocError>
     requires { page.to < 2 ^ 63 }
-    ensures { OnOk result (Appends (page_foot config.now page) text.old text.new) }
+    ensures { OnOk result (Appends (page_foot cells config.now page) text.old text.new) }
 {
     text.push_str("</main>\n<footer>\n")?;
     push_machine_table(text, config)?;
     push_index(text, page)?;
-    text.push_str(animate_help())?;
+    text.push_str(help_of(cells))?;
     text.push_str("</footer>\n")?;
     push_page_end(text)
 }
@@ -110,14 +113,22 @@ fn page_text<A: Allocator>(
 ) -> Result<Vec<u8, A>, AllocError>
     requires page { views.now.page.to < 2 ^ 63 }
     requires steps { All (IsOfRun (length views.now.steps.now)) views.now.path.now }
-    ensures { IfOk result (λ text. text.items ≡ animate_page study.now program.now number
-        views.now.config.now views.now.page views.now.total views.now.steps.now views.now.path.now
-        views.now.entries.now) }
+    ensures { IfOk result (λ text. text.items ≡ animate_page views.now.cells study.now program.now number
+        views.now.config.now views.now.page views.now.total views.now.steps.now views.now.last.now
+        views.now.path.now views.now.entries.now) }
 {
     let mut text = String::new(alloc);
-    push_page_head(&mut text, heap, study, program, number, views.page)?;
+    push_page_head(
+        &mut text,
+        heap,
+        views.cells,
+        study,
+        program,
+        number,
+        views.page,
+    )?;
     push_views(&mut text, heap, views)?;
-    push_page_foot(&mut text, views.config, views.page)?;
+    push_page_foot(&mut text, views.cells, views.config, views.page)?;
     Ok(text.into_bytes())
 }
 
@@ -135,6 +146,18 @@ fn entries_in<A: Allocator + Clone>(
 {
     let waits = waits(alloc.clone()?, steps, config)?;
     entries_of(alloc, steps, times, waits.as_slice())
+}
+
+/// The registers after a program's run.
+fn registers_of<A: Allocator>(alloc: A, program: &Program<A>) -> Result<[u32; 32], AnimationError>
+    ensures last { IfOk result (λ last. LeavesRegisters program.now.image program.now.limit last) }
+    ensures memory { IfErr result (λ error. error ≡ Memory) }
+{
+    // A program of a study ends, so only memory may be missing.
+    match run(alloc, program.image(), program.limit()) {
+        Ok(end) => Ok(end.regs),
+        Err(_) => Err(AnimationError::Memory),
+    }
 }
 
 /// The cycles of a page: at most `count` from `first` on.
@@ -155,13 +178,14 @@ fn page_in(first: u32, count: u32, total: u64) -> Result<Span, AnimationError>
 
 /// The page of at most `count` cycles of a program's run on a configuration, from cycle `first` on: for each cycle what
 /// happens in it, the step that has it on the run's critical path, the instruction status, the reservation stations and
-/// the register status, with what has changed. The study's name may be any text; `number` is the configuration's number
+/// the register status, with what has changed; or these with empty `cells`, without what would tell their contents. The study's name may be any text; `number` is the configuration's number
 /// in the study.
 ///
 /// A page has 4 to 6.5 KB a cycle on usual machines. Small temporary data is allocated from `heap`.
 pub fn animation<A: Allocator + Clone>(
     alloc: A,
     heap: Global,
+    cells: Cells,
     study: &str,
     program: &Program<A>,
     number: usize,
@@ -171,21 +195,24 @@ pub fn animation<A: Allocator + Clone>(
 ) -> Result<Vec<u8, A>, AnimationError>
     requires first { 0 < first }
     requires count { 0 < count }
-    ensures text { IfOk result (λ text. IsAnimationOf study.now program.now.name number config.now
-        (steps_from program.now.limit (start_of program.now.image)) first count text.items) }
+    ensures text { IfOk result
+        (λ text. IsAnimation cells study.now program.now number config.now first count text.items) }
     ensures refused { IfErr result (λ error. IsUnanimated config.now
         (steps_from program.now.limit (start_of program.now.image)) first error) }
 {
     let steps = program.steps();
+    let last = registers_of(alloc.clone()?, program)?;
     let run = path(alloc.clone()?, program.run(), config)?;
     let total = total(run.times.as_slice());
     let page = page_in(first, count, total)?;
     let entries = entries_in(alloc.clone()?, steps, run.times.as_slice(), config)?;
     let views = Views {
+        cells,
         config,
         page,
         total,
         steps,
+        last: &last,
         path: run.links.as_slice(),
         entries: stretch(entries.as_slice(), page),
     };

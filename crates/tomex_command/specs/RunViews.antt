@@ -1,5 +1,5 @@
 -- What is printed of one run of a study: by `times`, `stalls`, `path`, `loops`, `pipeline`, `tables` and `animate`.
-use Rattle.std.specs.Prelude.{◌≡◌, ◌≢◌, ◌<◌, ◌≤◌, ℕ, Bool, true, false, List, []}
+use Rattle.std.specs.Prelude.{◌≡◌, ◌≢◌, ◌<◌, ◌≤◌, ℕ, Bool, true, false, if◌then◌else◌, List, []}
 use Rattle.tomex_rvexec.specs.declared.step.Step.{Step}
 use Rattle.tomex_config.specs.Configuration.{Configuration}
 use Rattle.tomex_symbols.specs.Symbols.{symbols_of}
@@ -21,8 +21,10 @@ use Rattle.tomex_path_views.specs.ByFunction.{IsPathByFunction}
 use Rattle.tomex_path_views.specs.ByLink.{IsPathLinks}
 use Rattle.tomex_path_views.specs.ByPlace.{IsPathByPlace}
 use Rattle.tomex_path_views.specs.ByReason.{IsPathReport}
-use Rattle.tomex_animate.specs.Page.{IsAnimationOf, IsUnanimated}
+use Rattle.tomex_animate.specs.Page.{IsAnimation, IsUnanimated}
 use Rattle.tomex_animate.specs.declared.animation_error.AnimationError.TheVariants as animations
+use Rattle.tomex_animate.specs.declared.cells.Cells.{Cells}
+use Rattle.tomex_animate.specs.declared.cells.Cells.TheVariants as cells
 use Rattle.tomex_command_line.specs.declared.line.one_run.OneRun.{OneRun}
 use Rattle.tomex_command.specs.declared.commands.run_view.RunView.{RunView}
 use Rattle.tomex_command.specs.declared.commands.run_view.RunView.TheVariants.{Times, Stalls, Path, Loops, Pipeline}
@@ -82,6 +84,10 @@ pub record IsTextAfter (config : Configuration) (program : Workload) (cycle : �
   pub reached : cycle ≤ total config program.image
   pub tables : text ≡ tables_text_of (tables_of cycle (run_of config program.image))
 
+-- a page's cells, by whether they are left empty
+abbrev pub cells_for : Bool → Cells
+cells_for blank = if blank then cells.Blank else cells.Filled
+
 -- the text is what a view shows of a run; a page has the study's name as it stands in the line
 abbrev pub IsShown : RunView → RunChoice → List ℕ → Type 0
 IsShown (Times run) c text = text ≡ times_report_of c.config (steps_in c)
@@ -91,7 +97,7 @@ IsShown (Loops run) c text = IsLoopsReport c.config (steps_in c) c.file text
 IsShown (Pipeline line) c text = IsLogOrPicture line.konata c.config (steps_in c) line.from line.steps text
 IsShown (Tables line) c text = IsTextAfter c.config c.program line.cycle text
 IsShown (Animate line) c text =
-    IsAnimationOf line.run.study.now c.program.name c.number c.config (steps_in c) line.from line.cycles text
+    IsAnimation (cells_for line.blank) line.run.study.now c.program c.number c.config line.from line.cycles text
 
 -- functions are asked for, and the file has no symbols
 abbrev pub HasNoSymbols : Bool → RunChoice → Type 0

@@ -48,7 +48,7 @@ module _ (rows : List Row) where
   no_tables none line asked = absurd asked
 
   pub no_animate : IsNoAnimate rows → HasNoLine Animate rows
-  no_animate none (lines.Animate line) asked = none _ _ _ _ _ asked
+  no_animate none (lines.Animate line) asked = none _ _ _ _ _ _ asked
   no_animate none line asked = absurd asked
 
   pub no_all : IsNoAll rows → HasNoLine All rows

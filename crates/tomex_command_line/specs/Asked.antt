@@ -36,7 +36,7 @@ IsLineOf Pipeline rows (lines.Pipeline line) =
 IsLineOf Tables rows (lines.Tables line) =
     IsTablesAsked rows line.run.study.now line.run.config line.run.program.now line.cycle
 IsLineOf Animate rows (lines.Animate line) =
-    IsAnimateAsked rows line.run.study.now line.run.config line.run.program.now line.from line.cycles
+    IsAnimateAsked rows line.run.study.now line.run.config line.run.program.now line.from line.cycles line.blank
 IsLineOf All rows (lines.All line) = IsAllAsked rows line.study.now
 IsLineOf Explore rows (lines.Explore line) = IsExploreAsked rows line.study.now line.workers
 IsLineOf Front rows (lines.Front line) = IsFrontAsked rows line.explore.study.now line.explore.workers line.hull

@@ -104,12 +104,13 @@ tables_shape = record (new_shape (codes "tables")) {
       ∷ numeral_rule (codes "CYCLE") 0 last_cycle ∷ [];
 }
 
--- `animate STUDY CONFIG PROGRAM [--from CYCLE] [--cycles N]`
+-- `animate STUDY CONFIG PROGRAM [--from CYCLE] [--cycles N] [--blank]`
 abbrev pub animate_shape : Shape
 animate_shape = record (new_shape (codes "animate")) {
   rules = word_rule (codes "STUDY") ∷ config_rule ∷ word_rule (codes "PROGRAM")
       ∷ option_rule (codes "from") 1 last_cycle (codes "1")
-      ∷ option_rule (codes "cycles") 1 256 (codes "64") ∷ [];
+      ∷ option_rule (codes "cycles") 1 256 (codes "64")
+      ∷ flag_rule (codes "blank") ∷ [];
 }
 
 -- `all STUDY`
@@ -205,8 +206,8 @@ bare_app = on_top (λ s. record s { has_version = true; subcommand_required = tr
 abbrev pub tomex_app : App
 tomex_app = record {
   top = record (new_shape (codes "tomex")) { has_version = true; is_leaf = false; subcommand_required = true };
-  subs = run_shape ∷ times_shape ∷ stalls_shape ∷ path_shape ∷ loops_shape ∷ pipeline_shape ∷ tables_shape
-      ∷ animate_shape ∷ all_shape ∷ explore_shape ∷ front_shape ∷ plot_shape ∷ rows_shape ∷ worth_shape
-      ∷ choices_shape ∷ prices_shape ∷ weights_shape ∷ compare_shape ∷ functions_shape ∷ page_shape ∷ find_shape
-      ∷ explain_shape ∷ [];
+  subs = run_shape ∷ times_shape ∷ pipeline_shape ∷ tables_shape ∷ animate_shape ∷ stalls_shape ∷ path_shape
+      ∷ loops_shape ∷ front_shape ∷ plot_shape ∷ rows_shape ∷ find_shape ∷ page_shape ∷ worth_shape
+      ∷ choices_shape ∷ prices_shape ∷ weights_shape ∷ compare_shape ∷ functions_shape ∷ explore_shape
+      ∷ all_shape ∷ explain_shape ∷ [];
 }

@@ -99,14 +99,15 @@ IsNoTables rows = (study : List ℕ) (config : ConfigName) (program : List ℕ) 
 
 -- the values of `animate`
 pub record IsAnimateAsked (rows : List Row) (study : List ℕ) (config : ConfigName) (program : List ℕ)
-    (from cycles : ℕ) : Type 0 where
+    (from cycles : ℕ) (blank : Bool) : Type 0 where
   pub of_run : IsOneRunAsked rows study config program
   pub is_from : IsNumber rows (codes "from") 1 last_cycle from
   pub is_cycles : IsNumber rows (codes "cycles") 1 256 cycles
+  pub is_blank : IsFlag rows (codes "blank") blank
 
 abbrev pub IsNoAnimate : List Row → Type 0
-IsNoAnimate rows = (study : List ℕ) (config : ConfigName) (program : List ℕ) (from cycles : ℕ)
-    → IsAnimateAsked rows study config program from cycles → ⊥
+IsNoAnimate rows = (study : List ℕ) (config : ConfigName) (program : List ℕ) (from cycles : ℕ) (blank : Bool)
+    → IsAnimateAsked rows study config program from cycles blank → ⊥
 
 -- the value of `all`
 abbrev pub IsAllAsked : List Row → List ℕ → Type 0

@@ -97,6 +97,11 @@ const ABOUT: &str = "Runs RV32IM programs, and explores Tomasulo processors that
 const LONG_ABOUT: &str = "Runs RV32IM programs in order, and explores Tomasulo processors without
 speculation that run them.
 
+The commands come in this order: one run (`run` to `animate`), why it takes its
+cycles (`stalls`, `path`, `loops`), which machine (`front` to `page`), is it
+safe (`worth` to `weights`), two builds (`compare`, `functions`), for scripts
+(`explore`, `all`), help (`explain`).
+
 A command writes nothing to standard output until its whole result is ready.
 Errors are reported on standard error.";
 
@@ -109,25 +114,25 @@ const AFTER_LONG_HELP: &str = "Exit status:
 Examples, in the folder `examples`:
   tomex run mul.bin --size 4096
   tomex times study.toml 4 mul
-  tomex stalls study.toml 4 mul
-  tomex path study.toml 4 mul
-  tomex loops explore.toml 132 matrix
   tomex pipeline study.toml 4 mul
   tomex tables study.toml 4 mul 3
   tomex animate study.toml 4 mul > mul.html
-  tomex all study.toml
-  tomex explore explore.toml --workers 4
+  tomex stalls study.toml 4 mul
+  tomex path study.toml 4 mul
+  tomex loops explore.toml 132 matrix
   tomex front explore.toml --workers 4
   tomex plot explore.toml --workers 4
   tomex rows explore.toml --workers 4
+  tomex find explore.toml alu=2 mul=2
+  tomex page explore.toml > explore.html
   tomex worth explore.toml 132
   tomex choices explore.toml --workers 4
   tomex prices explore.toml
   tomex weights explore.toml
   tomex compare builds.toml o2 o3
   tomex functions builds.toml 167 o2 o3
-  tomex page explore.toml > explore.html
-  tomex find explore.toml alu=2 mul=2
+  tomex explore explore.toml --workers 4
+  tomex all study.toml
   tomex explain image: segment
 
 Numbers on the command line are decimal; in a study's TOML they may be
@@ -151,25 +156,25 @@ fn grammar<'a>(alloc: Global) -> Result<Command<'a>, AllocError>
     let program = Ok(without_commands(alloc));
     let program = with_command(program, run::grammar(alloc));
     let program = with_command(program, times::grammar(alloc));
-    let program = with_command(program, stalls::grammar(alloc));
-    let program = with_command(program, path::grammar(alloc));
-    let program = with_command(program, loops::grammar(alloc));
     let program = with_command(program, pipeline::grammar(alloc));
     let program = with_command(program, tables::grammar(alloc));
     let program = with_command(program, animate::grammar(alloc));
-    let program = with_command(program, all::grammar(alloc));
-    let program = with_command(program, explore::grammar(alloc));
+    let program = with_command(program, stalls::grammar(alloc));
+    let program = with_command(program, path::grammar(alloc));
+    let program = with_command(program, loops::grammar(alloc));
     let program = with_command(program, front::grammar(alloc));
     let program = with_command(program, plot::grammar(alloc));
     let program = with_command(program, rows::grammar(alloc));
+    let program = with_command(program, find::grammar(alloc));
+    let program = with_command(program, page::grammar(alloc));
     let program = with_command(program, worth::grammar(alloc));
     let program = with_command(program, choices::grammar(alloc));
     let program = with_command(program, prices::grammar(alloc));
     let program = with_command(program, weights::grammar(alloc));
     let program = with_command(program, compare::grammar(alloc));
     let program = with_command(program, functions::grammar(alloc));
-    let program = with_command(program, page::grammar(alloc));
-    let program = with_command(program, find::grammar(alloc));
+    let program = with_command(program, explore::grammar(alloc));
+    let program = with_command(program, all::grammar(alloc));
     with_command(program, explain::grammar(alloc))
 }
 

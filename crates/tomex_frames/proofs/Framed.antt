@@ -1,7 +1,7 @@
 -- Each view has one frame, round a step that works.
 use Rattle.std.proofs.Common.{ℕ, zero, suc, ◌+◌, ◌-◌, ◌<◌, ◌≤◌, ◌≡◌, ◌∙◌, ap, subst, sym, Bool, true, false, arith}
 use Rattle.std.proofs.Common.{refl, inl, inr, List, [], ◌∷◌, Option, Some, None, length}
-use Rattle.std.specs.Prelude.{◌==◌, ◌&&◌, ◌||◌, All, count_by, is_some, nat_le, sum_by}
+use Rattle.std.specs.Prelude.{◌==◌, ◌&&◌, count_by, is_some, nat_le, sum_by}
 use Rattle.std.specs.List.{filter, range_with_len}
 use Rattle.std.proofs.lemmas.Bool.{and_parts, and_right, cases_lt, eq-eqb, eqb-true, le-leb, leb-true, lt-leb, or_cases}
 use Rattle.std.proofs.lemmas.List.Elements.{All-contains, All-from_recursion, All-weaker, recursion_from_All}

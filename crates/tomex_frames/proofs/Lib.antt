@@ -10,3 +10,4 @@ mod PathWaits
 mod Framed
 mod PathWords
 mod Rows
+mod ValueResults

@@ -1,5 +1,5 @@
 -- The path's line changes exactly in the first cycles of links.
-use Rattle.std.proofs.Common.{ℕ, ◌+◌, ◌<◌, ◌≤◌, ◌≡◌, ◌∙◌, ap, sym, true, false, arith, refl, inl, inr}
+use Rattle.std.proofs.Common.{ℕ, ◌+◌, ◌<◌, ◌≡◌, ◌∙◌, ap, sym, arith, refl, inl, inr}
 use Rattle.std.proofs.Common.{List, [], ◌∷◌, ◌++◌, append_assoc, Some, None, length, map}
 use Rattle.std.specs.Prelude.{◌≢◌, ◌^◌, codes}
 use Rattle.std.specs.Fmt.{decimal}
@@ -8,14 +8,12 @@ use Rattle.std.proofs.lemmas.Bool.{eqb-false, eqb-true}
 use Rattle.std.proofs.lemmas.Fmt.{decimal-digits_of, decimal_injective}
 use Rattle.std.proofs.lemmas.List.Elements.{All-contains}
 use Rattle.tomex_rvexec.specs.declared.step.Step.{Step}
-use Rattle.tomex_rvexec.specs.Run.{most_steps}
-use Rattle.tomex_config.specs.Configuration.{Configuration, IsWithinLimits}
 use Rattle.tomex_timing.specs.Search.{history, times_in}
 use Rattle.tomex_path.specs.declared.link.Link.{Link}
 use Rattle.tomex_path.specs.Within.{IsWithin}
 use Rattle.tomex_path.proofs.LinkBounds.{links_within}
 use Rattle.tomex_path.proofs.Turned.{path_rises}
-use Rattle.tomex_frames.specs.OnPath.{at_cycle, begins, held_after, path_words, span_text}
+use Rattle.tomex_frames.specs.OnPath.{held_after, path_words, span_text}
 use Rattle.tomex_frames.specs.PathLaws.{LineIsMarkedWhereItChanges, cycles_in, run_path}
 use Rattle.tomex_frames.specs.declared.on_path.OnPath.{OnPath}
 use Rattle.tomex_frames.proofs.Framed.{chain}

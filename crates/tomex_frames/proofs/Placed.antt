@@ -1,5 +1,5 @@
 -- The entries of a run: how the times and the waits of each are related.
-use Rattle.std.proofs.Common.{ℕ, ◌+◌, ◌-◌, ◌<◌, ◌≤◌, ◌≡◌, ◌∙◌, ap, subst, Bool, true, false, arith, refl, inl, inr}
+use Rattle.std.proofs.Common.{ℕ, ◌+◌, ◌<◌, ◌≤◌, ◌≡◌, ◌∙◌, ap, subst, Bool, true, false, arith, refl, inl, inr}
 use Rattle.std.proofs.Common.{Option, Some, None, List, [], ◌∷◌, ◌++◌, length, map, max, reverse}
 use Rattle.std.specs.Prelude.{All, ◌&&◌, is_some, not}
 use Rattle.std.proofs.lemmas.Bool.{MatchBool-at_false, cases_Bool, le-ltb}

@@ -1,7 +1,7 @@
 -- What a run's views list, and how often a word is in them.
 use Rattle.std.proofs.Common.{ℕ, ◌+◌, ◌-◌, ◌<◌, ◌≤◌, ◌≡◌, ◌∙◌, ap, subst, sym, true, false, arith, refl}
-use Rattle.std.proofs.Common.{inl, inr, Option, None, List, [], ◌∷◌, ◌++◌, length, max, reverse}
-use Rattle.std.specs.Prelude.{All, codes, count_by, nat_le, sum_by}
+use Rattle.std.proofs.Common.{inl, inr, None, List, [], ◌∷◌, ◌++◌, length, max, reverse}
+use Rattle.std.specs.Prelude.{All, codes, count_by, if◌then◌else◌, nat_le, sum_by}
 use Rattle.std.specs.List.{Contains, filter, flat_map, range_with_len}
 use Rattle.std.specs.Str.{bytes_eq}
 use Rattle.std.proofs.lemmas.Bool.{and_from, cases_Bool, cases_lt, le-leb}
@@ -24,11 +24,12 @@ use Rattle.tomex_snapshots.specs.Entries.{entries_from, entries_of, is_listed_in
 use Rattle.tomex_snapshots.specs.declared.entries.Entry.{Entry}
 use Rattle.tomex_snapshots.specs.declared.entries.Span.{Span}
 use Rattle.tomex_frames.specs.Cells.{doing_in, doing_text}
-use Rattle.tomex_frames.specs.Laws.{IsOn, NextIsListed, NothingIsLost, RowsAreOfSteps, ShowsWaits}
+use Rattle.tomex_frames.specs.Blank.{blank_status, blank_step}
+use Rattle.tomex_frames.specs.Laws.{BlankRowsAreOfSteps, IsOn, NextIsListed, NothingIsLost, RowsAreOfSteps, ShowsWaits}
 use Rattle.tomex_frames.specs.Laws.{StepsShowTheirWaits, ViewsShowStalls, WaitsComeBeforeIssues, cycles_with}
 use Rattle.tomex_frames.specs.Laws.{rows_of, rows_with, says}
 use Rattle.tomex_frames.specs.Constants.{status_head}
-use Rattle.tomex_frames.specs.Status.{listed_cycles, row_if, status_table, step_row}
+use Rattle.tomex_frames.specs.Status.{listed_cycles, status_table, step_row}
 use Rattle.tomex_frames.proofs.Sums.{by_steps, contains_kept, count_kept, sum_both, sum_same}
 use Rattle.tomex_frames.proofs.Placed.{entries_more, entry_at, placed_run}
 use Rattle.tomex_frames.proofs.Waits.{IsPlaced, after, before, shown_waits}
@@ -44,18 +45,24 @@ is_listed page es e t on from to = elim (cases_Bool (nat_le (count_by (is_listed
   | inr many ↦ rw many (and_from _ _ (le-leb e.from t from) (le-leb (t - 2) e.at.end (omega arith)))
 ]
 
-rows_kept_of : (framed : Option ℕ) (span : Span) (t : ℕ) (es : List Entry)
-    → flat_map (row_if framed span t) es ≡ flat_map (step_row framed t) (filter (is_listed_in span) es)
-rows_kept_of framed span t [] = refl
-rows_kept_of framed span t (e ∷ es) = elim (cases_Bool (is_listed_in span e)) [
-  | inl there ↦ rw there (ap (λ (z : List ℕ). step_row framed t e ++ z) (rows_kept_of framed span t es))
-  | inr absent ↦ rw absent (rows_kept_of framed span t es)
+rows_kept_of : (row : Entry → List ℕ) (span : Span) (es : List Entry)
+    → flat_map (λ e. if is_listed_in span e then row e else []) es ≡ flat_map row (filter (is_listed_in span) es)
+rows_kept_of row span [] = refl
+rows_kept_of row span (e ∷ es) = elim (cases_Bool (is_listed_in span e)) [
+  | inl there ↦ rw there (ap (λ (z : List ℕ). row e ++ z) (rows_kept_of row span es))
+  | inr absent ↦ rw absent (rows_kept_of row span es)
 ]
 
 pub rows_are_of_steps : RowsAreOfSteps
 unfolding status_table
 rows_are_of_steps framed page es t =
-    ap (λ (z : List ℕ). status_head ++ (z ++ table_end)) (rows_kept_of framed (listed_cycles page es t) t es)
+    ap (λ (z : List ℕ). status_head ++ (z ++ table_end))
+    (rows_kept_of (step_row framed t) (listed_cycles page es t) es)
+
+pub blank_rows_are_of_steps : BlankRowsAreOfSteps
+unfolding blank_status
+blank_rows_are_of_steps page es t =
+    ap (λ (z : List ℕ). status_head ++ (z ++ table_end)) (rows_kept_of blank_step (listed_cycles page es t) es)
 
 pub nothing_is_lost : NothingIsLost
 nothing_is_lost page es e t on there from to =

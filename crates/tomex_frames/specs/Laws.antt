@@ -13,6 +13,7 @@ use Rattle.tomex_html.specs.Html.{table_end}
 use Rattle.tomex_snapshots.specs.Entries.{entries_of, is_listed_in}
 use Rattle.tomex_snapshots.specs.declared.entries.Entry.{Entry}
 use Rattle.tomex_snapshots.specs.declared.entries.Span.{Span}
+use Rattle.tomex_frames.specs.Blank.{blank_status, blank_step}
 use Rattle.tomex_frames.specs.Cells.{doing_in, doing_text}
 use Rattle.tomex_frames.specs.Constants.{status_head}
 use Rattle.tomex_frames.specs.Status.{listed_cycles, status_table, step_row}
@@ -25,6 +26,11 @@ rows_of page es t = filter (is_listed_in (listed_cycles page es t)) es
 abbrev pub RowsAreOfSteps : Type 0
 RowsAreOfSteps = (framed : Option ℕ) (page : Span) (es : List Entry) (t : ℕ)
     → status_table framed page es t ≡ status_head ++ (flat_map (step_row framed t) (rows_of page es t) ++ table_end)
+
+-- and so has one whose cells are empty
+abbrev pub BlankRowsAreOfSteps : Type 0
+BlankRowsAreOfSteps = (page : Span) (es : List Entry) (t : ℕ)
+    → blank_status page es t ≡ status_head ++ (flat_map blank_step (rows_of page es t) ++ table_end)
 
 -- a cycle is one of a page's
 abbrev pub IsOn : Span → ℕ → Type 0

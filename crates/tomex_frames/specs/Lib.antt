@@ -3,6 +3,8 @@ pub mod Events
 pub mod Cells
 pub mod Status
 pub mod Stations
+pub mod Blank
+pub mod Values
 pub mod OnPath
 pub mod PathLaws
 pub mod Laws

@@ -3,9 +3,10 @@
 ghost use Rattle.std.specs.Prelude.{◌≡◌, OnOk};
 ghost use Rattle.std.specs.List.{flat_map, list_any};
 ghost use Rattle.tomex_layout.specs.Growth.{Appends};
-ghost use Rattle.tomex_frames.specs.Events.{name_of_event};
+ghost use Rattle.tomex_frames.specs.Events.{name_of_event, sent_text};
 ghost use Rattle.tomex_frames.specs.Events.{all_events, event_text, events, happens, item, item_if, items};
 
+use crate::values::{Values, push_value};
 use std::alloc::{AllocError, Allocator, Global};
 use std::fmt::Write;
 use tomex_snapshots::{Entry, Name, View, push_takers};
@@ -32,14 +33,15 @@ const EVENTS: [Event; 5] = [
 
 /// All events, in the order in which a view has them.
 #[tactic(auto, unfolding(crate::specs::Events::all_events))]
-fn all_events() -> &'static [Event]
+pub fn all_events() -> &'static [Event]
     ensures { result.now ≡ all_events }
 {
     &EVENTS
 }
 
 impl Event {
-    fn name(self) -> &'static str
+    /// Its name in a view.
+    pub fn name(self) -> &'static str
         ensures { result.now ≡ name_of_event self }
     {
         match self {
@@ -69,16 +71,36 @@ impl Event {
     }
 }
 
+/// Adds a result that is sent: its station, its value, and what takes it.
+fn push_sent<A: Allocator>(
+    text: &mut String<A>,
+    heap: Global,
+    values: &Values<'_>,
+    view: &View<'_>,
+    entry: &Entry,
+) -> Result<(), AllocError>
+    ensures { OnOk result (Appends (sent_text values.now.steps.now values.now.last.now view.now.cycle
+        view.now.entries.now entry.now) text.old text.new) }
+{
+    let name = Name(entry.station());
+    write!(text, "{name}")?;
+    push_value(text, values, entry)?;
+    text.push_str(" &#8594; ")?;
+    push_takers(text, heap, view, entry)
+}
+
 /// Adds the text of a step to which it happens.
 #[tactic(auto, unfolding(crate::specs::Events::item))]
 fn push_item<A: Allocator>(
     text: &mut String<A>,
     heap: Global,
+    values: &Values<'_>,
     view: &View<'_>,
     event: Event,
     entry: &Entry,
 ) -> Result<(), AllocError>
-    ensures { OnOk result (Appends (item view.now.cycle view.now.entries.now event entry.now) text.old text.new) }
+    ensures { OnOk result (Appends (item values.now.steps.now values.now.last.now view.now.cycle
+        view.now.entries.now event entry.now) text.old text.new) }
 {
     let station = entry.station();
     let name = Name(station);
@@ -96,10 +118,7 @@ fn push_item<A: Allocator>(
             write!(text, "{name} A={address:08x}")
         }
         Event::Start | Event::Finish => write!(text, "{name}"),
-        Event::Write => {
-            write!(text, "{name} &#8594; ")?;
-            push_takers(text, heap, view, entry)
-        }
+        Event::Write => push_sent(text, heap, values, view, entry),
     }
 }
 
@@ -108,15 +127,17 @@ fn push_item<A: Allocator>(
 fn push_item_if<A: Allocator>(
     text: &mut String<A>,
     heap: Global,
+    values: &Values<'_>,
     view: &View<'_>,
     event: Event,
     entry: &Entry,
 ) -> Result<(), AllocError>
-    ensures { OnOk result (Appends (item_if view.now.cycle view.now.entries.now event entry.now) text.old text.new) }
+    ensures { OnOk result (Appends (item_if values.now.steps.now values.now.last.now view.now.cycle
+        view.now.entries.now event entry.now) text.old text.new) }
 {
     if event.happens(view.cycle, entry) {
         text.push_str("<dd>")?;
-        push_item(text, heap, view, event, entry)?;
+        push_item(text, heap, values, view, event, entry)?;
         text.push_str("</dd>")?;
     }
     Ok(())
@@ -126,14 +147,16 @@ fn push_item_if<A: Allocator>(
 fn push_all_items<A: Allocator>(
     text: &mut String<A>,
     heap: Global,
+    values: &Values<'_>,
     view: &View<'_>,
     event: Event,
 ) -> Result<(), AllocError>
     ensures { OnOk result (
-        Appends (flat_map (item_if view.now.cycle view.now.entries.now event) view.now.entries.now) text.old text.new) }
+        Appends (flat_map (item_if values.now.steps.now values.now.last.now view.now.cycle view.now.entries.now event)
+        view.now.entries.now) text.old text.new) }
 {
     for entry in view.entries {
-        push_item_if(text, heap, view, event, entry)?;
+        push_item_if(text, heap, values, view, event, entry)?;
     }
     Ok(())
 }
@@ -150,13 +173,15 @@ fn happens_to_any(entries: &[Entry], cycle: u64, event: Event) -> bool
 fn push_items<A: Allocator>(
     text: &mut String<A>,
     heap: Global,
+    values: &Values<'_>,
     view: &View<'_>,
     event: Event,
 ) -> Result<(), AllocError>
-    ensures { OnOk result (Appends (items view.now.cycle view.now.entries.now event) text.old text.new) }
+    ensures { OnOk result (Appends (items values.now.steps.now values.now.last.now view.now.cycle
+        view.now.entries.now event) text.old text.new) }
 {
     if happens_to_any(view.entries, view.cycle, event) {
-        push_all_items(text, heap, view, event)
+        push_all_items(text, heap, values, view, event)
     } else {
         text.push_str("<dd>-</dd>")
     }
@@ -166,42 +191,48 @@ fn push_items<A: Allocator>(
 fn push_event<A: Allocator>(
     text: &mut String<A>,
     heap: Global,
+    values: &Values<'_>,
     view: &View<'_>,
     event: Event,
 ) -> Result<(), AllocError>
-    ensures { OnOk result (Appends (event_text view.now.cycle view.now.entries.now event) text.old text.new) }
+    ensures { OnOk result (Appends (event_text values.now.steps.now values.now.last.now view.now.cycle
+        view.now.entries.now event) text.old text.new) }
 {
     let name = event.name();
     write!(text, "<div><dt>{name}</dt>")?;
-    push_items(text, heap, view, event)?;
+    push_items(text, heap, values, view, event)?;
     write!(text, "</div>\n")
 }
 
 fn push_all_events<A: Allocator>(
     text: &mut String<A>,
     heap: Global,
+    values: &Values<'_>,
     view: &View<'_>,
     events: &[Event],
 ) -> Result<(), AllocError>
     ensures { OnOk result (
-        Appends (flat_map (event_text view.now.cycle view.now.entries.now) events.now) text.old text.new) }
+        Appends (flat_map (event_text values.now.steps.now values.now.last.now view.now.cycle view.now.entries.now)
+        events.now) text.old text.new) }
 {
     for event in events {
-        push_event(text, heap, view, *event)?;
+        push_event(text, heap, values, view, *event)?;
     }
     Ok(())
 }
 
-/// Adds what happens in a view's cycle.
+/// Adds what happens in a view's cycle. `values` are of the whole run.
 #[tactic(auto, unfolding(crate::specs::Events::events))]
 pub fn push_events<A: Allocator>(
     text: &mut String<A>,
     heap: Global,
+    values: &Values<'_>,
     view: &View<'_>,
 ) -> Result<(), AllocError>
-    ensures { OnOk result (Appends (events view.now.cycle view.now.entries.now) text.old text.new) }
+    ensures { OnOk result (Appends (events values.now.steps.now values.now.last.now view.now.cycle
+        view.now.entries.now) text.old text.new) }
 {
     text.push_str("<dl class=\"e\">\n")?;
-    push_all_events(text, heap, view, all_events())?;
+    push_all_events(text, heap, values, view, all_events())?;
     write!(text, "</dl>\n")
 }

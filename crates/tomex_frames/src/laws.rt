@@ -1,17 +1,24 @@
 //! Laws of the table of instructions, and of the path in views. These functions do nothing: their contracts are the
 //! laws.
 
-ghost use Rattle.tomex_frames.specs.Laws.{NextIsListed, NothingIsLost, RowsAreOfSteps, StepsShowTheirWaits};
-ghost use Rattle.tomex_frames.specs.Laws.{ViewsShowStalls, WaitsComeBeforeIssues};
+ghost use Rattle.tomex_frames.specs.Laws.{BlankRowsAreOfSteps, NextIsListed, NothingIsLost, RowsAreOfSteps};
+ghost use Rattle.tomex_frames.specs.Laws.{StepsShowTheirWaits, ViewsShowStalls, WaitsComeBeforeIssues};
+ghost use Rattle.tomex_frames.specs.Values.{ValuesAreResults};
 ghost use Rattle.tomex_frames.specs.PathLaws.{EachViewHasOneFrame, FramesAddUp, FramesAreCycles};
 ghost use Rattle.tomex_frames.specs.PathLaws.{LineIsMarkedWhereItChanges, LineIsTheWaitBefore};
 
 /// Each step is listed in each view from its issue to its end, and before it while it is the next to issue.
 pub fn no_step_is_lost()
     ensures rows { RowsAreOfSteps }
+    ensures blank { BlankRowsAreOfSteps }
     ensures listed { NothingIsLost }
     ensures order { WaitsComeBeforeIssues }
     ensures next { NextIsListed }
+{}
+
+/// The value that a view shows of a result is what its step wrote.
+pub fn values_are_results()
+    ensures { ValuesAreResults }
 {}
 
 /// A step's row shows each cause for as many cycles as the step waits for it. The address cycle of a load or store

@@ -48,7 +48,7 @@ fn all_columns() -> &'static [Column]
 
 /// All pools, from top to bottom.
 #[tactic(auto, unfolding(crate::specs::Stations::all_pools))]
-fn all_pools() -> &'static [PoolId]
+pub fn all_pools() -> &'static [PoolId]
     ensures { result.now ≡ all_pools }
 {
     &PoolId::ALL

@@ -102,7 +102,7 @@ fn count_in(span: Span, entries: &[Entry]) -> usize
 }
 
 /// The cycles whose steps are listed in the view of a cycle.
-fn listed_cycles(page: Span, entries: &[Entry], cycle: u64) -> Span
+pub fn listed_cycles(page: Span, entries: &[Entry], cycle: u64) -> Span
     ensures { result ≡ listed_cycles page entries.now cycle }
 {
     if count_in(page, entries) <= FEW_STEPS {

@@ -22,29 +22,29 @@ unfoldable pub link_to : ℕ → List ℕ → List ℕ
 link_to row text = link_start row ++ (text ++ codes "</a>")
 
 -- a row's point, which is a link if the row is shown
-unfoldable pub linked_circle : Axes → ℕ → List FrontRow → FrontRow → List ℕ
-linked_circle axes radius shown r =
-    if is_on shown r.row then link_to r.row (circle axes radius r) else circle axes radius r
+unfoldable pub linked_circle : Axes → ℕ → List FrontRow → List FrontRow → FrontRow → List ℕ
+linked_circle axes radius hull shown r =
+    if is_on shown r.row then link_to r.row (circle axes radius hull r) else circle axes radius hull r
 
 -- the same on a line
-unfoldable pub linked_line : Axes → ℕ → List FrontRow → FrontRow → List ℕ
-linked_line axes radius shown r = linked_circle axes radius shown r ++ codes "\n"
+unfoldable pub linked_line : Axes → ℕ → List FrontRow → List FrontRow → FrontRow → List ℕ
+linked_line axes radius hull shown r = linked_circle axes radius hull shown r ++ codes "\n"
 
 -- the staircase as a line, the points, and their rows' numbers
-unfoldable pub linked_rows : Axes → List ℕ → List FrontRow → List FrontRow → List ℕ
-linked_rows axes stairs shown front =
+unfoldable pub linked_rows : Axes → List ℕ → List FrontRow → List FrontRow → List FrontRow → List ℕ
+linked_rows axes stairs hull shown front =
     codes "<path d=\"" ++ (stairs ++ (codes "\" fill=\"none\" stroke=\"#1f5fa8\" stroke-width=\"2\"/>\n"
-    ++ (codes "<g fill=\"#1f5fa8\">\n" ++ (flat_map (linked_line axes (radius_of (length front)) shown) front
+    ++ (codes "<g fill=\"#1f5fa8\">\n" ++ (flat_map (linked_line axes (radius_of (length front)) hull shown) front
     ++ (codes "</g>\n<g font-size=\"11\">\n" ++ (numbers_of axes None front ++ codes "</g>\n</svg>\n"))))))
 
 -- the picture of a front, drawn over dots for all rows, `all` in number
-unfoldable pub linked_over : ℕ → List FrontRow → List FrontRow → List FrontRow → List ℕ
-linked_over all rows front shown =
+unfoldable pub linked_over : ℕ → List FrontRow → List FrontRow → List FrontRow → List FrontRow → List ℕ
+linked_over all rows front hull shown =
     let axes = axes_of rows in
     let stairs = staircase axes front in
     size_text ++ (sheet (title_of (length front) all) ++ (shade stairs ++ (lines_text axes ++ (scales_text axes
-    ++ (dots_line axes rows ++ linked_rows axes stairs shown front)))))
+    ++ (dots_line axes rows ++ linked_rows axes stairs hull shown front)))))
 
--- that of a study's front
-abbrev pub linked_picture_of : DesignSpace → List FrontRow → List ℕ
-linked_picture_of s shown = linked_over (length s.rows) (all_rows s) (front_of_study s) shown
+-- that of a study's front, given the rows on its hull
+abbrev pub linked_picture_of : DesignSpace → List FrontRow → List FrontRow → List ℕ
+linked_picture_of s hull shown = linked_over (length s.rows) (all_rows s) (front_of_study s) hull shown

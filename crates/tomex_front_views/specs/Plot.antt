@@ -5,6 +5,8 @@ use Rattle.std.specs.Prelude.{ℕ, ◌+◌, ◌-◌, ◌*◌, ◌==◌, nat_le, 
 use Rattle.std.specs.Prelude.{List, [], ◌∷◌, ◌++◌, codes, length, Option, Some, None}
 use Rattle.std.specs.List.{flat_map}
 use Rattle.std.specs.Fmt.{decimal}
+use Rattle.tomex_pareto.specs.Front.{is_on}
+use Rattle.tomex_pareto.specs.Hull.{hull_of}
 use Rattle.tomex_study.specs.StudyFront.{front_of_study}
 use Rattle.tomex_study.specs.Study.{DesignSpace}
 use Rattle.tomex_pareto.specs.declared.front_row.FrontRow.{FrontRow}
@@ -64,10 +66,14 @@ marks_of axes mark = flat_map (mark_at axes mark) (ticks_of (span_of axes mark))
 abbrev pub radius_of : ℕ → ℕ
 radius_of rows = if nat_le rows 64 then 4 else 2
 
-unfoldable pub circle_at : Point → ℕ → List ℕ
-circle_at at radius =
+-- a point is filled on the hull, and hollow off it
+abbrev pub fill_of : Bool → List ℕ
+fill_of on_hull = if on_hull then [] else codes " fill=\"#ffffff\" stroke=\"#1f5fa8\" stroke-width=\"1.5\""
+
+unfoldable pub circle_at : Point → ℕ → Bool → List ℕ
+circle_at at radius on_hull =
     codes "<circle cx=\"" ++ (decimal at.x ++ (codes "\" cy=\"" ++ (decimal at.y
-    ++ (codes "\" r=\"" ++ (decimal radius ++ codes "\">")))))
+    ++ (codes "\" r=\"" ++ (decimal radius ++ (codes "\"" ++ (fill_of on_hull ++ codes ">")))))))
 
 -- a circle's tooltip: `row 132: cost 107, cycles 44727`
 unfoldable pub row_title : FrontRow → List ℕ
@@ -75,13 +81,13 @@ row_title r =
     codes "<title>row " ++ (decimal r.row ++ (codes ": cost " ++ (decimal r.cost
     ++ (codes ", cycles " ++ (decimal r.cycles ++ codes "</title></circle>")))))
 
--- a row's point
-unfoldable pub circle : Axes → ℕ → FrontRow → List ℕ
-circle axes radius r = circle_at (point_of axes r) radius ++ row_title r
+-- a row's point, given the rows on the hull
+unfoldable pub circle : Axes → ℕ → List FrontRow → FrontRow → List ℕ
+circle axes radius hull r = circle_at (point_of axes r) radius (is_on hull r.row) ++ row_title r
 
 -- the same on a line
-unfoldable pub circle_line : Axes → ℕ → FrontRow → List ℕ
-circle_line axes radius r = circle axes radius r ++ codes "\n"
+unfoldable pub circle_line : Axes → ℕ → List FrontRow → FrontRow → List ℕ
+circle_line axes radius hull r = circle axes radius hull r ++ codes "\n"
 
 -- a row's number is shown beside its point unless it would overlap the last one
 abbrev pub has_room : Option Named → Point → Bool
@@ -162,19 +168,19 @@ scales_text axes =
     ++ (marks_of axes CostNumber ++ (cost_label ++ (end_anchor ++ (marks_of axes CyclesNumber ++ cycles_label))))
 
 -- the staircase as a line, the points, and their rows' numbers
-unfoldable pub rows_text : Axes → List ℕ → List FrontRow → List ℕ
-rows_text axes stairs rows =
+unfoldable pub rows_text : Axes → List ℕ → List FrontRow → List FrontRow → List ℕ
+rows_text axes stairs hull rows =
     codes "<path d=\"" ++ (stairs ++ (codes "\" fill=\"none\" stroke=\"#1f5fa8\" stroke-width=\"2\"/>\n"
-    ++ (codes "<g fill=\"#1f5fa8\">\n" ++ (flat_map (circle_line axes (radius_of (length rows))) rows
+    ++ (codes "<g fill=\"#1f5fa8\">\n" ++ (flat_map (circle_line axes (radius_of (length rows)) hull) rows
     ++ (codes "</g>\n<g font-size=\"11\">\n" ++ (numbers_of axes None rows ++ codes "</g>\n</svg>\n"))))))
 
--- the picture of these rows, out of `all`
+-- the picture of a front, out of `all` rows
 unfoldable pub picture_of_rows : ℕ → List FrontRow → List ℕ
 picture_of_rows all rows =
     let axes = axes_of rows in
     let stairs = staircase axes rows in
     size_text ++ (sheet (title_of (length rows) all) ++ (shade stairs
-    ++ (lines_text axes ++ (scales_text axes ++ rows_text axes stairs rows))))
+    ++ (lines_text axes ++ (scales_text axes ++ rows_text axes stairs (hull_of rows) rows))))
 
 -- the picture of a study's front
 abbrev pub front_picture_of : DesignSpace → List ℕ

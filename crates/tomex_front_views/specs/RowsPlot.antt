@@ -1,5 +1,6 @@
 -- The picture of a study's front over all of its rows.
 use Rattle.std.specs.Prelude.{ℕ, List, ◌++◌, length}
+use Rattle.tomex_pareto.specs.Hull.{hull_of}
 use Rattle.tomex_pareto.specs.declared.front_row.FrontRow.{FrontRow}
 use Rattle.tomex_study.specs.StudyFront.{front_of_study}
 use Rattle.tomex_study.specs.Study.{DesignSpace}
@@ -15,7 +16,7 @@ picture_over all rows front =
     let axes = axes_of rows in
     let stairs = staircase axes front in
     size_text ++ (sheet (title_of (length front) all) ++ (shade stairs ++ (lines_text axes ++ (scales_text axes
-    ++ (dots_line axes rows ++ rows_text axes stairs front)))))
+    ++ (dots_line axes rows ++ rows_text axes stairs (hull_of front) front)))))
 
 -- that of a study's front
 abbrev pub rows_picture_of : DesignSpace → List ℕ

@@ -17,3 +17,4 @@ pub use plot::linked::{push_link_start, push_linked_picture};
 pub use plot::over_rows::rows_picture;
 pub use row_name::{RowError, RowName, row_named};
 pub use table::front::{front_table, hull_table};
+pub use table::rate::rate_after;

@@ -20,7 +20,7 @@ use points::{push_circles, push_numbers};
 use stairs::push_staircase;
 use std::alloc::{AllocError, Allocator, Global};
 use std::fmt::Write;
-use tomex_pareto::FrontRow;
+use tomex_pareto::{FrontRow, hull};
 use tomex_study::Surveyed;
 
 fn push<A: Allocator>(text: &mut String<A>, piece: &str) -> Result<(), AllocError>
@@ -111,16 +111,17 @@ fn push_rows<A: Allocator>(
     heap: Global,
     axes: &Axes,
     stairs: &str,
+    hull: &[FrontRow],
     rows: &[FrontRow],
 ) -> Result<(), AllocError>
-    ensures { OnOk result (Appends (rows_text axes.now stairs.now rows.now) text.old text.new) }
+    ensures { OnOk result (Appends (rows_text axes.now stairs.now hull.now rows.now) text.old text.new) }
 {
     write!(
         text,
         "<path d=\"{stairs}\" fill=\"none\" stroke=\"#1f5fa8\" stroke-width=\"2\"/>\n"
     )?;
     text.push_str("<g fill=\"#1f5fa8\">\n")?;
-    push_circles(text, axes, rows)?;
+    push_circles(text, axes, hull, rows)?;
     text.push_str("</g>\n<g font-size=\"11\">\n")?;
     push_numbers(text, heap, axes, rows)?;
     text.push_str("</g>\n</svg>\n")?;
@@ -134,7 +135,7 @@ fn title_of(heap: Global, rows: usize, all: usize) -> Result<String, AllocError>
     format!(in heap; "front: {rows} of {all} rows")
 }
 
-/// The picture of these rows, out of `all`.
+/// The picture of a front, out of `all` rows.
 #[tactic(auto, unfolding(crate::specs::Plot::picture_of_rows))]
 fn picture_of_rows<A: Allocator>(
     alloc: A,
@@ -145,6 +146,7 @@ fn picture_of_rows<A: Allocator>(
     ensures { IfOk result (λ text. text.items ≡ picture_of_rows all rows.now) }
 {
     let axes = axes_of(rows);
+    let hull = hull(heap, rows)?;
     let title = title_of(heap, rows.len(), all)?;
     let mut stairs = String::new(heap);
     push_staircase(&mut stairs, &axes, rows)?;
@@ -154,12 +156,19 @@ fn picture_of_rows<A: Allocator>(
     push_shade(&mut text, stairs.as_str())?;
     push_lines(&mut text, &axes)?;
     push_scales(&mut text, &axes)?;
-    push_rows(&mut text, heap, &axes, stairs.as_str(), rows)?;
+    push_rows(
+        &mut text,
+        heap,
+        &axes,
+        stairs.as_str(),
+        hull.as_slice(),
+        rows,
+    )?;
     Ok(text.into_bytes())
 }
 
 /// The front of a study as a picture in SVG, 720 by 440 points: cost from left to right, cycles
-/// from bottom to top, a circle for each row, and a staircase through them. It uses no external
+/// from bottom to top, a circle for each row, filled if the row is on the hull, and a staircase through them. It uses no external
 /// script, style sheet or font.
 ///
 /// Small values are allocated in `heap`.

@@ -2,6 +2,7 @@
 use Rattle.std.proofs.Common.{◌++◌, List, ℕ, length, sym, ap}
 use Rattle.std.proofs.lemmas.List.{append_assoc}
 use Rattle.tomex_html.specs.Html.{page_end}
+use Rattle.tomex_pareto.specs.Hull.{hull_of}
 use Rattle.tomex_study.specs.StudyFront.{front_of_study}
 use Rattle.tomex_page_tables.specs.Shown.{shown_rows}
 use Rattle.tomex_page_rows.specs.Additions.{choices_table}
@@ -13,13 +14,14 @@ pub choices_are_added : ChoicesAreAdded
 unfolding page_of page_over page_rest asked_choices asked_help
 choices_are_added name s =
     let front = front_of_study s in
+    let hull = hull_of front in
     let shown = shown_rows front in
     record {
-      before = page_start_of name s (length front) shown;
-      between = views_text s shown ++ page_help;
+      before = page_start_of name s (length front) hull shown;
+      between = views_text s hull shown ++ page_help;
       after = commands_help ++ page_end;
-      page = ap (λ (z : List ℕ). page_start_of name s (length front) shown ++ z)
-          (sym (append_assoc (views_text s shown) page_help (commands_help ++ page_end)));
-      with_choices = ap (λ (z : List ℕ). page_start_of name s (length front) shown ++ (choices_table s ++ z))
-          (sym (append_assoc (views_text s shown) page_help (choices_help ++ (commands_help ++ page_end))));
+      page = ap (λ (z : List ℕ). page_start_of name s (length front) hull shown ++ z)
+          (sym (append_assoc (views_text s hull shown) page_help (commands_help ++ page_end)));
+      with_choices = ap (λ (z : List ℕ). page_start_of name s (length front) hull shown ++ (choices_table s ++ z))
+          (sym (append_assoc (views_text s hull shown) page_help (choices_help ++ (commands_help ++ page_end))));
     }

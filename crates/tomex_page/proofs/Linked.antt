@@ -25,10 +25,10 @@ use Rattle.tomex_page.specs.Page.{number_before, number_of, row_section, view_at
 use Rattle.tomex_page.proofs.ShownRows.{place_within}
 
 pub sections_are_views : SectionsAreViews
-sections_are_views s shown [] before = refl
-sections_are_views s shown (r ∷ rows) before =
-    ap (λ (z : List ℕ). row_section s shown (view_at s before r rows) ++ z)
-    (sections_are_views s shown rows (Some (row_of s r)))
+sections_are_views s hull shown [] before = refl
+sections_are_views s hull shown (r ∷ rows) before =
+    ap (λ (z : List ℕ). row_section s hull shown (view_at s before r rows) ++ z)
+    (sections_are_views s hull shown rows (Some (row_of s r)))
 
 pub views_are_of_rows : ViewsAreOfRows
 views_are_of_rows s before [] = refl
@@ -101,7 +101,7 @@ same_row (q ∷ rows) a b far (inr x) (inl y) same =
     absurd (all_has (λ r. q.row ≢ r.row) rows a far.0 x (ap (λ (r : FrontRow). r.row) y ∙ sym same))
 same_row (q ∷ rows) a b far (inr x) (inr y) same = same_row rows a b far.1 x y same
 
-never_before : (a : FrontRow) → ComesBefore a a → ⊥
+pub never_before : (a : FrontRow) → ComesBefore a a → ⊥
 never_before a h = grind (arith, nat_tests)
 
 -- so the rows of its front are apart

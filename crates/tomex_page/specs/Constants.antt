@@ -21,7 +21,10 @@ page_css =
     ++ (codes "svg path[stroke=\"#1f5fa8\"]{stroke:var(--link)}\n"
     ++ (codes "svg path[stroke=\"#a9b8c9\"]{stroke:var(--dot)}\n"
     ++ (codes "svg g[fill=\"#1f5fa8\"]{fill:var(--link)}\n"
+    ++ (codes "svg a{fill:var(--link)}\n"
+    ++ (codes "svg circle[fill]{fill:var(--page);stroke:var(--link)}\n"
     ++ (codes "svg a:hover circle,svg a:focus-visible circle{stroke:var(--ink);stroke-width:3}\n"
+    ++ (codes "#front tr:not(.h)>td:not(.n){color:var(--soft)}\n"
     ++ (codes "section{padding-top:1rem;border-top:1px solid var(--line)}\n"
     ++ (codes "section :target{scroll-margin-top:3rem}\n"
     ++ (codes "section>p,.l{grid-column:1/-1}\n"
@@ -39,8 +42,9 @@ page_css =
     ++ (codes "@media print,(min-width:76rem){.c{grid-template-columns:45rem 1fr}section{grid-template-columns:"
     ++ (codes "auto auto 1fr;column-gap:4rem}}\n"
     ++ (codes "@media screen and (max-width:48rem){body{padding:.7rem .7rem 2rem}th,td{padding:.15rem .3rem}}\n"
+    ++ (codes "@media print{section:not(.h){display:none}}\n"
     ++ (codes "@media print{section{break-inside:auto;break-before:page}."
-    ++ codes "w,details{break-inside:avoid}}\n")))))))))))))))))))))))))))))))))))
+    ++ codes "w,details{break-inside:avoid}}\n")))))))))))))))))))))))))))))))))))))))
 
 -- the explanation of the page
 unfoldable pub page_help : List ℕ
@@ -48,11 +52,15 @@ page_help =
     codes "<footer><h2>How to read this</h2>\n"
     ++ (codes "<p>A row is a configuration, by its number. It is on the front if no other one costs as much or "
     ++ (codes "less and takes as many cycles or fewer, and is better in one of the two. Dots are rows that "
-    ++ (codes "aren't. A point of the picture, or a row's number, leads to the row; there, follow <i>next</i> "
-    ++ (codes "once, then Enter goes on.</p>\n"
+    ++ (codes "aren't. A row of the front is a step worth taking if no mix of a cheaper and a dearer one beats "
+    ++ (codes "it: these are filled points, and have a rate in the table, the cycles that each unit of cost "
+    ++ (codes "saves from the one of them before. Hollow points are the others; printed, they have no page of "
+    ++ (codes "their own. A point of the picture, or a row's number, leads to the row; there, follow "
+    ++ (codes "<i>next</i> once, then Enter goes on.</p>\n"
     ++ (codes "<p>A unit option is written units@latency. Without the choices on no front row the front is the "
-    ++ (codes "same. Rate: of two rows that are a trade, cycles for each unit of cost. A price stays within "
-    ++ (codes "A..B: with any value from A to B, all other prices as stated, the row is on the front.</p>\n"
+    ++ (codes "same. Rate of a part changed: of two rows that are a trade, cycles for each unit of cost. A "
+    ++ (codes "price stays within A..B: with any value from A to B, all other prices as stated, the row is on "
+    ++ (codes "the front.</p>\n"
     ++ (codes "<p>A cycle in which an instruction waits counts once, for the first thing that is wanting. "
     ++ (codes "Before its issue: an older branch, the issue width, a station. In its station: an operand, its "
     ++ (codes "address, an older access to its bytes, a unit, at last a bus. Drain is the time after the last "
@@ -63,7 +71,7 @@ page_help =
     ++ (codes "which stand out in its bar: for so long the instructions of the run's critical path had waited "
     ++ (codes "for it. That foretells well what one more of it saves; it is no bound.</p>\n"
     ++ (codes "<p>In charts an instruction issues (I), computes its address (A), is in its unit (E), has its "
-    ++ codes "result on a bus (W), waits for a bus (-) or for anything else (=).</p>\n")))))))))))))))))
+    ++ codes "result on a bus (W), waits for a bus (-) or for anything else (=).</p>\n")))))))))))))))))))))
 
 -- that of the choices which the lists lack
 unfoldable pub choices_help : List ℕ

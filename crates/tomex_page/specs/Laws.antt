@@ -5,6 +5,9 @@ use Rattle.std.specs.List.{Contains, flat_map}
 use Rattle.std.specs.Option.{ForSome}
 use Rattle.tomex_config.specs.Configuration.{Configuration, IsWithinLimits}
 use Rattle.tomex_html.specs.declared.links.Links.{Links}
+use Rattle.tomex_front_views.specs.FrontTable.{rates_after}
+use Rattle.tomex_page_tables.specs.Front.{rate_in}
+use Rattle.tomex_pareto.specs.Hull.{hull_of}
 use Rattle.tomex_pareto.specs.declared.front_row.FrontRow.{FrontRow}
 use Rattle.tomex_study.specs.StudyFront.{front_of_study}
 use Rattle.tomex_study.specs.Program.{Workload}
@@ -68,8 +71,8 @@ views_of s before (r ∷ rows) = view_at s before r rows ∷ views_of s (Some (r
 
 -- the sections of a page are a view for each row that is shown, in their order
 abbrev pub SectionsAreViews : Type 0
-SectionsAreViews = (s : DesignSpace) (shown rows : List FrontRow) (before : Option ShownRow)
-    → row_sections s shown before rows ≡ flat_map (row_section s shown) (views_of s before rows)
+SectionsAreViews = (s : DesignSpace) (hull shown rows : List FrontRow) (before : Option ShownRow)
+    → row_sections s hull shown before rows ≡ flat_map (row_section s hull shown) (views_of s before rows)
 
 abbrev pub ViewsAreOfRows : Type 0
 ViewsAreOfRows = (s : DesignSpace) (before : Option ShownRow) (rows : List FrontRow)
@@ -93,6 +96,15 @@ pub record LeadsOn (shown : List FrontRow) (l : Links) : Type 0 where
 abbrev pub LinksLeadToViews : Type 0
 LinksLeadToViews = (s : DesignSpace) (shown : List FrontRow)
     → All (λ v. LeadsOn shown (view_of shown v)) (views_of s None shown)
+
+-- the rates in the table of the front are those that `front --hull` prints, each in the row of its number
+abbrev pub RatesAreTheHulls : Type 0
+RatesAreTheHulls = (s : DesignSpace) → let hull = hull_of (front_of_study s) in
+    map (λ (r : FrontRow). rate_in None hull r.row) hull ≡ rates_after None hull
+
+-- no other row has one
+abbrev pub OthersHaveNoRate : Type 0
+OthersHaveNoRate = (rows : List FrontRow) (n : ℕ) → is_on rows n ≡ false → rate_in None rows n ≡ []
 
 -- no two of these rows have one number
 abbrev pub AreApart : List FrontRow → Type 0

@@ -6,6 +6,7 @@ use Rattle.std.specs.List.{flat_map}
 use Rattle.tomex_config.specs.Configuration.{Configuration}
 use Rattle.tomex_html.specs.Html.{html_name, links, page_end, page_start}
 use Rattle.tomex_html.specs.declared.links.Links.{Links}
+use Rattle.tomex_pareto.specs.Hull.{hull_of}
 use Rattle.tomex_pareto.specs.declared.front_row.FrontRow.{FrontRow}
 use Rattle.tomex_study.specs.StudyFront.{front_of_study}
 use Rattle.tomex_study.specs.Program.{Workload}
@@ -18,7 +19,8 @@ use Rattle.tomex_page_rows.specs.Additions.{choices_table}
 use Rattle.tomex_page_rows.specs.Changed.{changes_table}
 use Rattle.tomex_page.specs.Charts.{chart_of, first_steps}
 use Rattle.tomex_page.specs.Constants.{choices_help, commands_help, page_css, page_help}
-use Rattle.tomex_page_tables.specs.Front.{front_table}
+use Rattle.tomex_page_tables.specs.Front.{front_table, hull_mark}
+use Rattle.tomex_page_tables.specs.Steps.{steps_sentence}
 use Rattle.tomex_page_rows.specs.Parts.{against, parts_table}
 use Rattle.tomex_page.specs.Runs.{floor_on, needs_on, path_on}
 use Rattle.tomex_page_tables.specs.Shown.{most_rows, no_row, row_of, shown_rows}
@@ -37,11 +39,12 @@ run_block config p =
     codes "<div>\n" ++ (run_stalls config p
     ++ (chart_of p.name (first_steps (steps_of p) (times_in config (steps_of p))) ++ codes "</div>\n"))
 
-unfoldable pub section_start : FrontRow → List ℕ
-section_start r =
-    codes "<section id=\"r" ++ (decimal r.row ++ (codes "\">\n<header><h2>Row " ++ (decimal r.row
-    ++ (codes " <small>cost " ++ (decimal r.cost ++ (codes ", " ++ (decimal r.cycles
-    ++ codes " cycles</small></h2>\n")))))))
+-- the start of a row's view; those of rows on the hull have a mark
+unfoldable pub section_start : List FrontRow → FrontRow → List ℕ
+section_start hull r =
+    codes "<section id=\"r" ++ (decimal r.row ++ (codes "\"" ++ (hull_mark hull r.row
+    ++ (codes ">\n<header><h2>Row " ++ (decimal r.row ++ (codes " <small>cost " ++ (decimal r.cost
+    ++ (codes ", " ++ (decimal r.cycles ++ codes " cycles</small></h2>\n")))))))))
 
 abbrev pub number_of : FrontRow → ℕ
 number_of r = r.row
@@ -60,8 +63,8 @@ view_of shown v = record {
 }
 
 -- the header of a row's view
-unfoldable pub section_head : List FrontRow → View → List ℕ
-section_head shown v = section_start v.here.row ++ (links (view_of shown v) ++ codes "</header>\n")
+unfoldable pub section_head : List FrontRow → List FrontRow → View → List ℕ
+section_head hull shown v = section_start hull v.here.row ++ (links (view_of shown v) ++ codes "</header>\n")
 
 -- the tables of a row
 unfoldable pub section_tables : DesignSpace → List FrontRow → View → List ℕ
@@ -75,18 +78,18 @@ section_runs programs config =
     codes "<div class=\"l\">\n" ++ (flat_map (run_block config) programs ++ codes "</div>\n</section>\n")
 
 -- a row's view
-unfoldable pub row_section : DesignSpace → List FrontRow → View → List ℕ
-row_section s shown v =
-    section_head shown v ++ (section_tables s shown v ++ section_runs s.programs v.here.config)
+unfoldable pub row_section : DesignSpace → List FrontRow → List FrontRow → View → List ℕ
+row_section s hull shown v =
+    section_head hull shown v ++ (section_tables s shown v ++ section_runs s.programs v.here.config)
 
 abbrev pub view_at : DesignSpace → Option ShownRow → FrontRow → List FrontRow → View
 view_at s before r rows = record { before = before; here = row_of s r; after = slice_get rows 0 }
 
 -- the views of the rows after one, if there is one
-abbrev pub row_sections : DesignSpace → List FrontRow → Option ShownRow → List FrontRow → List ℕ
-row_sections s shown before [] = []
-row_sections s shown before (r ∷ rows) =
-    row_section s shown (view_at s before r rows) ++ row_sections s shown (Some (row_of s r)) rows
+abbrev pub row_sections : DesignSpace → List FrontRow → List FrontRow → Option ShownRow → List FrontRow → List ℕ
+row_sections s hull shown before [] = []
+row_sections s hull shown before (r ∷ rows) =
+    row_section s hull shown (view_at s before r rows) ++ row_sections s hull shown (Some (row_of s r)) rows
 
 -- the rows of the front that aren't shown
 unfoldable pub all_in_picture : ℕ → List ℕ
@@ -107,15 +110,21 @@ unfoldable pub title_of : List ℕ → ℕ → ℕ → List ℕ
 title_of name front rows = html_name name ++ counts_text front rows
 
 -- the study's name may have any characters; its element isolates its direction from the rest of the page
-unfoldable pub page_head : List ℕ → ℕ → ℕ → List ℕ
-page_head name front rows =
+unfoldable pub page_name : List ℕ → ℕ → ℕ → List ℕ
+page_name name front rows =
     page_start (title_of name front rows) page_css ++ (codes "<header><h1><bdi>" ++ (html_name name
-    ++ (codes "</bdi>" ++ (counts_text front rows ++ codes "</h1></header>\n<main>\n<div class=\"c\">\n"))))
+    ++ (codes "</bdi>" ++ (counts_text front rows ++ codes "</h1>\n"))))
+
+-- with the rows that are worth taking
+unfoldable pub page_head : List ℕ → ℕ → ℕ → List FrontRow → List FrontRow → List ℕ
+page_head name front rows hull shown =
+    page_name name front rows
+    ++ (steps_sentence hull front shown ++ codes "</header>\n<main>\n<div class=\"c\">\n")
 
 -- the picture next to what was asked, and how far the fastest row is from what no machine goes below
-unfoldable pub overview : DesignSpace → List FrontRow → List ℕ
-overview s shown =
-    codes "<div class=\"w\">" ++ (linked_picture_of s shown ++ (codes "</div>\n<div>\n"
+unfoldable pub overview : DesignSpace → List FrontRow → List FrontRow → List ℕ
+overview s hull shown =
+    codes "<div class=\"w\">" ++ (linked_picture_of s hull shown ++ (codes "</div>\n<div>\n"
     ++ (programs_table s ++ (lists_table s ++ (floor_sentence s ++ codes "</div>\n</div>\n")))))
 
 -- if it was asked for, what choices that the lists lack would bring
@@ -128,23 +137,27 @@ asked_help true = choices_help
 asked_help false = []
 
 -- the views of the rows that are shown
-unfoldable pub views_text : DesignSpace → List FrontRow → List ℕ
-views_text s shown =
-    codes "<div class=\"v\">\n" ++ (row_sections s shown None shown ++ codes "</div>\n</main>\n")
+unfoldable pub views_text : DesignSpace → List FrontRow → List FrontRow → List ℕ
+views_text s hull shown =
+    codes "<div class=\"v\">\n" ++ (row_sections s hull shown None shown ++ codes "</div>\n</main>\n")
 
 -- what comes before the choices that the lists lack, and what comes after them
-unfoldable pub page_start_of : List ℕ → DesignSpace → ℕ → List FrontRow → List ℕ
-page_start_of name s front shown =
-    page_head name front (length s.rows) ++ (overview s shown ++ (left_out front ++ front_table s shown))
+unfoldable pub page_start_of : List ℕ → DesignSpace → ℕ → List FrontRow → List FrontRow → List ℕ
+page_start_of name s front hull shown =
+    page_head name front (length s.rows) hull shown ++ (overview s hull shown
+    ++ (left_out front ++ front_table s hull shown))
 
-unfoldable pub page_rest : DesignSpace → List FrontRow → Bool → List ℕ
-page_rest s shown asked =
-    views_text s shown ++ (page_help ++ (asked_help asked ++ (commands_help ++ page_end)))
+unfoldable pub page_rest : DesignSpace → List FrontRow → List FrontRow → Bool → List ℕ
+page_rest s hull shown asked =
+    views_text s hull shown ++ (page_help ++ (asked_help asked ++ (commands_help ++ page_end)))
 
-unfoldable pub page_over : List ℕ → DesignSpace → List FrontRow → List FrontRow → Bool → List ℕ
-page_over name s front shown asked =
-    page_start_of name s (length front) shown ++ (asked_choices asked s ++ page_rest s shown asked)
+-- given the front, and of its rows those on its hull and those that are shown
+unfoldable pub page_over : List ℕ → DesignSpace → List FrontRow → List FrontRow → List FrontRow → Bool → List ℕ
+page_over name s front hull shown asked =
+    page_start_of name s (length front) hull shown ++ (asked_choices asked s ++ page_rest s hull shown asked)
 
 -- the page of a study with this name; if that was asked for, with what choices that the lists lack would bring
 unfoldable pub page_of : Bool → List ℕ → DesignSpace → List ℕ
-page_of asked name s = page_over name s (front_of_study s) (shown_rows (front_of_study s)) asked
+page_of asked name s =
+    let front = front_of_study s in
+    page_over name s front (hull_of front) (shown_rows front) asked

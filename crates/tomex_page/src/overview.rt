@@ -2,7 +2,8 @@
 
 ghost use Rattle.std.specs.Prelude.{◌≡◌, IfOk, OnOk, string_bytes};
 ghost use Rattle.tomex_layout.specs.Growth.{Appends};
-ghost use Rattle.tomex_page.specs.Page.{all_in_picture, counts_text, left_out, overview, page_head, title_of};
+ghost use Rattle.tomex_page.specs.Page.{all_in_picture, counts_text, left_out, overview, page_head, page_name};
+ghost use Rattle.tomex_page.specs.Page.{title_of};
 
 use crate::constants::page_css;
 use std::alloc::{AllocError, Allocator, Global};
@@ -10,7 +11,7 @@ use std::fmt::Write;
 use tomex_front_views::push_linked_picture;
 use tomex_html::{push_name, push_page_start};
 use tomex_page_rows::{push_floor_sentence, push_lists_table};
-use tomex_page_tables::{MOST_ROWS, push_programs_table};
+use tomex_page_tables::{MOST_ROWS, push_programs_table, push_steps_sentence};
 use tomex_pareto::FrontRow;
 use tomex_study::Surveyed;
 
@@ -37,16 +38,16 @@ fn title_of(heap: Global, name: &str, front: usize, rows: usize) -> Result<Strin
     Ok(title)
 }
 
-/// Adds the start of the page, up to the picture.
-#[tactic(auto, unfolding(crate::specs::Page::page_head))]
-pub fn push_page_head<A: Allocator>(
+/// Adds the start of the page, up to its name.
+#[tactic(auto, unfolding(crate::specs::Page::page_name))]
+fn push_page_name<A: Allocator>(
     text: &mut String<A>,
     heap: Global,
     name: &str,
     front: usize,
     rows: usize,
 ) -> Result<(), AllocError>
-    ensures { OnOk result (Appends (page_head name.now front rows) text.old text.new) }
+    ensures { OnOk result (Appends (page_name name.now front rows) text.old text.new) }
 {
     let title = title_of(heap, name, front, rows)?;
     push_page_start(text, title.as_str(), page_css())?;
@@ -54,25 +55,45 @@ pub fn push_page_head<A: Allocator>(
     push_name(text, name)?;
     text.push_str("</bdi>")?;
     push_counts(text, front, rows)?;
-    write!(text, "</h1></header>\n<main>\n<div class=\"c\">\n")
+    write!(text, "</h1>\n")
+}
+
+/// Adds the start of the page, up to the picture: its name, and which of the front's rows, `front` in number, are worth
+/// taking.
+#[tactic(auto, unfolding(crate::specs::Page::page_head))]
+pub fn push_page_head<A: Allocator>(
+    text: &mut String<A>,
+    heap: Global,
+    name: &str,
+    front: usize,
+    rows: usize,
+    hull: &[FrontRow],
+    shown: &[FrontRow],
+) -> Result<(), AllocError>
+    ensures { OnOk result (Appends (page_head name.now front rows hull.now shown.now) text.old text.new) }
+{
+    push_page_name(text, heap, name, front, rows)?;
+    push_steps_sentence(text, hull, front, shown)?;
+    write!(text, "</header>\n<main>\n<div class=\"c\">\n")
 }
 
 /// Adds the picture of all rows next to what was asked, and how far the fastest row is from the study's floors.
 ///
-/// `shown` are the rows of the front that are shown.
+/// `hull` are the rows of the front that are on its hull, `shown` those that are shown.
 #[tactic(auto, unfolding(crate::specs::Page::overview))]
 pub fn push_overview<A: Allocator + Clone>(
     text: &mut String<A>,
     alloc: &A,
     heap: Global,
     surveyed: &Surveyed<'_, A>,
+    hull: &[FrontRow],
     shown: &[FrontRow],
 ) -> Result<(), AllocError>
-    ensures { OnOk result (Appends (overview surveyed.now shown.now) text.old text.new) }
+    ensures { OnOk result (Appends (overview surveyed.now hull.now shown.now) text.old text.new) }
 {
     let study = surveyed.study();
     text.push_str("<div class=\"w\">")?;
-    push_linked_picture(text, alloc.clone()?, heap, surveyed, shown)?;
+    push_linked_picture(text, alloc.clone()?, heap, surveyed, hull, shown)?;
     text.push_str("</div>\n<div>\n")?;
     push_programs_table(text, study)?;
     push_lists_table(text, heap, surveyed)?;

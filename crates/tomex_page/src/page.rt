@@ -17,7 +17,7 @@ use tomex_choices::WeighedChoices;
 use tomex_html::push_page_end;
 use tomex_page_rows::{PriceBook, push_choices_table};
 use tomex_page_tables::{push_front_table, shown_rows};
-use tomex_pareto::FrontRow;
+use tomex_pareto::{FrontRow, hull};
 use tomex_study::Surveyed;
 use tomex_survey::all_floored;
 
@@ -28,16 +28,26 @@ fn push_views<A: Allocator, B: Allocator + Clone>(
     alloc: &B,
     heap: Global,
     surveyed: &Surveyed<'_, B>,
+    hull: &[FrontRow],
     shown: &[FrontRow],
 ) -> Result<(), AllocError>
     requires shown { All (Contains (front_of_study surveyed.now)) shown.now }
     requires within { All (λ r. r.row < length surveyed.now.rows) shown.now }
-    ensures { OnOk result (Appends (views_text surveyed.now shown.now) text.old text.new) }
+    ensures { OnOk result (Appends (views_text surveyed.now hull.now shown.now) text.old text.new) }
 {
     let book = PriceBook::new(heap, surveyed, shown)?;
     let mut programs = all_floored(alloc.clone()?, surveyed.study().programs())?;
     text.push_str("<div class=\"v\">\n")?;
-    push_sections(text, alloc, heap, surveyed, &mut programs, &book, shown)?;
+    push_sections(
+        text,
+        alloc,
+        heap,
+        surveyed,
+        &mut programs,
+        &book,
+        hull,
+        shown,
+    )?;
     write!(text, "</div>\n</main>\n")
 }
 
@@ -60,17 +70,18 @@ fn push_start<A: Allocator + Clone>(
     heap: Global,
     name: &str,
     surveyed: &Surveyed<'_, A>,
+    hull: &[FrontRow],
     shown: &[FrontRow],
 ) -> Result<(), AllocError>
     requires { All (λ r. r.row < length surveyed.now.rows) shown.now }
-    ensures { OnOk result (Appends
-        (page_start_of name.now surveyed.now (length (front_of_study surveyed.now)) shown.now) text.old text.new) }
+    ensures { OnOk result (Appends (page_start_of name.now surveyed.now (length (front_of_study surveyed.now))
+        hull.now shown.now) text.old text.new) }
 {
     let (front, rows) = (surveyed.front().len(), surveyed.rows().len());
-    push_page_head(text, heap, name, front, rows)?;
-    push_overview(text, alloc, heap, surveyed, shown)?;
+    push_page_head(text, heap, name, front, rows, hull, shown)?;
+    push_overview(text, alloc, heap, surveyed, hull, shown)?;
     push_left_out(text, front)?;
-    push_front_table(text, heap, surveyed, shown)
+    push_front_table(text, heap, surveyed, hull, shown)
 }
 
 /// Adds the page from the views on.
@@ -80,21 +91,23 @@ fn push_rest<A: Allocator, B: Allocator + Clone>(
     alloc: &B,
     heap: Global,
     surveyed: &Surveyed<'_, B>,
+    hull: &[FrontRow],
     shown: &[FrontRow],
     asked: bool,
 ) -> Result<(), AllocError>
     requires shown { All (Contains (front_of_study surveyed.now)) shown.now }
     requires within { All (λ r. r.row < length surveyed.now.rows) shown.now }
-    ensures { OnOk result (Appends (page_rest surveyed.now shown.now asked) text.old text.new) }
+    ensures { OnOk result (Appends (page_rest surveyed.now hull.now shown.now asked) text.old text.new) }
 {
-    push_views(text, alloc, heap, surveyed, shown)?;
+    push_views(text, alloc, heap, surveyed, hull, shown)?;
     text.push_str(page_help())?;
     push_asked_help(text, asked)?;
     text.push_str(commands_help())?;
     push_page_end(text)
 }
 
-/// Adds the page of a study with this name and these rows of its front. `choices` is what choices that the lists lack
+/// Adds the page of a study with this name, given of the rows of its front those on the hull and those that are shown.
+/// `choices` is what choices that the lists lack
 /// would bring, if that was asked for, and else is empty.
 #[tactic(auto, unfolding(crate::specs::Page::page_over))]
 fn push_page<A: Allocator + Clone>(
@@ -103,6 +116,7 @@ fn push_page<A: Allocator + Clone>(
     heap: Global,
     name: &str,
     surveyed: &Surveyed<'_, A>,
+    hull: &[FrontRow],
     shown: &[FrontRow],
     choices: &str,
     asked: bool,
@@ -111,11 +125,12 @@ fn push_page<A: Allocator + Clone>(
     requires within { All (λ r. r.row < length surveyed.now.rows) shown.now }
     requires choices { choices.now ≡ asked_choices asked surveyed.now }
     ensures { OnOk result (Appends
-        (page_over name.now surveyed.now (front_of_study surveyed.now) shown.now asked) text.old text.new) }
+        (page_over name.now surveyed.now (front_of_study surveyed.now) hull.now shown.now asked)
+        text.old text.new) }
 {
-    push_start(text, alloc, heap, name, surveyed, shown)?;
+    push_start(text, alloc, heap, name, surveyed, hull, shown)?;
     text.push_str(choices)?;
-    push_rest(text, alloc, heap, surveyed, shown, asked)
+    push_rest(text, alloc, heap, surveyed, hull, shown, asked)
 }
 
 /// The page of a study with this name, with or without what choices that the lists lack would bring.
@@ -130,11 +145,19 @@ fn whole_page<A: Allocator + Clone>(
     requires { choices.now ≡ asked_choices asked surveyed.now }
     ensures { IfOk result (λ text. text.items ≡ page_of asked name.now surveyed.now) }
 {
+    let hull = hull(heap, surveyed.front())?;
     let shown = shown_rows(heap, surveyed.front())?;
-    let rows = shown.as_slice();
     let mut text = String::new(alloc.clone()?);
     push_page(
-        &mut text, &alloc, heap, name, surveyed, rows, choices, asked,
+        &mut text,
+        &alloc,
+        heap,
+        name,
+        surveyed,
+        hull.as_slice(),
+        shown.as_slice(),
+        choices,
+        asked,
     )?;
     Ok(text.into_bytes())
 }

@@ -16,7 +16,7 @@ use tomex_html::{Links, push_links};
 use tomex_page_rows::{
     PriceBook, push_against, push_changes_table, push_parts_table, push_prices_table,
 };
-use tomex_page_tables::{ShownRow, row_of};
+use tomex_page_tables::{ShownRow, hull_mark, row_of};
 use tomex_pareto::FrontRow;
 use tomex_study::Surveyed;
 use tomex_survey::Floored;
@@ -31,13 +31,18 @@ pub struct View {
 
 /// Adds the start of a row's view.
 #[tactic(auto, unfolding(crate::specs::Page::section_start))]
-fn push_start<A: Allocator>(text: &mut String<A>, row: FrontRow) -> Result<(), AllocError>
-    ensures { OnOk result (Appends (section_start row) text.old text.new) }
+fn push_start<A: Allocator>(
+    text: &mut String<A>,
+    hull: &[FrontRow],
+    row: FrontRow,
+) -> Result<(), AllocError>
+    ensures { OnOk result (Appends (section_start hull.now row) text.old text.new) }
 {
     let FrontRow { row, cost, cycles } = row;
+    let mark = hull_mark(hull, row);
     write!(
         text,
-        "<section id=\"r{row}\">\n<header><h2>Row {row} <small>cost {cost}, {cycles} cycles</small></h2>\n"
+        "<section id=\"r{row}\"{mark}>\n<header><h2>Row {row} <small>cost {cost}, {cycles} cycles</small></h2>\n"
     )
 }
 
@@ -69,13 +74,14 @@ fn links_of(shown: &[FrontRow], view: &View) -> Links
 #[tactic(auto, unfolding(crate::specs::Page::section_head))]
 fn push_head<A: Allocator>(
     text: &mut String<A>,
+    hull: &[FrontRow],
     shown: &[FrontRow],
     view: &View,
 ) -> Result<(), AllocError>
     requires { 0 < length shown.now }
-    ensures { OnOk result (Appends (section_head shown.now view.now) text.old text.new) }
+    ensures { OnOk result (Appends (section_head hull.now shown.now view.now) text.old text.new) }
 {
-    push_start(text, view.here.row)?;
+    push_start(text, hull, view.here.row)?;
     push_links(text, links_of(shown, view))?;
     write!(text, "</header>\n")
 }
@@ -129,6 +135,7 @@ fn push_section<A: Allocator, B: Allocator + Clone>(
     surveyed: &Surveyed<'_, B>,
     programs: &mut Vec<Floored<'_, B>, B>,
     book: &PriceBook,
+    hull: &[FrontRow],
     shown: &[FrontRow],
     place: usize,
     view: &View,
@@ -139,14 +146,14 @@ fn push_section<A: Allocator, B: Allocator + Clone>(
     requires within { All (λ r. r.row < length surveyed.now.rows) shown.now }
     requires here { view.now.here.row ≡ slice_index_or shown.now place no_row }
     ensures programs { programs.new.items ≡ programs.old.items }
-    ensures text { OnOk result (Appends (row_section surveyed.now shown.now view.now) text.old text.new) }
+    ensures text { OnOk result (Appends (row_section surveyed.now hull.now shown.now view.now) text.old text.new) }
 {
-    push_head(text, shown, view)?;
+    push_head(text, hull, shown, view)?;
     push_tables(text, heap, surveyed, book, shown, place, view)?;
     push_section_runs(text, alloc, heap, &view.here.config, programs)
 }
 
-/// Adds a view for each row that is shown. `programs` are the study's.
+/// Adds a view for each row that is shown. `programs` are the study's, and `hull` the rows on the front's hull.
 pub fn push_sections<A: Allocator, B: Allocator + Clone>(
     text: &mut String<A>,
     alloc: &B,
@@ -154,6 +161,7 @@ pub fn push_sections<A: Allocator, B: Allocator + Clone>(
     surveyed: &Surveyed<'_, B>,
     programs: &mut Vec<Floored<'_, B>, B>,
     book: &PriceBook,
+    hull: &[FrontRow],
     shown: &[FrontRow],
 ) -> Result<(), AllocError>
     requires programs { programs.old.items ≡ surveyed.now.programs }
@@ -161,7 +169,7 @@ pub fn push_sections<A: Allocator, B: Allocator + Clone>(
     requires within { All (λ r. r.row < length surveyed.now.rows) shown.now }
     ensures programs { programs.new.items ≡ programs.old.items }
     ensures text { OnOk result
-        (Appends (row_sections surveyed.now shown.now None shown.now) text.old text.new) }
+        (Appends (row_sections surveyed.now hull.now shown.now None shown.now) text.old text.new) }
 {
     let study = surveyed.study();
     let mut before = None;
@@ -172,7 +180,7 @@ pub fn push_sections<A: Allocator, B: Allocator + Clone>(
             after: shown.get(place + 1).copied(),
         };
         push_section(
-            text, alloc, heap, surveyed, programs, book, shown, place, &view,
+            text, alloc, heap, surveyed, programs, book, hull, shown, place, &view,
         )?;
         before = Some(row_of(study, *row));
     }

@@ -1,12 +1,10 @@
 -- The gain from changing one part, as `worth` gives it.
-use Rattle.std.specs.Prelude.{ℕ, if◌then◌else◌, List, [], ◌∷◌, ◌++◌, codes, length, take}
+use Rattle.std.specs.Prelude.{ℕ, List, [], ◌∷◌, ◌++◌, codes, length, take}
 use Rattle.std.specs.Fmt.{decimal}
 use Rattle.std.specs.List.{flat_map}
 use Rattle.tomex_html.specs.Html.{table_end, td}
-use Rattle.tomex_pareto.specs.Front.{is_on}
 use Rattle.tomex_pareto.specs.declared.front_row.FrontRow.{FrontRow}
 use Rattle.tomex_study.specs.Study.{DesignSpace}
-use Rattle.tomex_front_views.specs.LinkedPlot.{link_to}
 use Rattle.tomex_worth.specs.Changes.{changes_of}
 use Rattle.tomex_study.specs.Study.{config_at}
 use Rattle.tomex_layout.specs.Differences.{percent, signed_difference}
@@ -14,11 +12,8 @@ use Rattle.tomex_layout.specs.Lists.{entry_text, name_of_list}
 use Rattle.tomex_layout.specs.Rates.{rate_text}
 use Rattle.tomex_worth.specs.declared.changes.Change.{Change}
 use Rattle.tomex_html.specs.Tables.{table_head, table_row}
+use Rattle.tomex_page_tables.specs.Front.{row_text}
 use Rattle.tomex_page_tables.specs.Pieces.{more, most_lines}
-
--- a row's number, which is a link if the row is shown
-unfoldable pub row_text : List FrontRow → ℕ → List ℕ
-row_text shown row = if is_on shown row then link_to row (decimal row) else decimal row
 
 -- the entry and the row that a change leads to
 unfoldable pub to_cells : DesignSpace → List FrontRow → Change → List ℕ

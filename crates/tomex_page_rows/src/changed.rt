@@ -4,7 +4,8 @@ ghost use Rattle.std.specs.Prelude.{◌<◌, ◌++◌, length, All, OnOk};
 ghost use Rattle.std.specs.List.{flat_map};
 ghost use Rattle.tomex_layout.specs.Growth.{Appends};
 ghost use Rattle.tomex_html.specs.Html.{td};
-ghost use Rattle.tomex_page_rows.specs.Changed.{change_row, changes_table, gain_cells, row_text, to_cells};
+ghost use Rattle.tomex_page_rows.specs.Changed.{change_row, changes_table, gain_cells, to_cells};
+ghost use Rattle.tomex_page_tables.specs.Front.{row_text};
 ghost use Rattle.tomex_layout.specs.Rates.{rate_text};
 
 use crate::parts::push_entry_cell;
@@ -13,27 +14,11 @@ use std::fmt::Write;
 use tomex_html::{push_table_end, push_table_head};
 use tomex_layout::push_rate;
 use tomex_page_tables::{
-    first_lines, push_list_start, push_more, push_percent_cell, push_row_link, push_signed_cell,
+    first_lines, push_list_start, push_more, push_percent_cell, push_row_text, push_signed_cell,
 };
-use tomex_pareto::{FrontRow, is_on};
+use tomex_pareto::FrontRow;
 use tomex_study::Surveyed;
 use tomex_worth::{Change, changes_of};
-
-/// Adds a row's number, which is a link if the row is shown.
-#[tactic(auto, unfolding(crate::specs::Changed::row_text))]
-fn push_row_text<A: Allocator>(
-    text: &mut String<A>,
-    shown: &[FrontRow],
-    row: usize,
-) -> Result<(), AllocError>
-    ensures { OnOk result (Appends (row_text shown.now row) text.old text.new) }
-{
-    if is_on(shown, row) {
-        push_row_link(text, row)
-    } else {
-        write!(text, "{row}")
-    }
-}
 
 /// Adds a cell with a row's number, which is a link if the row is shown.
 fn push_row_cell<A: Allocator>(

@@ -5,15 +5,17 @@ use Rattle.std.specs.Fmt.{decimal}
 use Rattle.std.specs.List.{filter, flat_map}
 use Rattle.tomex_html.specs.Html.{cell, table_end, td}
 use Rattle.tomex_timing.specs.Run.{total}
+use Rattle.tomex_pareto.specs.Front.{is_on}
 use Rattle.tomex_pareto.specs.declared.front_row.FrontRow.{FrontRow}
 use Rattle.tomex_study.specs.Program.{Workload}
 use Rattle.tomex_study.specs.Study.{DesignSpace}
 use Rattle.tomex_config.specs.Settings.{all_settings, differs, setting_of}
 use Rattle.tomex_layout.specs.Lists.{name_of_setting}
+use Rattle.tomex_front_views.specs.FrontTable.{rate_after}
 use Rattle.tomex_front_views.specs.LinkedPlot.{link_to}
 use Rattle.tomex_config.specs.declared.setting.Setting.{Setting}
 use Rattle.tomex_layout.specs.Differences.{percent, signed_difference}
-use Rattle.tomex_html.specs.Tables.{column_head, head_end, number_cell, table_row, table_start}
+use Rattle.tomex_html.specs.Tables.{column_head, head_end, number_cell, table_start}
 use Rattle.tomex_page_tables.specs.Shown.{row_of}
 use Rattle.tomex_page_tables.specs.declared.shown.ShownRow.{ShownRow}
 
@@ -56,21 +58,47 @@ own_cells before r =
     number_cell r.row.cost ++ (td (more_cost before r) ++ (number_cell r.row.cycles
     ++ (td (more_cycles before r) ++ td (more_percent before r))))
 
-unfoldable pub front_cells : DesignSpace → Option ShownRow → ShownRow → List ℕ
-front_cells s before r =
-    own_cells before r
-    ++ (flat_map (setting_cell before r) (settings_of s) ++ flat_map (total_cell r) (own_programs s))
+-- the rate of the row of this number after the one before it; nothing if it is none of these
+abbrev pub rate_in : Option FrontRow → List FrontRow → ℕ → List ℕ
+rate_in before [] number = []
+rate_in before (r ∷ rows) number = if r.row == number then rate_after before r else rate_in (Some r) rows number
 
-unfoldable pub front_row : DesignSpace → Option ShownRow → ShownRow → List ℕ
-front_row s before r = table_row (link_to r.row.row (decimal r.row.row)) (front_cells s before r)
+-- that of a row of the hull
+unfoldable pub rate_cell : List FrontRow → ShownRow → List ℕ
+rate_cell hull r = td (rate_in None hull r.row.row)
+
+unfoldable pub front_cells : DesignSpace → List FrontRow → Option ShownRow → ShownRow → List ℕ
+front_cells s hull before r =
+    own_cells before r ++ (rate_cell hull r
+    ++ (flat_map (setting_cell before r) (settings_of s) ++ flat_map (total_cell r) (own_programs s)))
+
+-- a row's number, which is a link if the row is shown
+unfoldable pub row_text : List FrontRow → ℕ → List ℕ
+row_text shown row = if is_on shown row then link_to row (decimal row) else decimal row
+
+-- the mark of what is of a row on the hull
+abbrev pub hull_mark : List FrontRow → ℕ → List ℕ
+hull_mark hull row = if is_on hull row then codes " class=\"h\"" else []
+
+-- the start of a row, whose head leads to the row's view
+unfoldable pub front_row_start : List FrontRow → ℕ → List ℕ
+front_row_start hull row =
+    (codes "<tr" ++ (hull_mark hull row ++ codes "><th scope=\"row\">"))
+    ++ (link_to row (decimal row) ++ codes "</th>")
+
+unfoldable pub front_row : DesignSpace → List FrontRow → Option ShownRow → ShownRow → List ℕ
+front_row s hull before r =
+    front_row_start hull r.row.row ++ (front_cells s hull before r ++ codes "</tr>\n")
 
 -- the rows after one, if there is one
-abbrev pub front_rows : DesignSpace → Option ShownRow → List FrontRow → List ℕ
-front_rows s before [] = []
-front_rows s before (r ∷ rows) = front_row s before (row_of s r) ++ front_rows s (Some (row_of s r)) rows
+abbrev pub front_rows : DesignSpace → List FrontRow → Option ShownRow → List FrontRow → List ℕ
+front_rows s hull before [] = []
+front_rows s hull before (r ∷ rows) =
+    front_row s hull before (row_of s r) ++ front_rows s hull (Some (row_of s r)) rows
 
 abbrev pub own_names : List (List ℕ)
-own_names = codes "row" ∷ codes "cost" ∷ codes "more" ∷ codes "cycles" ∷ codes "more" ∷ codes "%" ∷ []
+own_names =
+    codes "row" ∷ codes "cost" ∷ codes "more" ∷ codes "cycles" ∷ codes "more" ∷ codes "%" ∷ codes "rate" ∷ []
 
 -- the names of the columns
 unfoldable pub column_heads : DesignSpace → List ℕ
@@ -81,7 +109,8 @@ column_heads s =
 abbrev pub front_caption : List ℕ
 front_caption = codes "The front, and what each row has more than the one above"
 
-unfoldable pub front_table : DesignSpace → List FrontRow → List ℕ
-front_table s shown =
+-- the table of these rows of the front, given those on its hull
+unfoldable pub front_table : DesignSpace → List FrontRow → List FrontRow → List ℕ
+front_table s hull shown =
     table_start (codes " class=\"a\" id=\"front\"") front_caption ++ (column_heads s ++ (head_end
-    ++ (front_rows s None shown ++ table_end)))
+    ++ (front_rows s hull None shown ++ table_end)))

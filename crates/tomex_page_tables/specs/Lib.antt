@@ -4,3 +4,4 @@ pub mod Shown
 pub mod Asked
 pub mod Front
 pub mod Laws
+pub mod Steps

@@ -149,7 +149,7 @@ pub fn push_front_heads<A: Allocator, B: Allocator>(
     requires { settings.now ≡ settings_of study.now }
     ensures { OnOk result (Appends (column_heads study.now) text.old text.new) }
 {
-    let names = ["row", "cost", "more", "cycles", "more", "%"];
+    let names = ["row", "cost", "more", "cycles", "more", "%", "rate"];
     push_column_heads(text, &names)?;
     push_setting_heads(text, settings)?;
     push_program_heads(text, own_programs(study))

@@ -1,19 +1,21 @@
 -- All refusals of the program, and how to find a text's.
 use Rattle.std.specs.Prelude.{◌≡◌, ◌≢◌, ◌⊎◌, ℕ, List, [], ◌∷◌, ◌++◌, codes, Option, Some, None}
 use Rattle.std.specs.List.{Contains, flat_map}
-use Rattle.std.specs.Str.Iter.{HasSubslice}
 use Rattle.tomex_refusals.specs.declared.commands.CommandRefusal.TheVariants as commands
 use Rattle.tomex_refusals.specs.declared.explaining.ExplainError.{ExplainError}
 use Rattle.tomex_refusals.specs.declared.explaining.ExplainError.TheVariants.{NoSuchRefusal, Memory}
 use Rattle.tomex_refusals.specs.declared.faults.FaultRefusal.TheVariants as faults
 use Rattle.tomex_refusals.specs.declared.images.ImageRefusal.TheVariants as images
 use Rattle.tomex_refusals.specs.declared.refusal.Refusal.{Refusal}
-use Rattle.tomex_refusals.specs.declared.refusal.Refusal.TheVariants.{Command, Image, Fault, Study}
+use Rattle.tomex_refusals.specs.declared.refusal.Refusal.TheVariants.{Command, Image, Fault, Study, Status}
 use Rattle.tomex_refusals.specs.declared.studies.StudyRefusal.TheVariants as studies
+use Rattle.tomex_refusals.specs.declared.statuses.ExitStatus.TheVariants as statuses
 use Rattle.tomex_refusals.specs.Commands as of_commands
 use Rattle.tomex_refusals.specs.Faults as of_faults
 use Rattle.tomex_refusals.specs.Images as of_images
 use Rattle.tomex_refusals.specs.Studies as of_studies
+use Rattle.tomex_refusals.specs.Statuses as of_statuses
+use Rattle.tomex_refusals.specs.Looking.{HasWords}
 
 -- in the order in which they are looked for: those with a name in them first
 abbrev pub all_refusals : List Refusal
@@ -29,7 +31,7 @@ all_refusals =
     ∷ Image images.Segment ∷ Image images.Overlap ∷ Image images.Entry ∷ Fault faults.Fetch ∷ Fault faults.Illegal
     ∷ Fault faults.MisalignedTarget ∷ Fault faults.Access ∷ Study studies.NotToml ∷ Study studies.UnknownKey
     ∷ Study studies.Missing ∷ Study studies.WrongKind ∷ Study studies.OutOfRange ∷ Study studies.TooMany
-    ∷ Study studies.NumberOfFiles ∷ []
+    ∷ Study studies.NumberOfFiles ∷ Status statuses.Input ∷ Status statuses.Line ∷ Status statuses.System ∷ []
 
 -- the words by which a refusal is known
 abbrev pub words_of : Refusal → List ℕ
@@ -37,6 +39,7 @@ words_of (Command refusal) = of_commands.words_of refusal
 words_of (Image refusal) = of_images.words_of refusal
 words_of (Fault refusal) = of_faults.words_of refusal
 words_of (Study refusal) = of_studies.words_of refusal
+words_of (Status status) = of_statuses.words_of status
 
 -- its form, with names in place of the parts that vary
 abbrev pub form_of : Refusal → List ℕ
@@ -44,6 +47,7 @@ form_of (Command refusal) = of_commands.form_of refusal
 form_of (Image refusal) = of_images.words_of refusal
 form_of (Fault refusal) = of_faults.form_of refusal
 form_of (Study refusal) = of_studies.form_of refusal
+form_of (Status status) = of_statuses.words_of status
 
 -- the advice on it: its meaning, the usual causes, and what to do
 abbrev pub advice_of : Refusal → List ℕ
@@ -51,10 +55,11 @@ advice_of (Command refusal) = of_commands.advice_of refusal
 advice_of (Image refusal) = of_images.advice_of refusal
 advice_of (Fault refusal) = of_faults.advice_of refusal
 advice_of (Study refusal) = of_studies.advice_of refusal
+advice_of (Status status) = of_statuses.advice_of status
 
--- its words are somewhere in a text
+-- its words are somewhere in a text; capitals are as small letters
 abbrev pub IsIn : List ℕ → Refusal → Type 0
-IsIn text refusal = HasSubslice text (words_of refusal)
+IsIn text refusal = HasWords text (words_of refusal)
 
 -- the first of some refusals that is in a text, if one is
 unfoldable pub IsFirstIn : List ℕ → List Refusal → Option Refusal → Type 0
@@ -72,7 +77,7 @@ line_of refusal = form_of refusal ++ codes "\n"
 
 -- the words are a part of its line
 abbrev pub HasPart : List ℕ → Refusal → Type 0
-HasPart words refusal = HasSubslice (form_of refusal) words
+HasPart words refusal = HasWords (form_of refusal) words
 
 -- those of some refusals that have the part, in their order
 unfoldable pub AreWith : List ℕ → List Refusal → List Refusal → Type 0

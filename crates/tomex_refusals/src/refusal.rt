@@ -9,21 +9,24 @@ ghost use Rattle.tomex_refusals.specs.Refusals.{form_of, words_of};
 use crate::commands::CommandRefusal;
 use crate::faults::FaultRefusal;
 use crate::images::ImageRefusal;
+use crate::looking::has_words;
+use crate::statuses::ExitStatus;
 use crate::studies::StudyRefusal;
 use std::alloc::{AllocError, Allocator};
 
-/// A refusal that some command can report.
+/// A refusal that some command can report, or an exit status.
 #[derive(Clone, Copy)]
 pub enum Refusal {
     Command(CommandRefusal),
     Image(ImageRefusal),
     Fault(FaultRefusal),
     Study(StudyRefusal),
+    Status(ExitStatus),
 }
 
 impl Refusal {
     /// All refusals, in the order in which they are looked for: those with a name in them first.
-    pub const ALL: [Refusal; 38] = [
+    pub const ALL: [Refusal; 41] = [
         Refusal::Command(CommandRefusal::CannotRead),
         Refusal::Command(CommandRefusal::NoSuchChoice),
         Refusal::Command(CommandRefusal::BadWindow),
@@ -62,6 +65,9 @@ impl Refusal {
         Refusal::Study(StudyRefusal::OutOfRange),
         Refusal::Study(StudyRefusal::TooMany),
         Refusal::Study(StudyRefusal::NumberOfFiles),
+        Refusal::Status(ExitStatus::Input),
+        Refusal::Status(ExitStatus::Line),
+        Refusal::Status(ExitStatus::System),
     ];
 
     /// The words by which it is known.
@@ -73,6 +79,7 @@ impl Refusal {
             Refusal::Image(refusal) => refusal.words(),
             Refusal::Fault(refusal) => refusal.words(),
             Refusal::Study(refusal) => refusal.words(),
+            Refusal::Status(status) => status.words(),
         }
     }
 
@@ -85,6 +92,7 @@ impl Refusal {
             Refusal::Image(refusal) => refusal.words(),
             Refusal::Fault(refusal) => refusal.form(),
             Refusal::Study(refusal) => refusal.form(),
+            Refusal::Status(status) => status.words(),
         }
     }
 
@@ -97,16 +105,17 @@ impl Refusal {
             Refusal::Image(refusal) => refusal.advice(),
             Refusal::Fault(refusal) => refusal.advice(),
             Refusal::Study(refusal) => refusal.advice(),
+            Refusal::Status(status) => status.advice(),
         }
     }
 }
 
-/// The refusal in a text: the first one whose words it has, if any.
+/// The refusal in a text: the first one whose words it has, if any. Capitals are as small letters.
 pub fn refusal_in(text: &str) -> Option<Refusal>
     ensures { IsFirstIn text.now all_refusals result }
 {
     for refusal in Refusal::ALL {
-        if text.contains(refusal.words()) {
+        if has_words(text, refusal.words()) {
             return Some(refusal);
         }
     }
@@ -122,7 +131,7 @@ pub fn refusals_with<A: Allocator>(alloc: A, words: &str) -> Result<Vec<Refusal,
 {
     let mut found = Vec::new(alloc);
     for refusal in Refusal::ALL {
-        if refusal.form().contains(words) {
+        if has_words(refusal.form(), words) {
             found.push(refusal)?;
         }
     }

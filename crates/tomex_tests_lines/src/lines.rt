@@ -110,7 +110,10 @@ fn line_on_a_program(alloc: Global, line: &Line) -> Result<String, AllocError> {
         }
         Line::Animate(animate) => {
             let run = run_text(alloc, animate.run)?;
-            format!(in alloc; "animate {run} {} {}", animate.from, animate.cycles)
+            format!(in alloc;
+                "animate {run} {} {} {}",
+                animate.from, animate.cycles, animate.blank
+            )
         }
         Line::Functions(functions) => {
             let config = config_text(alloc, functions.config)?;
@@ -212,15 +215,16 @@ static READ: [(&str, &str); 104] = [
         "tables study 16383 -a 17563648",
     ),
     ("tables --help", "help Prints the tables"),
-    ("animate study 0 a", "animate study 0 a 1 64"),
+    ("animate study 0 a", "animate study 0 a 1 64 false"),
     (
         "animate study 0 a --cycles 256 --from 17563648",
-        "animate study 0 a 17563648 256",
+        "animate study 0 a 17563648 256 false",
     ),
     (
         "animate --from=2 --cycles=1 study 16383 -- -a",
-        "animate study 16383 -a 2 1",
+        "animate study 16383 -a 2 1 false",
     ),
+    ("animate study 0 --blank a", "animate study 0 a 1 64 true"),
     ("animate --help", "help Prints a web page"),
     ("animate -h", "help Shows a run"),
     ("tables -h", "help Prints the stations"),
@@ -394,6 +398,8 @@ static REFUSED: [&str; 43] = [
     "animate study 0 a --from 17563649",
     "animate study 0 a --cycles 0",
     "animate study 0 a --cycles 257",
+    "animate study 0 a --blank 1",
+    "animate study 0 a --blank --blank",
     "animate study 0",
     "tables study 0 a 17563649",
     "tables study 0 a -1",

@@ -5,3 +5,4 @@ pub mod Rows
 pub mod Loops
 mod Flagged
 mod Lines
+mod OnHull

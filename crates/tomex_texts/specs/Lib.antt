@@ -4,3 +4,4 @@ pub mod Ends
 pub mod RowEnds
 pub mod FrontReport
 pub mod RowsReport
+pub mod RowsLaws

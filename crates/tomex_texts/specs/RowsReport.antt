@@ -4,6 +4,7 @@ use Rattle.std.specs.List.{flat_map, list_any}
 use Rattle.std.specs.Fmt.{decimal}
 use Rattle.tomex_config.specs.Configuration.{Configuration, plain}
 use Rattle.tomex_pareto.specs.Front.{is_on}
+use Rattle.tomex_pareto.specs.Hull.{hull_of}
 use Rattle.tomex_pareto.specs.declared.front_row.FrontRow.{FrontRow}
 use Rattle.tomex_layout.specs.Csv.{record_text}
 use Rattle.tomex_study.specs.Cycles.{totals_on}
@@ -17,23 +18,26 @@ use Rattle.tomex_texts.specs.FrontReport.{row_columns, row_fields}
 abbrev pub cycles_column : Workload → List ℕ
 cycles_column p = p.name ++ codes "_cycles"
 
--- the front report's columns of a configuration, one for each program, and the flag of rows on the front
+-- the front report's columns of a configuration, one for each program, and two flags: for rows on the front, and for
+-- those of them that are on its hull
 unfoldable pub columns_of : DesignSpace → List (List ℕ)
-columns_of s = row_columns s.wide ++ (map cycles_column s.programs ++ codes "front" ∷ [])
+columns_of s = row_columns s.wide ++ (map cycles_column s.programs ++ codes "front" ∷ codes "hull" ∷ [])
 
--- 1 if a row is on the front, else 0
+-- 1 if a row is on the front, or on its hull, else 0
 abbrev pub flag : Bool → ℕ
-flag on_front = if on_front then 1 else 0
+flag is_on = if is_on then 1 else 0
 
--- the fields of a row of the study in these columns, given its totals and its flag
-abbrev pub fields_of_row : Bool → FrontRow → Configuration → List ℕ → Bool → List (List ℕ)
-fields_of_row wide r config totals on_front =
-    row_fields wide r config ++ (map decimal totals ++ decimal (flag on_front) ∷ [])
+-- the fields of a row of the study in these columns, given its totals and its flags
+abbrev pub fields_of_row : Bool → FrontRow → Configuration → List ℕ → Bool → Bool → List (List ℕ)
+fields_of_row wide r config totals on_front on_hull =
+    row_fields wide r config ++ (map decimal totals ++ decimal (flag on_front) ∷ decimal (flag on_hull) ∷ [])
 
 unfoldable pub row_record : DesignSpace → FrontRow → List ℕ
 row_record s r =
     let config = slice_index_or s.rows r.row plain in
-    record_text (fields_of_row s.wide r config (totals_on s.programs config) (is_on (front_of_study s) r.row))
+    let front = front_of_study s in
+    record_text (fields_of_row s.wide r config (totals_on s.programs config) (is_on front r.row)
+    (is_on (hull_of front) r.row))
 
 -- the header, and a record for each row
 unfoldable pub rows_text_of : DesignSpace → List ℕ

@@ -1,4 +1,4 @@
-//! Which rows of a study are on the front.
+//! Which rows of a study are on the front, or on its hull.
 
 ghost use Rattle.std.specs.Prelude.{◌≡◌, ◌<◌, length, map, All, IfOk};
 ghost use Rattle.std.specs.List.{range_with_len};
@@ -7,7 +7,7 @@ ghost use Rattle.tomex_pareto.specs.Front.{is_on};
 use std::alloc::{AllocError, Allocator};
 use tomex_pareto::FrontRow;
 
-/// A flag for each of a study's rows: true if it is on the front.
+/// A flag for each of a study's rows: true if it is one of these rows of the front.
 pub(crate) fn flags<A: Allocator>(
     alloc: A,
     rows: usize,

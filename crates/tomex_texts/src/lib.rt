@@ -19,7 +19,7 @@ mod times;
 pub use ends::ProgramEnd;
 pub use front_fields::{fill_record, push_row};
 pub use front_header::{columns, push_row_columns};
-pub use laws::limit_changes_no_end;
+pub use laws::{flagged_rows_are_the_hull, limit_changes_no_end};
 pub use row_ends::RowEnds;
 pub use rows_text::rows_report;
 pub use tables::tables_text;

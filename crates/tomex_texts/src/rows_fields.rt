@@ -29,17 +29,14 @@ fn push_totals(
     Ok(())
 }
 
-/// Adds 1 for a row on the front, else 0.
-fn push_flag(
-    fields: &mut ByteRecord,
-    scratch: &mut String,
-    on_front: bool,
-) -> Result<(), AllocError>
+/// Adds 1 if `is_on`, else 0.
+fn push_flag(fields: &mut ByteRecord, scratch: &mut String, is_on: bool) -> Result<(), AllocError>
     requires { partial_of fields.old ≡ [] }
-    ensures { OnOk result (fields_of fields.new
-        ≡ fields_of fields.old ++ decimal (flag on_front) ∷ []) }
+    ensures fields { OnOk result (fields_of fields.new
+        ≡ fields_of fields.old ++ decimal (flag is_on) ∷ []) }
+    ensures whole { OnOk result (partial_of fields.new ≡ []) }
 {
-    let flag = if on_front { 1 } else { 0 };
+    let flag = if is_on { 1 } else { 0 };
     push_decimal(fields, scratch, flag)
 }
 
@@ -52,14 +49,16 @@ pub(crate) fn fill_record(
     config: &Config,
     totals: &[u64],
     on_front: bool,
+    on_hull: bool,
 ) -> Result<(), AllocError>
     ensures { OnOk result (fields_of fields.new
-        ≡ fields_of_row wide row config.now totals.now on_front) }
+        ≡ fields_of_row wide row config.now totals.now on_front on_hull) }
 {
     let mut scratch = String::new(heap);
     fields.clear();
     push_row(fields, &mut scratch, wide, row, config)?;
     push_totals(fields, &mut scratch, totals)?;
     push_flag(fields, &mut scratch, on_front)?;
+    push_flag(fields, &mut scratch, on_hull)?;
     Ok(())
 }

@@ -56,6 +56,6 @@ pub(crate) fn columns<A: Allocator>(
     let mut fields = ByteRecord::new(heap);
     push_row_columns(&mut fields, study.wide())?;
     push_cycles_columns(&mut fields, heap, study.programs())?;
-    push_names(&mut fields, ["front"].as_slice())?;
+    push_names(&mut fields, ["front", "hull"].as_slice())?;
     Ok(fields)
 }

@@ -6,6 +6,7 @@ ghost use Rattle.tomex_layout.specs.Csv.{IsReady};
 ghost use Rattle.tomex_layout.specs.Growth.{Writes};
 ghost use Rattle.tomex_texts.specs.RowsReport.{row_record, rows_text_of};
 ghost use Rattle.tomex_pareto.specs.Front.{is_on};
+ghost use Rattle.tomex_pareto.specs.Hull.{hull_of};
 ghost use Rattle.tomex_study.specs.StudyFront.{all_rows, front_of_study};
 
 use crate::flags::flags;
@@ -14,7 +15,7 @@ use crate::rows_header::columns;
 use csv::{ByteRecord, Writer};
 use std::alloc::{AllocError, Allocator, Global};
 use tomex_layout::{into_text, put_record};
-use tomex_pareto::FrontRow;
+use tomex_pareto::{FrontRow, hull};
 use tomex_study::Surveyed;
 
 /// Writes the record of a row.
@@ -24,17 +25,28 @@ fn put_row<A: Allocator>(
     surveyed: &Surveyed<'_, A>,
     row: FrontRow,
     on_front: bool,
+    on_hull: bool,
 ) -> Result<(), AllocError>
     requires ready { IsReady writer.old }
     requires row { row.row < length surveyed.now.rows }
     requires front { on_front ≡ is_on (front_of_study surveyed.now) row.row }
+    requires hull { on_hull ≡ is_on (hull_of (front_of_study surveyed.now)) row.row }
     ensures ready { OnOk result (IsReady writer.new) }
     ensures text { OnOk result (Writes (row_record surveyed.now row) writer.old writer.new) }
 {
     let mut fields = ByteRecord::new(heap);
     let wide = surveyed.study().wide();
     let (config, totals) = (surveyed.config(row.row), surveyed.totals(row.row));
-    fill_record(&mut fields, heap, wide, row, config, totals, on_front)?;
+    fill_record(
+        &mut fields,
+        heap,
+        wide,
+        row,
+        config,
+        totals,
+        on_front,
+        on_hull,
+    )?;
     put_record(writer, &fields)
 }
 
@@ -43,24 +55,34 @@ fn put_rows<A: Allocator>(
     writer: &mut Writer<Vec<u8, A>>,
     heap: Global,
     surveyed: &Surveyed<'_, A>,
-    flags: &[bool],
+    on_front: &[bool],
+    on_hull: &[bool],
 ) -> Result<(), AllocError>
     requires ready { IsReady writer.old }
-    requires flags { flags.now
+    requires front { on_front.now
         ≡ map (is_on (front_of_study surveyed.now)) (range_with_len 0 (length surveyed.now.rows)) }
+    requires hull { on_hull.now
+        ≡ map (is_on (hull_of (front_of_study surveyed.now))) (range_with_len 0 (length surveyed.now.rows)) }
     ensures ready { OnOk result (IsReady writer.new) }
     ensures text { OnOk result (
         Writes (flat_map (row_record surveyed.now) (all_rows surveyed.now)) writer.old writer.new) }
 {
     for row in surveyed.rows() {
-        put_row(writer, heap, surveyed, *row, flags[row.row])?;
+        put_row(
+            writer,
+            heap,
+            surveyed,
+            *row,
+            on_front[row.row],
+            on_hull[row.row],
+        )?;
     }
     Ok(())
 }
 
 /// All rows of a study as CSV: a header, and a record for each row in the order of their numbers.
 /// The first columns are those of the front report; then come each program's cycles without its
-/// weight, and `front`, which is 1 if the row is on the front, else 0.
+/// weight, `front`, which is 1 if the row is on the front, else 0, and `hull`, which is 1 if it is on the front's hull.
 ///
 /// `csv` allocates its records in `heap`.
 #[tactic(auto, unfolding(crate::specs::RowsReport::rows_text_of))]
@@ -71,9 +93,18 @@ pub fn rows_report<A: Allocator + Clone>(
 ) -> Result<Vec<u8, A>, AllocError>
     ensures { IfOk result (λ text. text.items ≡ rows_text_of surveyed.now) }
 {
-    let flags = flags(alloc.clone()?, surveyed.rows().len(), surveyed.front())?;
+    let (count, front) = (surveyed.rows().len(), surveyed.front());
+    let hull = hull(heap, front)?;
+    let on_front = flags(alloc.clone()?, count, front)?;
+    let on_hull = flags(alloc.clone()?, count, hull.as_slice())?;
     let mut writer = Writer::from_writer(Vec::new(alloc));
     put_record(&mut writer, &columns(heap, surveyed.study())?)?;
-    put_rows(&mut writer, heap, surveyed, flags.as_slice())?;
+    put_rows(
+        &mut writer,
+        heap,
+        surveyed,
+        on_front.as_slice(),
+        on_hull.as_slice(),
+    )?;
     into_text(writer)
 }

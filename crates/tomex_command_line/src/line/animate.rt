@@ -1,4 +1,4 @@
-//! `animate STUDY CONFIG PROGRAM [--from CYCLE] [--cycles N]`
+//! `animate STUDY CONFIG PROGRAM [--from CYCLE] [--cycles N] [--blank]`
 ghost use Rattle.std.specs.Prelude.{◌≡◌, ◌≤◌, IfOk, IfErr};
 ghost use Rattle.tomex_arguments.specs.Faults.{IsRefusedIf};
 ghost use Rattle.tomex_command_line.specs.Grammar.{animate_shape};
@@ -10,10 +10,10 @@ ghost use Rattle.tomex_command_line.specs.Limits.{last_cycle};
 
 use super::one_run::{OneRun, on_one_run, one_run_of};
 use super::texts::{Texts, with_argument};
-use super::values::number;
+use super::values::{flag, number};
 use clap::{ArgMatches, Command};
 use std::alloc::{AllocError, Global};
-use tomex_arguments::{Bounds, LineFault, number_of};
+use tomex_arguments::{Bounds, LineFault, flag_of, number_of};
 
 /// The cycles of a run. No program takes more: 67 for each of 262,144 instructions.
 const CYCLE: Bounds = Bounds {
@@ -35,6 +35,8 @@ pub struct AnimateLine<'a> {
     pub from: u32,
     /// The most cycles that are shown.
     pub cycles: u32,
+    /// True if the cells are left empty.
+    pub blank: bool,
     pub ghost from_least: { 1 ≤ from },
     pub ghost from_to: { from ≤ last_cycle },
     pub ghost cycles_least: { 1 ≤ cycles },
@@ -62,7 +64,10 @@ hexadecimal too, as in 0x10000.
 The page is one HTML file, without scripts, that loads nothing. It has a view
 for each cycle, with links to the next and the previous one: after a click on
 one of them, Enter follows it again. On paper, a view that fits on a sheet isn't
-cut in two.";
+cut in two.
+
+With --blank the tables' cells are empty, to be filled in on paper: the same
+page without it is the key.";
 
 const AFTER_LONG_HELP: &str = "Exit status:
   0  the page was written
@@ -73,7 +78,8 @@ const AFTER_LONG_HELP: &str = "Exit status:
 
 Examples, in the folder `examples`:
   tomex animate study.toml 4 mul > mul.html
-  tomex animate explore.toml 132 matrix --from 1000 --cycles 32 > matrix.html";
+  tomex animate explore.toml 132 matrix --from 1000 --cycles 32 > matrix.html
+  tomex animate study.toml 4 mul --blank > sheet.html";
 
 const TEXTS: Texts = Texts {
     about: ABOUT,
@@ -85,12 +91,15 @@ const FROM_HELP: &str = "The first cycle shown";
 
 const CYCLES_HELP: &str = "The most cycles shown";
 
+const BLANK_HELP: &str = "Leave the tables' cells empty";
+
 pub(super) fn grammar<'a>(alloc: Global) -> Result<Command<'a>, AllocError>
     ensures { IfOk result (λ c. shape_of c ≡ animate_shape) }
 {
     let command = on_one_run(alloc, "animate", TEXTS);
     let command = with_argument(command, number(alloc, "from", CYCLE, "1", FROM_HELP));
-    with_argument(command, number(alloc, "cycles", CYCLES, "64", CYCLES_HELP))
+    let command = with_argument(command, number(alloc, "cycles", CYCLES, "64", CYCLES_HELP));
+    with_argument(command, flag(alloc, "blank", BLANK_HELP))
 }
 
 pub(super) fn line_of<'a>(
@@ -99,12 +108,13 @@ pub(super) fn line_of<'a>(
 ) -> Result<AnimateLine<'a>, LineFault>
     ensures line { IfOk result
         (λ line. IsAnimateAsked (rows_of (found_of matches.now))
-        line.run.study.now line.run.config line.run.program.now line.from line.cycles) }
+        line.run.study.now line.run.config line.run.program.now line.from line.cycles line.blank) }
     ensures refused { IfErr result (IsRefusedIf (IsNoAnimate (rows_of (found_of matches.now)))) }
 {
     Ok(AnimateLine {
         run: one_run_of(alloc, matches)?,
         from: number_of(alloc, matches, "from", CYCLE)?,
         cycles: number_of(alloc, matches, "cycles", CYCLES)?,
+        blank: flag_of(matches, "blank"),
     })
 }

@@ -28,7 +28,8 @@ prints a list of all refusals, a line each.
 REFUSAL is what tomex reported, with `tomex: ` before it or without, as several
 words or as one; names and numbers in it may be left out. A part of a line of
 the list is enough: if several lines have it, these are printed, and a single
-one is explained.";
+one is explained. An exit status is explained too: `tomex explain 2`. Capitals
+are as small letters.";
 
 const AFTER_LONG_HELP: &str = "Exit status:
   0  the explanation or the list was written

@@ -26,8 +26,9 @@ const ABOUT: &str = "Explores the configurations of a study and draws the front"
 
 const LONG_ABOUT: &str =
     "Explores a study as `explore` does, and prints the front as a picture in SVG,
-720 by 440 points: cost from left to right, cycles from bottom to top, a circle
-for each configuration on the front, and a staircase through them. All other
+720 by 440 points: cost from left to right, cycles from bottom to top, a filled
+circle for each step worth taking (a row of `front --hull`), a hollow one for
+each other row of the front, and a staircase through them. All other
 configurations lie on or above the staircase, in the part that is shaded. Both
 axes have round numbers, and need not begin at 0.
 

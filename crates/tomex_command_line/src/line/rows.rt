@@ -12,7 +12,7 @@ const ABOUT: &str = "Prints the cycles of every configuration of a study";
 
 const LONG_ABOUT: &str =
     "Prints the cost and the exact cycles of every configuration of a study, each
-program's own cycles on it, and whether it is on the front.
+program's own cycles on it, and whether it is on the front and on its hull.
 
 Most programs aren't evaluated on most configurations: their cycles follow from
 those on another one. The number of workers doesn't change the report.
@@ -23,8 +23,8 @@ study.
 
 The report is CSV: a header, and a record for each configuration, by number. Its
 first columns are those of `explore`. Then come each program's cycles, which
-aren't multiplied by its weight, and last `front`, which is 1 on the front and
-else 0.";
+aren't multiplied by its weight, and last `front`, which is 1 on the front, and
+`hull`, which is 1 on its hull, and else 0.";
 
 const AFTER_LONG_HELP: &str = "Exit status:
   0  the report was written
@@ -37,7 +37,7 @@ Examples, in the folder `examples`:
   tomex rows explore.toml --workers 4
 
 print a header, and a line for each configuration, such as
-  4,85,8,2,1,1,1,1,1,1,1,1,3,1,1,1,1,1,1,1,8,1";
+  4,85,8,2,1,1,1,1,1,1,1,1,3,1,1,1,1,1,1,1,8,1,1";
 
 const TEXTS: Texts = Texts {
     about: ABOUT,

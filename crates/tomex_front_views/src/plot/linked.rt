@@ -31,12 +31,13 @@ fn push_link<A: Allocator>(
     text: &mut String<A>,
     axes: &Axes,
     radius: u64,
+    hull: &[FrontRow],
     row: FrontRow,
 ) -> Result<(), AllocError>
-    ensures { OnOk result (Appends (link_to row.row (circle axes.now radius row)) text.old text.new) }
+    ensures { OnOk result (Appends (link_to row.row (circle axes.now radius hull.now row)) text.old text.new) }
 {
     push_link_start(text, row.row)?;
-    push_circle(text, axes, radius, row)?;
+    push_circle(text, axes, radius, hull, row)?;
     text.push_str("</a>")
 }
 
@@ -46,15 +47,16 @@ fn push_linked_circle<A: Allocator>(
     text: &mut String<A>,
     axes: &Axes,
     radius: u64,
+    hull: &[FrontRow],
     shown: &[FrontRow],
     row: FrontRow,
 ) -> Result<(), AllocError>
-    ensures { OnOk result (Appends (linked_circle axes.now radius shown.now row) text.old text.new) }
+    ensures { OnOk result (Appends (linked_circle axes.now radius hull.now shown.now row) text.old text.new) }
 {
     if is_on(shown, row.row) {
-        push_link(text, axes, radius, row)
+        push_link(text, axes, radius, hull, row)
     } else {
-        push_circle(text, axes, radius, row)
+        push_circle(text, axes, radius, hull, row)
     }
 }
 
@@ -64,12 +66,13 @@ fn push_linked_line<A: Allocator>(
     text: &mut String<A>,
     axes: &Axes,
     radius: u64,
+    hull: &[FrontRow],
     shown: &[FrontRow],
     row: FrontRow,
 ) -> Result<(), AllocError>
-    ensures { OnOk result (Appends (linked_line axes.now radius shown.now row) text.old text.new) }
+    ensures { OnOk result (Appends (linked_line axes.now radius hull.now shown.now row) text.old text.new) }
 {
-    push_linked_circle(text, axes, radius, shown, row)?;
+    push_linked_circle(text, axes, radius, hull, shown, row)?;
     text.push_str("\n")
 }
 
@@ -77,15 +80,16 @@ fn push_linked_line<A: Allocator>(
 fn push_linked_lines<A: Allocator>(
     text: &mut String<A>,
     axes: &Axes,
+    hull: &[FrontRow],
     shown: &[FrontRow],
     front: &[FrontRow],
 ) -> Result<(), AllocError>
-    ensures { OnOk result (Appends
-        (flat_map (linked_line axes.now (radius_of (length front.now)) shown.now) front.now) text.old text.new) }
+    ensures { OnOk result (Appends (flat_map
+        (linked_line axes.now (radius_of (length front.now)) hull.now shown.now) front.now) text.old text.new) }
 {
     let radius = radius_of(front.len());
     for row in front {
-        push_linked_line(text, axes, radius, shown, *row)?;
+        push_linked_line(text, axes, radius, hull, shown, *row)?;
     }
     Ok(())
 }
@@ -97,17 +101,18 @@ fn push_linked_rows<A: Allocator>(
     heap: Global,
     axes: &Axes,
     stairs: &str,
+    hull: &[FrontRow],
     shown: &[FrontRow],
     front: &[FrontRow],
 ) -> Result<(), AllocError>
-    ensures { OnOk result (Appends (linked_rows axes.now stairs.now shown.now front.now) text.old text.new) }
+    ensures { OnOk result (Appends (linked_rows axes.now stairs.now hull.now shown.now front.now) text.old text.new) }
 {
     write!(
         text,
         "<path d=\"{stairs}\" fill=\"none\" stroke=\"#1f5fa8\" stroke-width=\"2\"/>\n"
     )?;
     text.push_str("<g fill=\"#1f5fa8\">\n")?;
-    push_linked_lines(text, axes, shown, front)?;
+    push_linked_lines(text, axes, hull, shown, front)?;
     text.push_str("</g>\n<g font-size=\"11\">\n")?;
     push_numbers(text, heap, axes, front)?;
     text.push_str("</g>\n</svg>\n")
@@ -122,9 +127,10 @@ fn push_linked_over<A: Allocator + Clone>(
     all: usize,
     rows: &[FrontRow],
     front: &[FrontRow],
+    hull: &[FrontRow],
     shown: &[FrontRow],
 ) -> Result<(), AllocError>
-    ensures { OnOk result (Appends (linked_over all rows.now front.now shown.now) text.old text.new) }
+    ensures { OnOk result (Appends (linked_over all rows.now front.now hull.now shown.now) text.old text.new) }
 {
     let axes = axes_of(rows);
     let title = title_of(heap, front.len(), all)?;
@@ -136,11 +142,11 @@ fn push_linked_over<A: Allocator + Clone>(
     push_lines(text, &axes)?;
     push_scales(text, &axes)?;
     push_dots_line(text, alloc, &axes, rows)?;
-    push_linked_rows(text, heap, &axes, stairs.as_str(), shown, front)
+    push_linked_rows(text, heap, &axes, stairs.as_str(), hull, shown, front)
 }
 
 /// Adds the picture that `rows_picture` gives, except that the circle of each row that is shown is a link to the row's
-/// view in the page.
+/// view in the page. `hull` are the rows of the front that are on its hull.
 ///
 /// Small values are allocated in `heap`.
 pub fn push_linked_picture<A: Allocator + Clone>(
@@ -148,10 +154,11 @@ pub fn push_linked_picture<A: Allocator + Clone>(
     alloc: A,
     heap: Global,
     surveyed: &Surveyed<'_, A>,
+    hull: &[FrontRow],
     shown: &[FrontRow],
 ) -> Result<(), AllocError>
-    ensures { OnOk result (Appends (linked_picture_of surveyed.now shown.now) text.old text.new) }
+    ensures { OnOk result (Appends (linked_picture_of surveyed.now hull.now shown.now) text.old text.new) }
 {
     let (rows, front) = (surveyed.rows(), surveyed.front());
-    push_linked_over(text, alloc, heap, rows.len(), rows, front, shown)
+    push_linked_over(text, alloc, heap, rows.len(), rows, front, hull, shown)
 }

@@ -10,7 +10,7 @@ use crate::plot::{
     push_lines, push_rows, push_scales, push_shade, push_sheet, push_size, title_of,
 };
 use std::alloc::{AllocError, Allocator, Global};
-use tomex_pareto::FrontRow;
+use tomex_pareto::{FrontRow, hull};
 use tomex_study::Surveyed;
 
 /// The picture of a front, drawn over dots for all rows, `all` in number.
@@ -25,6 +25,7 @@ fn picture_over<A: Allocator + Clone>(
     ensures { IfOk result (λ text. text.items ≡ picture_over all rows.now front.now) }
 {
     let axes = axes_of(rows);
+    let hull = hull(heap, front)?;
     let title = title_of(heap, front.len(), all)?;
     let mut stairs = String::new(heap);
     push_staircase(&mut stairs, &axes, front)?;
@@ -35,7 +36,14 @@ fn picture_over<A: Allocator + Clone>(
     push_lines(&mut text, &axes)?;
     push_scales(&mut text, &axes)?;
     push_dots_line(&mut text, alloc, &axes, rows)?;
-    push_rows(&mut text, heap, &axes, stairs.as_str(), front)?;
+    push_rows(
+        &mut text,
+        heap,
+        &axes,
+        stairs.as_str(),
+        hull.as_slice(),
+        front,
+    )?;
     Ok(text.into_bytes())
 }
 

@@ -3,13 +3,13 @@
 ghost use Rattle.std.specs.Prelude.{◌≡◌, ◌≤◌, length, None, IfOk, OnOk};
 ghost use Rattle.std.specs.List.{flat_map};
 ghost use Rattle.tomex_layout.specs.Growth.{Appends};
-ghost use Rattle.tomex_front_views.specs.Plot.{circle, circle_at, circle_line, has_room, named_point, number_at};
-ghost use Rattle.tomex_front_views.specs.Plot.{numbers_of, radius_of, row_title};
+ghost use Rattle.tomex_front_views.specs.Plot.{circle, circle_at, circle_line, fill_of, has_room, named_point};
+ghost use Rattle.tomex_front_views.specs.Plot.{number_at, numbers_of, radius_of, row_title};
 
 use crate::plot::axes::{Axes, Point};
 use std::alloc::{AllocError, Allocator, Global};
 use std::fmt::Write;
-use tomex_pareto::FrontRow;
+use tomex_pareto::{FrontRow, is_on};
 
 /// A point with its row's number beside it.
 #[derive(Clone, Copy)]
@@ -19,16 +19,28 @@ pub struct Named {
     pub digits: usize,
 }
 
+/// How a point is filled: it is hollow if its row isn't on the hull.
+fn fill_of(on_hull: bool) -> &'static str
+    ensures { result.now ≡ fill_of on_hull }
+{
+    if on_hull {
+        ""
+    } else {
+        " fill=\"#ffffff\" stroke=\"#1f5fa8\" stroke-width=\"1.5\""
+    }
+}
+
 #[tactic(auto, unfolding(crate::specs::Plot::circle_at))]
 fn push_circle_at<A: Allocator>(
     text: &mut String<A>,
     at: Point,
     radius: u64,
+    on_hull: bool,
 ) -> Result<(), AllocError>
-    ensures { OnOk result (Appends (circle_at at radius) text.old text.new) }
+    ensures { OnOk result (Appends (circle_at at radius on_hull) text.old text.new) }
 {
-    let (x, y) = (at.x, at.y);
-    write!(text, "<circle cx=\"{x}\" cy=\"{y}\" r=\"{radius}\">")
+    let (x, y, fill) = (at.x, at.y, fill_of(on_hull));
+    write!(text, "<circle cx=\"{x}\" cy=\"{y}\" r=\"{radius}\"{fill}>")
 }
 
 /// Adds a circle's tooltip.
@@ -49,11 +61,12 @@ pub fn push_circle<A: Allocator>(
     text: &mut String<A>,
     axes: &Axes,
     radius: u64,
+    hull: &[FrontRow],
     row: FrontRow,
 ) -> Result<(), AllocError>
-    ensures { OnOk result (Appends (circle axes.now radius row) text.old text.new) }
+    ensures { OnOk result (Appends (circle axes.now radius hull.now row) text.old text.new) }
 {
-    push_circle_at(text, axes.point_of(row), radius)?;
+    push_circle_at(text, axes.point_of(row), radius, is_on(hull, row.row))?;
     push_row_title(text, row)
 }
 
@@ -63,11 +76,12 @@ fn push_circle_line<A: Allocator>(
     text: &mut String<A>,
     axes: &Axes,
     radius: u64,
+    hull: &[FrontRow],
     row: FrontRow,
 ) -> Result<(), AllocError>
-    ensures { OnOk result (Appends (circle_line axes.now radius row) text.old text.new) }
+    ensures { OnOk result (Appends (circle_line axes.now radius hull.now row) text.old text.new) }
 {
-    push_circle(text, axes, radius, row)?;
+    push_circle(text, axes, radius, hull, row)?;
     text.push_str("\n")
 }
 
@@ -78,18 +92,19 @@ pub fn radius_of(rows: usize) -> u64
     if rows <= 64 { 4 } else { 2 }
 }
 
-/// Adds the rows' points, each on a line.
+/// Adds the rows' points, each on a line; `hull` are those on the hull.
 pub fn push_circles<A: Allocator>(
     text: &mut String<A>,
     axes: &Axes,
+    hull: &[FrontRow],
     rows: &[FrontRow],
 ) -> Result<(), AllocError>
-    ensures { OnOk result (
-        Appends (flat_map (circle_line axes.now (radius_of (length rows.now))) rows.now) text.old text.new) }
+    ensures { OnOk result (Appends
+        (flat_map (circle_line axes.now (radius_of (length rows.now)) hull.now) rows.now) text.old text.new) }
 {
     let radius = radius_of(rows.len());
     for row in rows {
-        push_circle_line(text, axes, radius, *row)?;
+        push_circle_line(text, axes, radius, hull, *row)?;
     }
     Ok(())
 }

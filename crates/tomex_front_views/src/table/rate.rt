@@ -7,8 +7,13 @@ use std::alloc::{AllocError, Global};
 use tomex_layout::{Column, push_hundredths};
 use tomex_pareto::FrontRow;
 
-/// The cycles that a row saves over the row before, for 1 of extra cost.
-fn rate_after(heap: Global, before: Option<FrontRow>, row: FrontRow) -> Result<String, AllocError>
+/// The cycles that a row saves over the row before, for 1 of extra cost: with two decimals, or `-` if there is no row
+/// before or it costs as much.
+pub fn rate_after(
+    heap: Global,
+    before: Option<FrontRow>,
+    row: FrontRow,
+) -> Result<String, AllocError>
     ensures { IfOk result (λ text. string_bytes text ≡ rate_after before row) }
 {
     let Some(before) = before else {

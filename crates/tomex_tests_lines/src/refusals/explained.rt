@@ -194,12 +194,36 @@ fn parts_of_lines(rt: HostRuntime) -> Result<(), Fail> {
     Ok(())
 }
 
-static NONE: [&str; 4] = [
-    "tomex",
-    "Image: Segment",
-    "image:segment",
-    "image:  segment",
+static CAPITALS: [(&str, &str); 3] = [
+    ("IMAGE: SEGMENT", "image: segment"),
+    ("tomex: Study: Not Toml", "study: not TOML"),
+    ("ILLEGAL AT pc", "fault: illegal at PC"),
 ];
+
+#[test]
+fn capitals_are_as_small_letters(rt: HostRuntime) -> Result<(), Fail> {
+    for (text, form) in &CAPITALS {
+        is_explained(&rt, *text, *form)?;
+    }
+    Ok(())
+}
+
+static STATUSES: [(&str, &str); 4] = [
+    ("1", "exit status 1"),
+    ("2", "exit status 2"),
+    ("status 3", "exit status 3"),
+    ("exit status 2", "exit status 2"),
+];
+
+#[test]
+fn statuses(rt: HostRuntime) -> Result<(), Fail> {
+    for (text, form) in &STATUSES {
+        is_explained(&rt, *text, *form)?;
+    }
+    Ok(())
+}
+
+static NONE: [&str; 3] = ["tomex", "image:segment", "image:  segment"];
 
 #[test]
 fn what_is_no_refusal(rt: HostRuntime) -> Result<(), Fail> {

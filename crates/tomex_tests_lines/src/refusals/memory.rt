@@ -47,13 +47,21 @@ impl Attempt for ListingPart {
     }
 }
 
+/// The list's last lines.
+const STATUSES: &str = "exit status 1\nexit status 2\nexit status 3\n";
+
+/// True if a text is the list of all refusals and exit statuses.
+fn is_list(text: &[u8]) -> bool {
+    text.strip_prefix(ALL_REFUSALS.as_bytes()) == Some(STATUSES.as_bytes())
+}
+
 #[derive(Drop)]
 struct Listing;
 
 impl Attempt for Listing {
     fn attempt(&self, heap: Heap) -> Result<Try, AllocError> {
         match list_refusals(heap) {
-            Ok(text) => Ok(Try::right_if(text.as_slice() == ALL_REFUSALS.as_bytes())),
+            Ok(text) => Ok(Try::right_if(is_list(text.as_slice()))),
             Err(_) => Ok(Try::Refused),
         }
     }

@@ -9,5 +9,5 @@ unfolding page_foot
 returns g c =
     on_ok_weaker c.push_page_end.result (λ last.
     (c.in_ok-push_str.ensures.bytes ▸ c.in_ok-push_machine_table.ensures ▸ c.in_ok-push_index.ensures
-    ▸ (rw c.animate_help.ensures at c.in_ok-push_str-2.ensures.bytes) ▸ c.in_ok-push_str-3.ensures.bytes
+    ▸ (rw c.help_of.ensures at c.in_ok-push_str-2.ensures.bytes) ▸ c.in_ok-push_str-3.ensures.bytes
     ▸ last_piece last).is) c.push_page_end.ensures

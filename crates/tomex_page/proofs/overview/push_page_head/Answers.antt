@@ -8,6 +8,5 @@ pub returns : goal.returns
 unfolding page_head
 returns g c =
     on_ok_weaker c.write.result (λ last.
-    ((rw (c.as_str.ensures.value, c.in_ok-title.ensures, c.page_css.ensures) at c.in_ok-push_page_start.ensures)
-    ▸ c.in_ok-push_str.ensures.bytes ▸ c.in_ok-push_name.ensures ▸ c.in_ok-push_str-2.ensures.bytes
-    ▸ c.in_ok-push_counts.ensures ▸ last_piece last).is) c.write.ensures.bytes
+    (c.in_ok-push_page_name.ensures ▸ c.in_ok-push_steps_sentence.ensures ▸ last_piece last).is)
+    c.write.ensures.bytes

@@ -7,6 +7,6 @@ use Rattle.tomex_page.proofs.section.push_sections.Given as goal
 abbrev pub invariant-loop-place : goal.invariant-loop-place
 invariant-loop-place g l = record {
   programs : l.programs.items ≡ l.fn.programs.items;
-  text : string_bytes l.text ++ row_sections l.surveyed l.shown l.before (drop l.place l.shown)
-      ≡ string_bytes l.fn.text ++ row_sections l.surveyed l.shown None l.shown;
+  text : string_bytes l.text ++ row_sections l.surveyed l.hull l.shown l.before (drop l.place l.shown)
+      ≡ string_bytes l.fn.text ++ row_sections l.surveyed l.hull l.shown None l.shown;
 }

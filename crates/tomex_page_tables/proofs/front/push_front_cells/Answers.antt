@@ -18,6 +18,6 @@ returns g c =
     ∙ cells_of_totals c.args.surveyed.now c.args.row (own_programs c.args.surveyed.now) in
     let here = rw c.study.ensures at c.row_of-here.ensures in
     on_ok_weaker c.push_numbers.result (λ last.
-    ((rw here at c.in_ok-push_own_cells.ensures)
+    ((rw here at c.in_ok-push_own_cells.ensures) ▸ (rw here at c.in_ok-push_rate_cell.ensures)
     ▸ (rw (here, c.requires.settings) at c.in_ok-push_setting_cells.ensures) ▸ last_piece last).is)
     (rw totals at c.push_numbers.ensures)

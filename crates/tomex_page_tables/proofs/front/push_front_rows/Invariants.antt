@@ -6,5 +6,5 @@ use Rattle.tomex_page_tables.proofs.front.push_front_rows.Given as goal
 
 abbrev pub invariant-loop-row : goal.invariant-loop-row
 invariant-loop-row g l =
-    string_bytes l.text ++ front_rows l.surveyed l.before (drop l.row-index l.shown)
-    ≡ string_bytes l.fn.text ++ front_rows l.surveyed None l.shown
+    string_bytes l.text ++ front_rows l.surveyed l.hull l.before (drop l.row-index l.shown)
+    ≡ string_bytes l.fn.text ++ front_rows l.surveyed l.hull None l.shown

@@ -2,33 +2,32 @@
 use Rattle.std.proofs.Common.{◌∙◌, List, ℕ, refl, subst, sym}
 use Rattle.std.proofs.lemmas.Bool.{false≢true}
 use Rattle.std.proofs.lemmas.Result.{err_from_is_err_and}
-use Rattle.std.proofs.lemmas.Str.Pattern.{contains_text}
-use Rattle.std.specs.Str.Iter.{HasSubslice}
+use Rattle.tomex_refusals.specs.Looking.{HasWords}
 use Rattle.tomex_refusals.specs.Refusals.{all_refusals}
 use Rattle.tomex_refusals.proofs.Found.{all_with, contains_at, one_with, one_without}
 use Rattle.tomex_refusals.proofs.refusal.refusals_with.Goals as goal
-use Rattle.tomex_refusals.proofs.refusal.refusals_with.Goals.{then-contains+in_ok-push, else-contains}
+use Rattle.tomex_refusals.proofs.refusal.refusals_with.Goals.{then-has_words+in_ok-push, else-has_words}
 
 pub returns-in_err-push-clause-refused : goal.returns-in_err-push-clause-refused
 returns-in_err-push-clause-refused g c =
     let p = err_from_is_err_and c.from_residual.result c.from_residual.ensures.1 in
-    let here = contains_text c.contains.result c.args.words.now c.form.result.now c.contains.ensures.cases in
-    let has = subst (λ (form : List ℕ). HasSubslice form c.args.words.now) c.form.ensures
-    (here.0 c.if-contains.true) in
+    let here = c.has_words.ensures in
+    let has = subst (λ (form : List ℕ). HasWords form c.args.words.now) c.form.ensures
+    (here.0 c.if-has_words.true) in
     rw p.1 (_, contains_at all_refusals c.loop-refusal.refusal-index _ _ c.loop-refusal-test.true refl, has)
 
 pub loop-refusal-preserved : goal.loop-refusal-preserved
 loop-refusal-preserved g c =
-    let here = contains_text c.contains.result c.args.words.now c.form.result.now c.contains.ensures.cases in
+    let here = c.has_words.ensures in
     let same = c.form.ensures in
-    elim c.if-contains.branch [
-      | then-contains+in_ok-push w ↦
-          let has = subst (λ (form : List ℕ). HasSubslice form c.args.words.now) same (here.0 w.if-contains.true) in
+    elim c.if-has_words.branch [
+      | then-has_words+in_ok-push w ↦
+          let has = subst (λ (form : List ℕ). HasWords form c.args.words.now) same (here.0 w.if-has_words.true) in
           rw (w.found-is, w.in_ok-push.ensures.items) (one_with c.args.words.now all_refusals
           c.loop-refusal.refusal-index _ _ _ c.loop-refusal-test.true refl has c.loop-refusal.invariant)
-      | else-contains w ↦ rw w.found-is (one_without c.args.words.now all_refusals c.loop-refusal.refusal-index _ _ _
-          c.loop-refusal-test.true refl (λ has. false≢true (sym w.if-contains.false ∙ here.1
-          (subst (λ (form : List ℕ). HasSubslice form c.args.words.now) (sym same) has))) c.loop-refusal.invariant)
+      | else-has_words w ↦ rw w.found-is (one_without c.args.words.now all_refusals c.loop-refusal.refusal-index _ _ _
+          c.loop-refusal-test.true refl (λ has. false≢true (sym w.if-has_words.false ∙ here.1
+          (subst (λ (form : List ℕ). HasWords form c.args.words.now) (sym same) has))) c.loop-refusal.invariant)
     ]
 
 pub returns-clause-found : goal.returns-clause-found

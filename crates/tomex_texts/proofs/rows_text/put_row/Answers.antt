@@ -13,6 +13,7 @@ returns-clause-text g c =
     (λ h. h ∙ (ap (λ (fs : List (List ℕ)). text_written (λ v. v.items) c.args.writer.now ++ record_text fs)
     c.in_ok-fill_record.ensures
     ∙ ap (λ (t : List ℕ). text_written (λ v. v.items) c.args.writer.now ++ t)
-    (record_there s c.args.row _ _ _ _ (rw c.study.ensures at c.wide-wide.ensures.value) c.config-config.ensures
-    (c.totals-totals.ensures ∙ totals_there s c.args.row.row c.requires.row) c.requires.front)))
+    (record_there s c.args.row _ _ _ _ _ (rw c.study.ensures at c.wide-wide.ensures.value) c.config-config.ensures
+    (c.totals-totals.ensures ∙ totals_there s c.args.row.row c.requires.row) c.requires.front
+    c.requires.hull)))
     c.put_record.ensures.text

@@ -7,5 +7,5 @@ use Rattle.tomex_front_views.proofs.plot.linked.push_linked_lines.Given as goal
 
 abbrev pub invariant-loop-row : goal.invariant-loop-row
 invariant-loop-row g l =
-    string_bytes l.text ++ flat_map (linked_line l.axes l.radius l.shown) (drop l.row-index l.front)
-    ≡ string_bytes l.fn.text ++ flat_map (linked_line l.axes l.radius l.shown) l.front
+    string_bytes l.text ++ flat_map (linked_line l.axes l.radius l.hull l.shown) (drop l.row-index l.front)
+    ≡ string_bytes l.fn.text ++ flat_map (linked_line l.axes l.radius l.hull l.shown) l.front

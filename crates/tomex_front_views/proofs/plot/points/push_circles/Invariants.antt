@@ -7,5 +7,5 @@ use Rattle.tomex_front_views.proofs.plot.points.push_circles.Given as goal
 
 abbrev pub invariant-loop-row : goal.invariant-loop-row
 invariant-loop-row g l =
-    string_bytes l.text ++ flat_map (circle_line l.axes l.radius) (drop l.row-index l.rows)
-    ≡ string_bytes l.fn.text ++ flat_map (circle_line l.axes l.radius) l.rows
+    string_bytes l.text ++ flat_map (circle_line l.axes l.radius l.hull) (drop l.row-index l.rows)
+    ≡ string_bytes l.fn.text ++ flat_map (circle_line l.axes l.radius l.hull) l.rows

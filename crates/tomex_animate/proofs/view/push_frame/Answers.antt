@@ -5,7 +5,7 @@ use Rattle.tomex_frames.specs.OnPath.{IsOfRun}
 use Rattle.tomex_frames.proofs.AtCycle.{before_of}
 use Rattle.tomex_animate.specs.Page.{frame}
 use Rattle.tomex_layout.proofs.Pieces.{◌▸◌, last_piece}
-use Rattle.tomex_animate.proofs.view.push_view.Goals as goal
+use Rattle.tomex_animate.proofs.view.push_frame.Goals as goal
 
 pub push_head-requires-clause-place : goal.push_head-requires-clause-place
 push_head-requires-clause-place g c =

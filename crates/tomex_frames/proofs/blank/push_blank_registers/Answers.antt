@@ -1,0 +1,12 @@
+-- One piece after the other.
+use Rattle.std.proofs.lemmas.Result.{on_ok_weaker}
+use Rattle.tomex_frames.specs.Blank.{blank_registers}
+use Rattle.tomex_layout.proofs.Pieces.{◌▸◌, last_piece}
+use Rattle.tomex_frames.proofs.blank.push_blank_registers.Goals as goal
+
+pub returns : goal.returns
+unfolding blank_registers
+returns g c =
+    on_ok_weaker c.write.result (λ last.
+    (c.in_ok-push_str.ensures.bytes ▸ c.in_ok-push_some_registers.ensures ▸ last_piece last).is)
+    c.write.ensures.bytes
