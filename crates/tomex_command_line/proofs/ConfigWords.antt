@@ -1,6 +1,6 @@
 -- The word of CONFIG: it has a `=` or not, and it is the number that it was read as.
-use Rattle.std.proofs.Common.{◌≡◌, ◌<◌, ◌≤◌, ℕ, Bool, true, false, List, length, get_or, arith, refl, sym, subst}
-use Rattle.std.proofs.Common.{inl, inr, Option, Some, None, Result, Ok, Err, All, ◌==◌, ◌∙◌, ap}
+use Rattle.std.proofs.Common.{◌≡◌, ◌≤◌, ℕ, Bool, true, false, List, length, get_or, arith, refl, sym, subst}
+use Rattle.std.proofs.Common.{inl, inr, Some, None, Result, Ok, ◌==◌, ◌∙◌, ap}
 use Rattle.std.specs.Prelude.{codes, unwrap_or}
 use Rattle.std.specs.Bool.{MatchBool}
 use Rattle.std.specs.List.{list_any}
@@ -15,8 +15,7 @@ use Rattle.std.proofs.lemmas.Str.Pattern.{contains_char}
 use Rattle.clap.specs.Words.{Row}
 use Rattle.tomex_arguments.specs.Values.{IsWord}
 use Rattle.tomex_command_line.specs.Limits.{last_row}
-use Rattle.tomex_command_line.specs.Values.{IsConfigAsked, IsNoConfig}
-use Rattle.tomex_command_line.specs.declared.line.config.ConfigName.{ConfigName}
+use Rattle.tomex_command_line.specs.Values.{IsNoConfig}
 use Rattle.tomex_command_line.specs.declared.line.config.ConfigName.TheVariants.{Number, Choices}
 
 abbrev has_equals : List ℕ → Bool
