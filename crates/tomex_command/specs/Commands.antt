@@ -22,7 +22,8 @@ use Rattle.tomex_command.specs.RunLines.{IsRunOf, IsRunFailure}
 use Rattle.tomex_command.specs.Chosen.{row_name}
 use Rattle.tomex_command.specs.RunViews.{IsRunViewFailure, IsRunViewOf}
 use Rattle.tomex_command.specs.declared.commands.run_view.RunView.TheVariants as runs
-use Rattle.tomex_command.specs.ViewLines.{IsViewFailure, IsViewOf, page_view, plot_view, table_view}
+use Rattle.tomex_command.specs.ViewLines.{IsViewFailure, IsViewOf, form_of, page_view, plot_view}
+use Rattle.tomex_command.specs.ViewLines.{table_view}
 use Rattle.tomex_command.specs.Reporting.{IsFailureReported, IsSaid, IsFaultReported}
 
 -- this text is what the line asks for, given the files by their names
@@ -41,12 +42,16 @@ IsDone file (Front line) text = IsViewOf (views.Survey (table_view line.hull)) f
 IsDone file (Plot line) text = IsViewOf (views.Survey (plot_view line.all)) file line.explore.study.now text
 IsDone file (Rows line) text = IsViewOf (views.Survey surveys.Rows) file line.study.now text
 IsDone file (Worth line) text =
-    IsViewOf (views.Survey (surveys.Worth (row_name line.config))) file line.explore.study.now text
-IsDone file (Choices line) text = IsViewOf (views.Choices choices.Table) file line.study.now text
-IsDone file (Prices line) text = IsViewOf (views.Survey surveys.Prices) file line.study.now text
-IsDone file (Weights line) text = IsViewOf (views.Survey surveys.Weights) file line.study.now text
+    IsViewOf (views.Survey (surveys.Worth (row_name line.config) (form_of line.csv))) file line.explore.study.now text
+IsDone file (Choices line) text =
+    IsViewOf (views.Choices (choices.Lists (form_of line.csv))) file line.explore.study.now text
+IsDone file (Prices line) text =
+    IsViewOf (views.Survey (surveys.Prices (form_of line.csv))) file line.explore.study.now text
+IsDone file (Weights line) text =
+    IsViewOf (views.Survey (surveys.Weights (form_of line.csv))) file line.explore.study.now text
 IsDone file (Compare line) text =
-    IsViewOf (views.Survey (surveys.Compare line.builds.old line.builds.new)) file line.explore.study.now text
+    IsViewOf (views.Survey (surveys.Compare line.builds.old line.builds.new (form_of line.csv))) file
+    line.explore.study.now text
 IsDone file (Functions line) text = IsFunctionsOf file line text
 IsDone file (Page line) text = IsViewOf (page_view line) file line.explore.study.now text
 IsDone file (Find line) text = IsFindOf file line text
@@ -70,12 +75,16 @@ IsFailure file (Plot line) failure =
     IsViewFailure (views.Survey (plot_view line.all)) file line.explore.study.now failure
 IsFailure file (Rows line) failure = IsViewFailure (views.Survey surveys.Rows) file line.study.now failure
 IsFailure file (Worth line) failure =
-    IsViewFailure (views.Survey (surveys.Worth (row_name line.config))) file line.explore.study.now failure
-IsFailure file (Choices line) failure = IsViewFailure (views.Choices choices.Table) file line.study.now failure
-IsFailure file (Prices line) failure = IsViewFailure (views.Survey surveys.Prices) file line.study.now failure
-IsFailure file (Weights line) failure = IsViewFailure (views.Survey surveys.Weights) file line.study.now failure
+    IsViewFailure (views.Survey (surveys.Worth (row_name line.config) (form_of line.csv))) file line.explore.study.now failure
+IsFailure file (Choices line) failure =
+    IsViewFailure (views.Choices (choices.Lists (form_of line.csv))) file line.explore.study.now failure
+IsFailure file (Prices line) failure =
+    IsViewFailure (views.Survey (surveys.Prices (form_of line.csv))) file line.explore.study.now failure
+IsFailure file (Weights line) failure =
+    IsViewFailure (views.Survey (surveys.Weights (form_of line.csv))) file line.explore.study.now failure
 IsFailure file (Compare line) failure =
-    IsViewFailure (views.Survey (surveys.Compare line.builds.old line.builds.new)) file line.explore.study.now failure
+    IsViewFailure (views.Survey (surveys.Compare line.builds.old line.builds.new (form_of line.csv))) file
+    line.explore.study.now failure
 IsFailure file (Functions line) failure = IsFunctionsFailure file line failure
 IsFailure file (Page line) failure = IsViewFailure (page_view line) file line.explore.study.now failure
 IsFailure file (Find line) failure = IsFindFailure file line failure

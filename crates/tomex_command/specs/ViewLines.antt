@@ -4,6 +4,8 @@ use Rattle.std.specs.Prelude.{ℕ, Bool, true, false, List}
 use Rattle.tomex_command_line.specs.declared.line.page.PageLine.{PageLine}
 use Rattle.tomex_views.specs.StudyViews.{IsTextFrom, IsWithoutTextFrom}
 use Rattle.tomex_views.specs.declared.study_view.ChoicesView.TheVariants as choices
+use Rattle.tomex_views.specs.declared.study_view.Form.{Form}
+use Rattle.tomex_views.specs.declared.study_view.Form.TheVariants as forms
 use Rattle.tomex_views.specs.declared.study_view.StudyView.{StudyView}
 use Rattle.tomex_views.specs.declared.study_view.StudyView.TheVariants.{Survey, Choices}
 use Rattle.tomex_views.specs.declared.study_view.SurveyView.{SurveyView}
@@ -15,6 +17,11 @@ use Rattle.tomex_command.specs.declared.failure.Failure.{Failure}
 use Rattle.tomex_command.specs.declared.failure.Failure.TheVariants.{NoSuchChoice, NoSuchRow, SeveralRows}
 use Rattle.tomex_command.specs.declared.failure.Failure.TheVariants.{NoSuchProgram, TableTooLarge}
 use Rattle.tomex_streams.specs.Files.{Known}
+
+-- how a table is printed: as CSV, or in columns
+abbrev pub form_of : Bool → Form
+form_of true = forms.Csv
+form_of false = forms.Table
 
 -- the view that `front` prints: the whole front, or its hull
 abbrev pub table_view : Bool → SurveyView

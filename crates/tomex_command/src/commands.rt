@@ -40,7 +40,7 @@ use std::thread::Threads;
 use tomex_command_line::{Line, read_line};
 use tomex_streams::{Files, Meter, Sink, write_all_of};
 use tomex_views::{ChoicesView, StudyView, SurveyView};
-use view::{page_view, plot_view, table_view, text_of_view};
+use view::{form_of, page_view, plot_view, table_view, text_of_view};
 
 /// The text that a line asks for.
 fn text_of<
@@ -83,23 +83,25 @@ fn text_of<
             text_of_view(rt, alloc, heap, line, files, meter, view)
         }
         Line::Worth(line) => {
-            let view = StudyView::Survey(SurveyView::Worth(row_name(line.config)));
+            let row = row_name(line.config);
+            let view = StudyView::Survey(SurveyView::Worth(row, form_of(line.csv)));
             text_of_view(rt, alloc, heap, line.explore, files, meter, view)
         }
         Line::Choices(line) => {
-            let view = StudyView::Choices(ChoicesView::Table);
-            text_of_view(rt, alloc, heap, line, files, meter, view)
+            let view = StudyView::Choices(ChoicesView::Lists(form_of(line.csv)));
+            text_of_view(rt, alloc, heap, line.explore, files, meter, view)
         }
         Line::Prices(line) => {
-            let view = StudyView::Survey(SurveyView::Prices);
-            text_of_view(rt, alloc, heap, line, files, meter, view)
+            let view = StudyView::Survey(SurveyView::Prices(form_of(line.csv)));
+            text_of_view(rt, alloc, heap, line.explore, files, meter, view)
         }
         Line::Weights(line) => {
-            let view = StudyView::Survey(SurveyView::Weights);
-            text_of_view(rt, alloc, heap, line, files, meter, view)
+            let view = StudyView::Survey(SurveyView::Weights(form_of(line.csv)));
+            text_of_view(rt, alloc, heap, line.explore, files, meter, view)
         }
         Line::Compare(line) => {
-            let view = StudyView::Survey(SurveyView::Compare(line.builds.old, line.builds.new));
+            let (old, new) = (line.builds.old, line.builds.new);
+            let view = StudyView::Survey(SurveyView::Compare(old, new, form_of(line.csv)));
             text_of_view(rt, alloc, heap, line.explore, files, meter, view)
         }
         Line::Functions(line) => text_of_functions(alloc, heap, line, files),

@@ -87,9 +87,9 @@ fn is_said<R: AllocGlobal + Threads + Wait + Sync>(
 /// All rows of that study.
 const PRICED_ROWS: &str =
     "row,cost,cycles,alu,mul,div,load,store,bru,alu_units,alu_latency,mul_units,mul_latency,\
-     div_units,div_latency,mem_units,mem_latency,bru_units,bru_latency,buses,mul_cycles,front\n\
-     0,20,8,2,1,1,1,1,1,1,1,1,3,1,1,1,1,1,1,1,8,1\n\
-     1,10,10,1,1,1,1,1,1,1,1,1,3,1,1,1,1,1,1,1,10,1\n";
+     div_units,div_latency,mem_units,mem_latency,bru_units,bru_latency,buses,mul_cycles,front,hull\n\
+     0,20,8,2,1,1,1,1,1,1,1,1,3,1,1,1,1,1,1,1,8,1,1\n\
+     1,10,10,1,1,1,1,1,1,1,1,1,3,1,1,1,1,1,1,1,10,1,1\n";
 
 #[test]
 fn a_meter_hears_how_far_it_is(rt: HostRuntime) -> Result<(), Fail> {

@@ -121,7 +121,7 @@ static STALLS: [Done; 2] = [
     ("tomex stalls one 0 long --by-pc", "pc,", "\n"),
 ];
 
-static PICTURES: [Done; 3] = [
+static PICTURES: [Done; 4] = [
     (
         "tomex pipeline one 0 long --from 262144 --steps 1",
         "cycles ",
@@ -134,6 +134,11 @@ static PICTURES: [Done; 3] = [
     ),
     (
         "tomex animate one 0 long --from 262144 --cycles 256",
+        "<!DOCTYPE html>\n",
+        "</html>\n",
+    ),
+    (
+        "tomex animate one 0 long --from 262144 --cycles 256 --blank",
         "<!DOCTYPE html>\n",
         "</html>\n",
     ),
@@ -233,20 +238,23 @@ static ON_A_LONG_FRONT: [(&str, usize); 5] = [
 ];
 
 /// The same of all rows: the names; with `worth` the machine, and 15, 3 and 15 changes; with `prices` the stated ones.
-static ROWS_OF_A_LONG_FRONT: [(&str, usize); 3] = [
+static ROWS_OF_A_LONG_FRONT: [(&str, usize); 4] = [
     ("tomex rows alike", 1025),
     ("tomex worth alike 0 --workers 2", 35),
+    ("tomex worth alike 0 --csv", 34),
     ("tomex prices alike", 1026),
 ];
 
 /// 2,304 of these: `find` and `front --hull` print the names and each row, `weights` and `prices` the stated ones too;
 /// `compare` two tables, `choices` a line a list.
-static ROWS_OF_A_LONGER_FRONT: [(&str, usize); 5] = [
+static ROWS_OF_A_LONGER_FRONT: [(&str, usize); 7] = [
     ("tomex find longer", 2305),
     ("tomex front longer --hull", 2305),
     ("tomex weights longer", 2306),
     ("tomex compare longer loop loop", 51),
     ("tomex choices longer", 15),
+    ("tomex choices longer --csv", 14),
+    ("tomex compare longer loop loop --csv", 45),
 ];
 
 /// Fails unless each of these lines succeeds, with this number of lines in its output.

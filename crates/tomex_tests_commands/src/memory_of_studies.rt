@@ -38,7 +38,7 @@ const TWELVE: &str =
     [[unit.mul]]\nlatency = 3\nprice = 40\n[[unit.mul]]\nlatency = 6\nprice = 15\n";
 
 /// Lines on all rows of a study, or on pages, and the least number of blocks that they need.
-static OF_TWELVE: [(&str, u64); 11] = [
+static OF_TWELVE: [(&str, u64); 17] = [
     // The study's bytes and its file's, names, the program, rows, costs and the text; stretches, totals, the plateaus,
     // all rows, marks and the front.
     ("tomex rows study", 14),
@@ -49,10 +49,16 @@ static OF_TWELVE: [(&str, u64); 11] = [
     ("tomex prices study", 14),
     ("tomex weights study", 14),
     ("tomex compare study mul mul", 14),
+    ("tomex worth study 4 --csv", 14),
+    ("tomex choices study --csv", 14),
+    ("tomex prices study --csv", 14),
+    ("tomex weights study --csv", 14),
+    ("tomex compare study mul mul --csv", 14),
     ("tomex plot study --rows", 14),
     ("tomex page study", 14),
     ("tomex page study --choices", 14),
     ("tomex animate study 4 mul --cycles 2", 14),
+    ("tomex animate study 4 mul --cycles 2 --blank", 14),
 ];
 
 #[test]

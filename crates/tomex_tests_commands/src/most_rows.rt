@@ -34,14 +34,14 @@ fn most_rows(alloc: Global) -> Result<String, AllocError> {
     let mut text = String::from_str(
         alloc,
         "row,cost,cycles,alu,mul,div,load,store,bru,alu_units,alu_latency,mul_units,mul_latency,\
-         div_units,div_latency,mem_units,mem_latency,bru_units,bru_latency,buses,mul_cycles,front\n",
+         div_units,div_latency,mem_units,mem_latency,bru_units,bru_latency,buses,mul_cycles,front,hull\n",
     )?;
     for row in 0..16_384u32 {
         let (div, load) = (row / 1024 + 1, row / 64 % 16 + 1);
         let (store, bru) = (row / 4 % 16 + 1, row % 4 + 1);
         let (cost, front) = (row + 1093, u8::from(row == 0));
         let line = format!(in alloc;
-            "{row},{cost},8,1,1,{div},{load},{store},{bru},1,1,1,1,1,1,1,1,1,1,1,8,{front}\n"
+            "{row},{cost},8,1,1,{div},{load},{store},{bru},1,1,1,1,1,1,1,1,1,1,1,8,{front},{front}\n"
         )?;
         text.push_str(line.as_str())?;
     }
@@ -106,9 +106,12 @@ fn counts<R: Abort + AllocGlobal + Threads + Wait + Sync>(
 }
 
 /// Lines with the number of lines in their output.
-static COUNTS: [(&str, usize); 3] = [
+static COUNTS: [(&str, usize); 6] = [
     ("tomex weights study", 3),
+    ("tomex weights study --csv", 1),
     ("tomex compare study mul mul", 62),
+    ("tomex compare study mul mul --csv", 56),
+    ("tomex prices study --csv", 5),
     ("tomex find study", 16_385),
 ];
 

@@ -13,5 +13,5 @@ mod view_error;
 
 pub use answering::answer_view;
 pub use crew::Crew;
-pub use study_view::{ChoicesView, StudyView, SurveyView};
+pub use study_view::{ChoicesView, Form, StudyView, SurveyView};
 pub use view_error::ViewError;

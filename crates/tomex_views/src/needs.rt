@@ -21,7 +21,7 @@ pub(crate) fn needed<A: Allocator>(study: Study<A>, view: SurveyView<'_>) -> Stu
     only_the_two_builds_matter();
     study.keeps_limits();
     let needed = match view {
-        SurveyView::Compare(old, new) => study.with_only(old, new),
+        SurveyView::Compare(old, new, _) => study.with_only(old, new),
         _ => study,
     };
     needed.keeps_limits();

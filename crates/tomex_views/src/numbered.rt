@@ -23,9 +23,9 @@ pub(crate) fn numbered<'a, A: Allocator>(
     ensures refused { IfErr result (IsWithoutSurvey view.entry study.now) }
 {
     match view {
-        SurveyView::Worth(name) => {
+        SurveyView::Worth(name, form) => {
             let row = row_named(heap, study, name)?;
-            Ok(SurveyView::Worth(RowName::Number(row)))
+            Ok(SurveyView::Worth(RowName::Number(row), form))
         }
         _ => Ok(view),
     }

@@ -2,6 +2,15 @@
 
 use tomex_front_views::RowName;
 
+/// How a table is printed.
+#[derive(Clone, Copy)]
+pub enum Form {
+    /// In aligned columns.
+    Table,
+    /// As CSV.
+    Csv,
+}
+
 /// A view of a study's front or of all its rows.
 #[derive(Clone, Copy)]
 pub enum SurveyView<'a> {
@@ -15,14 +24,14 @@ pub enum SurveyView<'a> {
     RowsPicture,
     /// Each row, in CSV.
     Rows,
-    /// The gain from each change of one list on the configuration of this name, as a table.
-    Worth(RowName<'a>),
-    /// The prices with which each row of the front stays on it, as a table.
-    Prices,
-    /// The weights of the programs with which each row is on the front, as a table.
-    Weights,
-    /// The programs of these two names on every row, the old build first, as two tables.
-    Compare(&'a str, &'a str),
+    /// The gain from each change of one list on the configuration of this name.
+    Worth(RowName<'a>, Form),
+    /// The prices with which each row of the front stays on it.
+    Prices(Form),
+    /// The weights of the programs with which each row is on the front.
+    Weights(Form),
+    /// The programs of these two names on every row, the old build first: two tables, or the second as CSV.
+    Compare(&'a str, &'a str, Form),
     /// A report of the study of this name, as a page in HTML.
     Page(&'a str),
 }
@@ -30,8 +39,8 @@ pub enum SurveyView<'a> {
 /// A view of a study with what its lists lack, for which new machines are evaluated.
 #[derive(Clone, Copy)]
 pub enum ChoicesView<'a> {
-    /// The choices of each list, as a table.
-    Table,
+    /// The choices of each list.
+    Lists(Form),
     /// A report of the study of this name, as a page in HTML.
     Page(&'a str),
 }

@@ -1,6 +1,7 @@
 //! The text of the commands that print a view of a study.
 ghost use Rattle.std.specs.Prelude.{◌≡◌, IfOk, IfErr};
-ghost use Rattle.tomex_command.specs.ViewLines.{IsViewFailure, IsViewOf, page_view, plot_view, table_view};
+ghost use Rattle.tomex_command.specs.ViewLines.{IsViewFailure, IsViewOf, form_of, page_view, plot_view};
+ghost use Rattle.tomex_command.specs.ViewLines.{table_view};
 
 use super::study::sources_in;
 use crate::failure::Failure;
@@ -9,7 +10,14 @@ use std::alloc::{Allocator, Global};
 use std::thread::Threads;
 use tomex_command_line::{ExploreLine, PageLine};
 use tomex_streams::{Files, Meter};
-use tomex_views::{ChoicesView, Crew, StudyView, SurveyView, answer_view};
+use tomex_views::{ChoicesView, Crew, Form, StudyView, SurveyView, answer_view};
+
+/// How a table is printed: as CSV, or in columns.
+pub fn form_of(csv: bool) -> Form
+    ensures { result ≡ form_of csv }
+{
+    if csv { Form::Csv } else { Form::Table }
+}
 
 /// The view that `front` prints: the whole front, or its hull.
 pub fn table_view(hull: bool) -> SurveyView<'static>
