@@ -65,16 +65,16 @@ module _ (form : Form) (s : DesignSpace) (old new : List ℕ) where
   by_name = of_places (place_of old s) (place_of new s) refl refl
 
 -- two studies with the same configurations and costs print the same of the same programs
-same_programs : (p : Workload) → IsSameProgram p p
-same_programs p = record { name = refl; image = refl; limit = refl }
+same_program : (p : Workload) → IsSameProgram p p
+same_program p = record { name = refl; image = refl; limit = refl }
 
 same_printed : OnlyTheTwoMatter → OnlyTheTwoMatterInCsv → (form : Form) (s t : DesignSpace) → IsStudy s → IsStudy t
     → s.rows ≡ t.rows → s.costs ≡ t.costs → (old new : Option Workload) → printed form s old new ≡ printed form t old new
 unfolding printed
 same_printed law csv forms.Table s t study other rows costs (Some old) (Some new) =
-    law s t old new old new study other rows costs (same_programs old) (same_programs new)
+    law s t old new old new study other rows costs (same_program old) (same_program new)
 same_printed law csv forms.Csv s t study other rows costs (Some old) (Some new) =
-    csv s t old new old new study other rows costs (same_programs old) (same_programs new)
+    csv s t old new old new study other rows costs (same_program old) (same_program new)
 same_printed law csv forms.Table s t study other rows costs (Some old) None = refl
 same_printed law csv forms.Csv s t study other rows costs (Some old) None = refl
 same_printed law csv forms.Table s t study other rows costs None new = refl
