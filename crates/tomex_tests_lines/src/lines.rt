@@ -5,7 +5,7 @@ use std::alloc::{AllocError, Global};
 use std::process::Abort;
 use std::test::Fail;
 use tomex_arguments::LineFault;
-use tomex_command_line::{ConfigName, Line, OneRun, read_line};
+use tomex_command_line::{ConfigName, Line, OneRun, TableLine, read_line};
 
 /// The words of a line, split at each space.
 fn words(alloc: Global, line: &str) -> Result<Vec<String>, AllocError> {
@@ -46,6 +46,12 @@ fn line_text(alloc: Global, line: &Line) -> Result<String, AllocError> {
     }
 }
 
+/// A request for a table of a study's rows: its name and its numbers.
+fn table_text(alloc: Global, name: &str, line: &TableLine) -> Result<String, AllocError> {
+    let (study, workers) = (line.explore.study, line.explore.workers);
+    format!(in alloc; "{name} {study} {workers} {}", line.csv)
+}
+
 /// The same for a line on all rows of a study.
 fn line_on_all_rows(alloc: Global, line: &Line) -> Result<String, AllocError> {
     match line {
@@ -61,19 +67,18 @@ fn line_on_all_rows(alloc: Global, line: &Line) -> Result<String, AllocError> {
         Line::Worth(worth) => {
             let (study, workers) = (worth.explore.study, worth.explore.workers);
             let config = config_text(alloc, worth.config)?;
-            format!(in alloc; "worth {study} {config} {workers}")
+            format!(in alloc; "worth {study} {config} {workers} {}", worth.csv)
         }
-        Line::Choices(choices) => {
-            format!(in alloc; "choices {} {}", choices.study, choices.workers)
-        }
-        Line::Prices(prices) => format!(in alloc; "prices {} {}", prices.study, prices.workers),
-        Line::Weights(weights) => {
-            format!(in alloc; "weights {} {}", weights.study, weights.workers)
-        }
+        Line::Choices(choices) => table_text(alloc, "choices", choices),
+        Line::Prices(prices) => table_text(alloc, "prices", prices),
+        Line::Weights(weights) => table_text(alloc, "weights", weights),
         Line::Compare(compare) => {
             let (study, workers) = (compare.explore.study, compare.explore.workers);
             let builds = compare.builds;
-            format!(in alloc; "compare {study} {} {} {workers}", builds.old, builds.new)
+            format!(in alloc;
+                "compare {study} {} {} {workers} {}",
+                builds.old, builds.new, compare.csv
+            )
         }
         Line::Page(page) => {
             let (study, workers) = (page.explore.study, page.explore.workers);
@@ -150,7 +155,7 @@ fn text_of(alloc: Global, line: &str) -> Result<String, AllocError> {
 }
 
 /// Lines, and the beginnings of their results.
-static READ: [(&str, &str); 104] = [
+static READ: [(&str, &str); 105] = [
     ("run mul.bin", "run mul.bin 0 65536 262144"),
     (
         "run a --base 4294967292 --size 4 --limit 1",
@@ -259,22 +264,22 @@ static READ: [(&str, &str); 104] = [
     ("rows a --workers 32", "rows a 32"),
     ("rows --help", "help Prints the cost and the exact cycles"),
     ("rows -h", "help Prints the cycles of every configuration"),
-    ("worth a 0", "worth a 0 1"),
+    ("worth a 0", "worth a 0 1 false"),
     ("worth --workers=32 a 16383", "worth a 16383 32"),
-    ("worth a row=3", "worth a [row=3] 1"),
+    ("worth a row=3 --csv", "worth a [row=3] 1 true"),
     ("worth --help", "help Prints what each change"),
     ("worth -h", "help Prints what one more"),
-    ("choices a", "choices a 1"),
-    ("choices --workers 2 a", "choices a 2"),
+    ("choices a", "choices a 1 false"),
+    ("choices --workers 2 --csv a", "choices a 2 true"),
     ("choices --help", "help Prints, for each list of a study"),
     ("choices -h", "help Prints which choices of each list"),
-    ("prices a", "prices a 1"),
-    ("prices --workers 2 a", "prices a 2"),
-    ("weights a", "weights a 1"),
-    ("weights --workers 2 a", "weights a 2"),
+    ("prices a", "prices a 1 false"),
+    ("prices --csv --workers 2 a", "prices a 2 true"),
+    ("weights a", "weights a 1 false"),
+    ("weights --workers 2 a --csv", "weights a 2 true"),
     ("weights --help", "help Prints between which values"),
-    ("compare a b c", "compare a b c 1"),
-    ("compare --workers 2 a c b", "compare a c b 2"),
+    ("compare a b c", "compare a b c 1 false"),
+    ("compare --workers 2 --csv a c b", "compare a c b 2 true"),
     ("compare --help", "help Prints how many cycles"),
     ("compare -h", "help Prints on which configurations"),
     ("functions a 16383 b c", "functions a 16383 b c"),
@@ -360,7 +365,7 @@ fn help_is_whole(rt: HostRuntime) -> Result<(), Fail> {
     Ok(())
 }
 
-static REFUSED: [&str; 43] = [
+static REFUSED: [&str; 47] = [
     "run a --base 4294967293",
     "run a --base -4",
     "run a --base 0x10",
@@ -374,6 +379,8 @@ static REFUSED: [&str; 43] = [
     "times study 0",
     "choices",
     "weights",
+    "prices study --csv --csv",
+    "compare study a b --csv=1",
     "page study --choices --choices",
     "page study --choices=1",
     "compare study a",

@@ -162,15 +162,15 @@ fn commands(rt: HostRuntime) -> Result<(), Fail> {
 
 /// Parts of lines of the list, and what is printed of the first lines that have them, and how many lines there are.
 static PARTS: [(&str, &str, usize); 8] = [
-    ("", "cannot read NAME\nno such choice: CHOICE\n", 38),
+    ("", "cannot read NAME\nno such choice: CHOICE\n", 41),
     ("segment", "image: too many segments\nimage: segment\n", 2),
     ("fault", "fault: fetch at PC\nfault: illegal at PC\n", 4),
     (" at PC", "fault: fetch at PC\nfault: illegal at PC\n", 4),
     ("image", "image: empty\nimage: too large\n", 11),
     (
         "KEY",
-        "study: PLACE: KEY missing\nstudy: PLACE: KEY of wrong kind\n",
-        3,
+        "study: PLACE: unknown key\nstudy: PLACE: KEY missing\n",
+        4,
     ),
     // A single one is explained.
     (
