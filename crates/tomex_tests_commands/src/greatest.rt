@@ -254,7 +254,7 @@ static ROWS_OF_A_LONGER_FRONT: [(&str, usize); 7] = [
     ("tomex compare longer loop loop", 51),
     ("tomex choices longer", 15),
     ("tomex choices longer --csv", 14),
-    ("tomex compare longer loop loop --csv", 45),
+    ("tomex compare longer loop loop --csv", 46),
 ];
 
 /// Fails unless each of these lines succeeds, with this number of lines in its output.

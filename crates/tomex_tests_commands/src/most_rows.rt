@@ -110,7 +110,7 @@ static COUNTS: [(&str, usize); 6] = [
     ("tomex weights study", 3),
     ("tomex weights study --csv", 1),
     ("tomex compare study mul mul", 62),
-    ("tomex compare study mul mul --csv", 56),
+    ("tomex compare study mul mul --csv", 57),
     ("tomex prices study --csv", 5),
     ("tomex find study", 16_385),
 ];
