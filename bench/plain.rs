@@ -2147,6 +2147,29 @@ fn front(rows: &[Configuration], cycles: &[u64]) -> Vec<usize> {
     front
 }
 
+/// True if the middle one of three points, by rising cost, is above the line from the first to the last.
+fn is_above(first: (u64, u64), middle: (u64, u64), last: (u64, u64)) -> bool {
+    let cost = |from: (u64, u64), to: (u64, u64)| i128::from(to.0) - i128::from(from.0);
+    let cycles = |from: (u64, u64), to: (u64, u64)| i128::from(to.1) - i128::from(from.1);
+    cycles(first, middle) * cost(first, last) > cycles(first, last) * cost(first, middle)
+}
+
+/// Cost and cycles of the rows of the front that no mix of two others beats.
+fn hull(front: &[usize], rows: &[Configuration], cycles: &[u64]) -> Vec<(u64, u64)> {
+    let mut hull: Vec<(u64, u64)> = vec![];
+    for row in front {
+        let point = (rows[*row].cost, cycles[*row]);
+        if hull.last() == Some(&point) {
+            continue;
+        }
+        while hull.len() > 1 && is_above(hull[hull.len() - 2], hull[hull.len() - 1], point) {
+            hull.pop();
+        }
+        hull.push(point);
+    }
+    hull
+}
+
 // ---------------------------------------------------------------------------- Reports
 
 /// A text of CSV: each field ends with a comma, which the end of a record replaces.
@@ -2297,15 +2320,21 @@ fn front_report(study: &Study, ends: &[End], survey: &Survey) -> Vec<u8> {
 
 fn rows_report(study: &Study, survey: &Survey) -> Vec<u8> {
     let cycles = survey.cycles(study);
+    let front = front(&study.rows, &cycles);
+    let hull = hull(&front, &study.rows, &cycles);
     let mut is_on_front = vec![false; study.rows.len()];
-    for row in front(&study.rows, &cycles) {
+    let mut is_on_hull = vec![false; study.rows.len()];
+    for row in front {
+        let point = (study.rows[row].cost, cycles[row]);
         is_on_front[row] = true;
+        is_on_hull[row] = hull.binary_search_by_key(&point.0, |on| on.0).is_ok_and(|at| hull[at] == point);
     }
     let mut report = Report::of_rows(study);
     for program in &study.programs {
         report.text(&format!("{}_cycles", program.name));
     }
     report.text("front");
+    report.text("hull");
     report.end_record();
     for (row, totals) in survey.0.chunks(study.programs.len()).enumerate() {
         report.row(study, row, cycles[row]);
@@ -2313,6 +2342,7 @@ fn rows_report(study: &Study, survey: &Survey) -> Vec<u8> {
             report.number(*total);
         }
         report.number(is_on_front[row] as u64);
+        report.number(is_on_hull[row] as u64);
         report.end_record();
     }
     report.0
