@@ -4,7 +4,7 @@ use Rattle.std.specs.List.{flat_map}
 use Rattle.tomex_config.specs.Configuration.{Configuration}
 use Rattle.tomex_config.specs.Parts.{all_parts}
 use Rattle.tomex_config.specs.declared.part.Part.{Part}
-use Rattle.tomex_csv.specs.Fields.{number_field}
+use Rattle.tomex_layout.specs.CsvFields.{number_field}
 use Rattle.tomex_layout.specs.Csv.{record_text}
 use Rattle.tomex_layout.specs.Lists.{entry_text}
 use Rattle.tomex_study.specs.Study.{DesignSpace}

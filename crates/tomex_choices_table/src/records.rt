@@ -14,8 +14,7 @@ use crate::table::text_under;
 use std::alloc::{AllocError, Allocator, Global};
 use tomex_choices::{WeighedChoices, front_choices, unused};
 use tomex_config::{Config, Part};
-use tomex_csv::{CsvText, Fields};
-use tomex_layout::push_entry;
+use tomex_layout::{CsvText, Fields, push_entry};
 
 /// Adds configurations' entries in a part's list, each after a space.
 #[tactic(auto, unfolding(crate::specs::ChoicesCsv::after_space))]

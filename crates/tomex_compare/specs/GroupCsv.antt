@@ -2,7 +2,7 @@
 use Rattle.std.specs.Prelude.{ℕ, if◌then◌else◌, List, [], ◌++◌, codes, map, slice_get, Option, Some}
 use Rattle.std.specs.List.{flat_map}
 use Rattle.std.specs.Str.{bytes_eq}
-use Rattle.tomex_csv.specs.Fields.{number_field}
+use Rattle.tomex_layout.specs.CsvFields.{number_field}
 use Rattle.tomex_layout.specs.Csv.{record_text}
 use Rattle.tomex_study.specs.Program.{Workload}
 use Rattle.tomex_study.specs.Study.{DesignSpace}

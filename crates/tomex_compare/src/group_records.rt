@@ -9,7 +9,7 @@ ghost use Rattle.tomex_layout.specs.Csv.{record_text};
 use crate::group_table::{Heading, text_under};
 use crate::groups::Group;
 use std::alloc::{AllocError, Allocator, Global};
-use tomex_csv::{CsvText, Fields};
+use tomex_layout::{CsvText, Fields};
 
 /// What a group's rows have in common, or nothing if they are all rows.
 fn value_of(group: &Group) -> &str

@@ -5,3 +5,4 @@ pub mod Loops
 pub mod Each
 pub mod Lengths
 mod Worked
+mod WorkedCsv

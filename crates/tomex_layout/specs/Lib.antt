@@ -8,3 +8,4 @@ pub mod Names
 pub mod Growth
 pub mod Table
 pub mod RowColumns
+pub mod CsvFields

@@ -1,11 +1,14 @@
-//! The elements of what is printed: CSV records, by the crate `csv` with its defaults; aligned texts, and tables of
-//! them, a line of names and lines of texts; names of lists, settings and programs, and the entries of lists; numbers
-//! of hundredths, signed differences, percentages and rates.
+//! The elements of what is printed: CSV records and texts of them, by the crate `csv` with its defaults; aligned
+//! texts, and tables of them, a line of names and lines of texts; names of lists, settings and programs, and the
+//! entries of lists; numbers of hundredths, signed differences, percentages and rates.
 //! Tests: tomex_cases, tomex_tests_reports, tomex_tests_surveys.
 #![tactic(auto)]
 
 mod aligned;
 mod column;
+mod csv_cells;
+mod csv_fields;
+mod csv_text;
 mod differences;
 mod fields;
 mod headings;
@@ -19,6 +22,8 @@ mod writing;
 
 pub use aligned::{push_aligned, push_aligned_number, push_left_aligned};
 pub use column::Column;
+pub use csv_fields::Fields;
+pub use csv_text::CsvText;
 pub use differences::{percent, push_percent, push_signed, signed_difference};
 pub use fields::{push_decimal, push_instruction, push_names};
 pub use headings::push_row_columns;

@@ -19,7 +19,7 @@ use crate::prices_error::PricesError;
 use crate::study_prices::{prices, relevant_prices};
 use crate::table::is_too_large;
 use std::alloc::{AllocError, Allocator, Global};
-use tomex_csv::{CsvText, Fields};
+use tomex_layout::{CsvText, Fields};
 use tomex_pareto::FrontRow;
 use tomex_study::Surveyed;
 

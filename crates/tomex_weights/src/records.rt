@@ -15,7 +15,7 @@ use crate::percents::percent;
 use crate::table::{name_at, span_at, weight_at};
 use crate::texts::{push_first, push_last};
 use std::alloc::{AllocError, Allocator, Global};
-use tomex_csv::{CsvText, Fields};
+use tomex_layout::{CsvText, Fields};
 use tomex_pareto::{FrontRow, ValueSpan, is_on};
 use tomex_study::Surveyed;
 

@@ -17,8 +17,8 @@ use tomex_study::Surveyed;
 pub const GREATEST_WEIGHT: u64 = 100_000;
 
 /// The weights of the program at a place, in hundredths, and no others, for which a row is on the front, all other
-/// weights as stated; both ends are 0 if there are none. It may be on the front as stated or not. `rows` are all rows of
-/// the study by that weight.
+/// weights as stated; both ends are 0 if there are none. It may be on the front as stated or not. `rows` are all rows
+/// of the study by that weight.
 pub fn span_of<A: Allocator>(
     surveyed: &Surveyed<'_, A>,
     place: usize,

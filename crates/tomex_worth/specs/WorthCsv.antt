@@ -5,7 +5,7 @@ use Rattle.tomex_pareto.specs.Front.{dominates, is_on}
 use Rattle.tomex_pareto.specs.declared.front_row.FrontRow.{FrontRow}
 use Rattle.tomex_layout.specs.Csv.{record_text}
 use Rattle.tomex_layout.specs.Differences.{signed_difference}
-use Rattle.tomex_csv.specs.Fields.{flag_field, number_field}
+use Rattle.tomex_layout.specs.CsvFields.{flag_field, number_field}
 use Rattle.tomex_study.specs.Cycles.{total_at}
 use Rattle.tomex_study.specs.Program.{Workload}
 use Rattle.tomex_study.specs.Study.{DesignSpace}

@@ -13,8 +13,7 @@ use crate::heading::Heading;
 use crate::kind::Kind;
 use crate::table::{Machine, text_under};
 use std::alloc::{AllocError, Allocator, Global};
-use tomex_csv::{CsvText, Fields};
-use tomex_layout::{rate_text, signed_difference};
+use tomex_layout::{CsvText, Fields, rate_text, signed_difference};
 use tomex_pareto::{FrontRow, is_on};
 use tomex_study::{Program, Study, Surveyed};
 

@@ -1,7 +1,7 @@
 //! What is in a table's cells, as fields.
 
 ghost use Rattle.std.specs.Prelude.{◌≡◌};
-ghost use Rattle.tomex_csv.specs.Fields.{number_field, without_plus};
+ghost use Rattle.tomex_layout.specs.CsvFields.{number_field, without_plus};
 
 /// A number without its plus sign.
 fn without_plus(cell: &str) -> &str

@@ -3,9 +3,9 @@
 ghost use Rattle.std.specs.Prelude.{◌≡◌, ◌++◌, ◌∷◌, [], IfOk, OnOk, map};
 ghost use Rattle.std.specs.Fmt.{decimal};
 ghost use Rattle.csv.specs.Records.{fields_of};
-ghost use Rattle.tomex_csv.specs.Fields.{flag_field, number_field, percent_field};
+ghost use Rattle.tomex_layout.specs.CsvFields.{flag_field, number_field, percent_field};
 
-use crate::cells::number_in;
+use crate::csv_cells::number_in;
 use csv::{ByteRecord, StringRecord};
 use std::alloc::{AllocError, Global};
 use std::fmt::Write;

@@ -3,11 +3,11 @@
 ghost use Rattle.std.specs.Prelude.{◌≡◌, ◌++◌, [], map, IfOk};
 ghost use Rattle.tomex_layout.specs.Csv.{record_text};
 
-use crate::fields::Fields;
+use crate::csv_fields::Fields;
+use crate::writing::{into_text, put_record};
 use csv::Writer;
 use std::alloc::{AllocError, Allocator, Global};
 use std::marker::Model;
-use tomex_layout::{into_text, put_record};
 
 /// A text of CSV: its records, so far.
 #[derive(Drop)]

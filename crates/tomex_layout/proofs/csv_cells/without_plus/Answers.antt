@@ -2,8 +2,8 @@
 use Rattle.std.proofs.Common.{◌≡◌, ◌≢◌, ◌==◌, ℕ, ap, arith, inl, inr, refl, List, [], ◌∷◌, None, Some}
 use Rattle.std.proofs.lemmas.Bool.{cases_Bool, eqb-true}
 use Rattle.std.proofs.lemmas.Str.Pattern.{strip_prefix_char}
-use Rattle.tomex_csv.specs.Fields.{without_plus}
-use Rattle.tomex_csv.proofs.cells.without_plus.Goals as goal
+use Rattle.tomex_layout.specs.CsvFields.{without_plus}
+use Rattle.tomex_layout.proofs.csv_cells.without_plus.Goals as goal
 
 stays : (cell : List ℕ) → ((digits : List ℕ) → cell ≢ 43 ∷ digits) → cell ≡ without_plus cell
 stays [] none = refl
