@@ -79,6 +79,20 @@ impl<'a, A: Allocator> Cpu<'a, A> {
         self.pc
     }
 
+    /// The registers, x0 first.
+    pub fn registers(&self) -> [u32; 32]
+        ensures { result ≡ self.now.regs }
+    {
+        self.regs
+    }
+
+    /// The bytes of the window, the one at its base first.
+    pub fn memory(&self) -> &[u8]
+        ensures { result.now ≡ self.now.memory }
+    {
+        self.memory.bytes()
+    }
+
     /// The fault of this kind, of the instruction at the pc.
     fn fault(&self, kind: FaultKind) -> Fault
         ensures { result ≡ record { kind = kind; pc = self.now.pc } }
@@ -157,7 +171,7 @@ impl<'a, A: Allocator> Cpu<'a, A> {
 
     /// One step, with its record.
     #[tactic(auto, unfolding(crate::specs::Machine::step_of))]
-    pub(crate) fn record_step(&mut self) -> Result<(Step, Stepped), Fault>
+    pub fn record_step(&mut self) -> Result<(Step, Stepped), Fault>
         ensures ok { IfOk result
             (λ r. (coming_of self.old ≡ Some r.0) × Answers (step_of self.old) self.old (Ok r.1) self.new) }
         ensures err { IfErr result (λ e. Answers (step_of self.old) self.old (Err e) self.new) }

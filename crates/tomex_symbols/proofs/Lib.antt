@@ -1,5 +1,5 @@
 -- Lemmas of the crate.
-pub mod Tables
+pub mod Entries
 pub mod Strings
 pub mod Rising
 pub mod Best

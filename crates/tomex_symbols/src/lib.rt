@@ -13,4 +13,5 @@ mod symbol;
 pub use functions::functions_at;
 pub use naming::name_of;
 pub use reading::{has_symbols, symbols};
+pub use sections::{Section, Tables, find_tables};
 pub use symbol::{Binding, Kind, Symbol};

@@ -1,7 +1,7 @@
 -- The entry counts, or no entry so far does.
 use Rattle.std.proofs.Common.{◌∙◌, ap, sym}
 use Rattle.std.specs.Prelude.{is_some}
-use Rattle.tomex_symbols.proofs.Tables.{entry_counts, entry_skipped}
+use Rattle.tomex_symbols.proofs.Entries.{entry_counts, entry_skipped}
 use Rattle.tomex_symbols.proofs.reading.has_counted.Goals as goal
 
 pub returns-then-is_some : goal.returns-then-is_some

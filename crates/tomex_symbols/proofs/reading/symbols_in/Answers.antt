@@ -2,7 +2,7 @@
 use Rattle.std.proofs.Common.{◌≡◌, ◌/◌, sym, subst, append_assoc, rules}
 use Rattle.tomex_symbols.specs.Functions.{AreNumbered}
 use Rattle.tomex_symbols.specs.Symbols.{symbols_from}
-use Rattle.tomex_symbols.proofs.Tables.{apart_from, symbols_next}
+use Rattle.tomex_symbols.proofs.Entries.{apart_from, symbols_next}
 use Rattle.tomex_symbols.proofs.reading.symbols_in.Goals as goal
 
 pub loop-number-preserved : goal.loop-number-preserved

@@ -1,7 +1,7 @@
 -- The next section is the first symbol table, or is skipped.
 use Rattle.std.proofs.Common.{◌<◌, ◌∙◌, sym, arith}
 use Rattle.tomex_symbols.specs.Sections.{section_count}
-use Rattle.tomex_symbols.proofs.Tables.{table_found, table_passed}
+use Rattle.tomex_symbols.proofs.Entries.{table_found, table_passed}
 use Rattle.tomex_symbols.proofs.sections.find_symbol_table.Goals as goal
 
 pub returns-then-is_symbol_table : goal.returns-then-is_symbol_table

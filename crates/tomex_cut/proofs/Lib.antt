@@ -1,0 +1,23 @@
+-- Lemmas that several proofs cite.
+pub mod Walks
+pub mod Taken
+pub mod Rooms
+pub mod Written
+pub mod Prologues
+pub mod Files
+pub mod SymbolFiles
+pub mod Counted
+pub mod SameFunctions
+pub mod Sections
+pub mod Copies
+pub mod Names
+pub mod Listed
+pub mod Found
+pub mod Fitting
+pub mod First
+pub mod Loading
+pub mod Alike
+pub mod Replay
+pub mod Entry
+pub mod Whole
+pub mod Rows
