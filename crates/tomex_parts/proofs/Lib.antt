@@ -1,0 +1,24 @@
+-- Lemmas that several proofs cite.
+pub mod Drained
+pub mod Ending
+pub mod Sums
+pub mod Reach
+pub mod Tallying
+pub mod Walked
+pub mod Found
+pub mod Passed
+pub mod Advance
+pub mod Overlap
+pub mod Approached
+pub mod Shown
+pub mod Spread
+pub mod Ordered
+pub mod Worked
+pub mod Grouped
+pub mod Centers
+pub mod Renewed
+pub mod Weighing
+pub mod Started
+pub mod Lengths
+pub mod Shared
+pub mod Answered

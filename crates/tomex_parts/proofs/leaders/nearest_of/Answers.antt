@@ -1,0 +1,16 @@
+use Rattle.std.proofs.Common.{◌<◌, ◌∙◌, List, arith, length, subst, sym, ℕ}
+use Rattle.std.proofs.lemmas.List.{take_more}
+use Rattle.tomex_parts.specs.Near.{AreNearest}
+use Rattle.tomex_parts.proofs.leaders.nearest_of.Goals as goal
+
+pub loop-leader-preserved : goal.loop-leader-preserved
+loop-leader-preserved g c =
+    let i = c.loop-leader.leader-index in
+    let here : i < length c.args.leaders.now = omega arith in
+    record {
+      number = c.in_ok-approach.ensures.number ∙ c.loop-leader.invariant.number;
+      nearest = λ run of.
+          subst (λ (ls : List ℕ). AreNearest run ls c.approach.new.near.items)
+          (sym (take_more c.args.leaders.now i 0 here))
+          (c.in_ok-approach.ensures.near run _ of (c.loop-leader.invariant.nearest run of));
+    }

@@ -1,0 +1,118 @@
+use Rattle.std.proofs.Common.{◌≡◌, ◌+◌, ◌-◌, ◌*◌, length, ◌∙◌, ap, arith, refl}
+use Rattle.std.proofs.lemmas.Bool.{MatchBool-at_false, MatchBool-at_true}
+use Rattle.std.proofs.lemmas.Result.{err_from_is_err_and}
+use Rattle.std.specs.Prelude.{◌/◌, replicate}
+use Rattle.tomex_parts.specs.Stretches.{most_stretches, run_length}
+use Rattle.tomex_parts.specs.Tally.{lists}
+use Rattle.tomex_parts.proofs.Advance.{advance, found_none, passed}
+use Rattle.tomex_parts.proofs.Tallying.{tallied_none}
+use Rattle.tomex_parts.proofs.Walked.{length_fails, plus, walked_more, walked_start}
+use Rattle.tomex_parts.proofs.walking.walk.Goals as goal
+
+pub loop-done-init : goal.loop-done-init
+loop-done-init g c =
+    let window = c.window-window.ensures.value in
+    let size = ap (λ w. w.size) window in
+    let tally = c.in_ok-tally.ensures in
+    record {
+      walked = walked_start c.args.image.now c.args.steps c.in_ok-cpu.cpu _ _ _ c.fills_its_window.ensures
+          c.in_ok-cpu.ensures window c.keeps_limits.ensures c.in_ok-uses.ensures.base c.in_ok-uses.ensures.numbers;
+      tallied = tallied_none c.args.image.now c.args.steps _ _ _ _ _ tally.current
+          (tally.counts ∙ ap (λ n. replicate (n / 4) 0) size) tally.words
+          (ap lists tally.rows) (ap length tally.parts);
+      found = found_none c.args.image.now c.args.steps _ _ tally.parts tally.waiting;
+      current = omega (arith, tally.current, c.requires.0);
+    }
+
+pub returns-in_err-word-clause-err : goal.returns-in_err-word-clause-err
+returns-in_err-word-clause-err g c =
+    let p = err_from_is_err_and c.from_residual-in_err-word.result c.from_residual-in_err-word.ensures.1 in
+    let limit = most_stretches * c.args.steps in
+    rw (p.1, p.2) (λ other. c.loop-done.invariant.walked.whole
+    ∙ length_fails c.loop-done.done limit c.loop-done.cpu c.in_err-word.field-0.0 (omega arith)
+    (c.in_err-word.ensures.err (run_length (limit - (c.loop-done.done + 1)))))
+
+pub returns-in_err-ends-clause-err : goal.returns-in_err-ends-clause-err
+returns-in_err-ends-clause-err g c =
+    let p = err_from_is_err_and c.from_residual-in_err-ends.result c.from_residual-in_err-ends.ensures.1 in
+    let limit = most_stretches * c.args.steps in
+    rw (p.1, p.2) (λ other. c.loop-done.invariant.walked.whole
+    ∙ length_fails c.loop-done.done limit c.loop-done.cpu c.in_err-ends.field-0.0 (omega arith)
+    (c.in_err-ends.ensures.err (run_length (limit - (c.loop-done.done + 1)))))
+
+pub returns-in_err-add_step-clause-err : goal.returns-in_err-add_step-clause-err
+returns-in_err-add_step-clause-err g c =
+    let p = err_from_is_err_and c.from_residual-in_err-add_step.result c.from_residual-in_err-add_step.ensures.1 in
+    rw (p.1, p.2) (λ other. absurd (other refl))
+
+pub end_since-requires-then-ends-clause-tallied : goal.end_since-requires-then-ends-clause-tallied
+end_since-requires-then-ends-clause-tallied g c =
+    let walk = c.loop-done.invariant in
+    let stepped = c.in_ok-ends.ensures.ok in
+    let on =
+    advance c.args.image.now c.args.steps c.loop-done.done c.in_ok-word.word c.last_use.result c.loop-done.cpu _ _
+    stepped.0
+    c.loop-done.tally c.end_since.new.self c.add_step.new.self c.requires.1 walk.walked walk.tallied walk.found
+    c.in_ok-word.ensures.inside c.in_ok-word.ensures.at c.in_ok-word.ensures.holds c.last_use.ensures
+    c.end_since.ensures.ends c.end_since.ensures.current c.end_since.ensures.counts c.end_since.ensures.rows
+    stepped.1.comes c.in_ok-add_step.ensures.tallied c.in_ok-add_step.ensures.found in
+    (c.args.image.now, on.tallied)
+
+pub end_since-requires-then-ends-clause-found : goal.end_since-requires-then-ends-clause-found
+end_since-requires-then-ends-clause-found g c =
+    let walk = c.loop-done.invariant in
+    let stepped = c.in_ok-ends.ensures.ok in
+    let on =
+    advance c.args.image.now c.args.steps c.loop-done.done c.in_ok-word.word c.last_use.result c.loop-done.cpu _ _
+    stepped.0
+    c.loop-done.tally c.end_since.new.self c.add_step.new.self c.requires.1 walk.walked walk.tallied walk.found
+    c.in_ok-word.ensures.inside c.in_ok-word.ensures.at c.in_ok-word.ensures.holds c.last_use.ensures
+    c.end_since.ensures.ends c.end_since.ensures.current c.end_since.ensures.counts c.end_since.ensures.rows
+    stepped.1.comes c.in_ok-add_step.ensures.tallied c.in_ok-add_step.ensures.found in
+    (c.args.image.now, c.loop-done.done + 1, on.found)
+
+pub returns-then-ends-clause-ok : goal.returns-then-ends-clause-ok
+returns-then-ends-clause-ok g c =
+    let walk = c.loop-done.invariant in
+    let stepped = c.in_ok-ends.ensures.ok in
+    let on =
+    advance c.args.image.now c.args.steps c.loop-done.done c.in_ok-word.word c.last_use.result c.loop-done.cpu _ _
+    stepped.0
+    c.loop-done.tally c.end_since.new.self c.add_step.new.self c.requires.1 walk.walked walk.tallied walk.found
+    c.in_ok-word.ensures.inside c.in_ok-word.ensures.at c.in_ok-word.ensures.holds c.last_use.ensures
+    c.end_since.ensures.ends c.end_since.ensures.current c.end_since.ensures.counts c.end_since.ensures.rows
+    stepped.1.comes c.in_ok-add_step.ensures.tallied c.in_ok-add_step.ensures.found in
+    let over = MatchBool-at_true _ _ c.if-ends.true stepped.1.goes in
+    let last = c.end_since-then-ends.ensures in
+    let made = c.into_stretches.ensures in
+    passed c.args.image.now c.args.steps c.loop-done.done c.loop-done.cpu _ _ over.0 stepped.0 c.add_step.new.self
+    c.end_since-then-ends.new.self c.into_stretches.result c.requires.0 c.requires.1 walk.walked (omega arith) on
+    c.in_ok-add_step.ensures.under_way stepped.1.comes over.1 last.ends last.counts last.rows made.steps made.words
+    made.rows made.parts
+
+pub loop-done-preserved : goal.loop-done-preserved
+loop-done-preserved g c =
+    let walk = c.loop-done.invariant in
+    let stepped = c.in_ok-ends.ensures.ok in
+    let goes = MatchBool-at_false _ _ c.if-ends.false stepped.1.goes in
+    let on =
+    advance c.args.image.now c.args.steps c.loop-done.done c.in_ok-word.word c.last_use.result c.loop-done.cpu _ _
+    stepped.0
+    c.loop-done.tally c.end_since.new.self c.add_step.new.self c.requires.1 walk.walked walk.tallied walk.found
+    c.in_ok-word.ensures.inside c.in_ok-word.ensures.at c.in_ok-word.ensures.holds c.last_use.ensures
+    c.end_since.ensures.ends c.end_since.ensures.current c.end_since.ensures.counts c.end_since.ensures.rows
+    stepped.1.comes c.in_ok-add_step.ensures.tallied c.in_ok-add_step.ensures.found in
+    record {
+      walked = walked_more c.args.image.now c.args.steps c.loop-done.done c.loop-done.cpu c.take_step.new.cpu _ _ _ _
+          stepped.0 walk.walked stepped.1.comes goes (omega arith) stepped.1.numbers c.in_ok-ends.ensures.base;
+      tallied = on.tallied;
+      found = on.found;
+      current = c.in_ok-add_step.ensures.under_way;
+    }
+
+pub returns-clause-err : goal.returns-clause-err
+returns-clause-err g c = λ other.
+    let limit = most_stretches * c.args.steps in
+    let all : limit - c.loop-done.done ≡ 0 = omega arith in
+    c.loop-done.invariant.walked.whole
+    ∙ ap (λ m. plus c.loop-done.done (run_length m c.loop-done.cpu)) all

@@ -1,0 +1,110 @@
+//! The whole run, by its stretches.
+
+ghost use Rattle.std.specs.Prelude.{◌≡◌, ◌+◌, ◌*◌, ◌/◌, ◌≤◌, ◌<◌, ◌≢◌, ℕ, Result, Err, IfErr, IfOk, IsTrue, length};
+ghost use Rattle.tomex_cut.specs.Part.{most_part};
+ghost use Rattle.tomex_image.specs.Window.{IsWindow};
+ghost use Rattle.tomex_parts.specs.declared.error.PartsError.{PartsError};
+ghost use Rattle.tomex_parts.specs.Stretches.{length_by, most_stretches, run_length};
+ghost use Rattle.tomex_parts.specs.Tally.{HasStepped};
+ghost use Rattle.tomex_parts.specs.Tallied.{IsPass};
+ghost use Rattle.tomex_parts.specs.Uses.{AreWordsFor};
+ghost use Rattle.tomex_rvexec.specs.declared.step.Step.{Step};
+ghost use Rattle.tomex_rvexec.specs.Flow.{IsState};
+ghost use Rattle.tomex_rvexec.specs.Machine.{State, holds, step_of};
+ghost use Rattle.tomex_rvexec.specs.Run.{start_of};
+
+use crate::error::PartsError;
+use crate::stretches::Stretches;
+use crate::tally::Tally;
+use crate::uses::LastUses;
+use std::alloc::Allocator;
+use tomex_cut::Watch;
+use tomex_image::Image;
+use tomex_rvexec::{Cpu, Fault, FaultKind, Stepped};
+
+/// The most stretches of a run.
+const MOST_STRETCHES: u32 = 16_384;
+
+/// The steps between two reports of how far the run is: some milliseconds.
+const PACE: u32 = 1_048_576;
+
+/// The word of the next step's pc, which must lie in memory.
+#[tactic(auto, unfolding(tomex_rvexec::specs::Machine::step_of))]
+fn next_word<'a, A: Allocator>(cpu: &Cpu<'a, A>, uses: &LastUses<A>) -> Result<usize, PartsError>
+    requires state { IsState cpu.now }
+    requires window { IsWindow cpu.now.image.window.base cpu.now.image.window.size }
+    requires words { AreWordsFor cpu.now uses.now.base uses.now.numbers.items }
+    ensures inside { IfOk result (λ w. w < length uses.now.numbers.items) }
+    ensures at { IfOk result (λ w. cpu.now.pc ≡ uses.now.base + 4 * w) }
+    ensures holds { IfOk result (λ w. IsTrue (holds cpu.now cpu.now.pc 4)) }
+    ensures err { IfErr result (λ e. (rest : State → Result ℕ PartsError)
+        → length_by (step_of cpu.now) cpu.now rest ≡ Err e) }
+{
+    let pc = cpu.pc();
+    match uses.word_of(u64::from(pc)) {
+        Some(word) => Ok(word),
+        None => Err(PartsError::Fault(Fault {
+            kind: FaultKind::Fetch,
+            pc,
+        })),
+    }
+}
+
+/// Carries out the step of this number, and notes which words it uses; true if it ends the run.
+fn take_step<'a, A: Allocator>(
+    cpu: &mut Cpu<'a, A>,
+    uses: &mut LastUses<A>,
+    number: u32,
+) -> Result<bool, PartsError>
+    ensures ok { IfOk result (λ last. (x : Step)
+        × HasStepped cpu.old x last cpu.new uses.old.base number uses.old.numbers.items uses.new.numbers.items) }
+    ensures base { uses.new.base ≡ uses.old.base }
+    ensures count { length uses.new.numbers.items ≡ length uses.old.numbers.items }
+    ensures err { IfErr result (λ e. (rest : State → Result ℕ PartsError)
+        → length_by (step_of cpu.old) cpu.old rest ≡ Err e) }
+{
+    let (step, stepped) = match cpu.record_step() {
+        Ok(taken) => taken,
+        Err(fault) => return Err(PartsError::Fault(fault)),
+    };
+    uses.mark_step(&step, number);
+    Ok(matches!(stepped, Stepped::Ended(_)))
+}
+
+/// Carries out the whole run, and counts the steps of its stretches. `watch` hears of every million of them, and of
+/// how many there are at most.
+///
+/// Allocates the memory's size three times, and for each stretch as much as it has different pcs.
+pub(crate) fn walk<A: Allocator + Clone, W: Watch>(
+    alloc: A,
+    image: &Image<A>,
+    steps: u32,
+    watch: &W,
+) -> Result<Stretches<A>, PartsError>
+    requires { (1 ≤ steps) × (steps ≤ most_part) }
+    ensures ok { IfOk result (λ r. IsPass image.now steps r) }
+    ensures err { IfErr result (λ e. e ≢ PartsError.Memory
+        → run_length (most_stretches * steps) (start_of image.now) ≡ Err e) }
+{
+    image.fills_its_window();
+    let window = image.window();
+    window.keeps_limits();
+    let mut cpu = Cpu::new(alloc.clone()?, image)?;
+    let mut uses = LastUses::new(alloc.clone()?, window)?;
+    let mut tally = Tally::new(alloc.clone()?, window)?;
+    let most = MOST_STRETCHES * steps;
+    for done in 0..most {
+        if done % PACE == 0 {
+            watch.passed(u64::from(done), u64::from(most));
+        }
+        let word = next_word(&cpu, &uses)?;
+        tally.end_since(steps, done, uses.last_use(word));
+        let ends = take_step(&mut cpu, &mut uses, done + 1)?;
+        tally.add_step(&alloc, word, steps)?;
+        if ends {
+            tally.end_since(steps, done + 1, 0);
+            return Ok(tally.into_stretches(steps));
+        }
+    }
+    Err(PartsError::TooLong)
+}
