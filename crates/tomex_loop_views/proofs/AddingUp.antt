@@ -18,7 +18,7 @@ use Rattle.tomex_stretches.specs.Accounts.{own_in}
 use Rattle.tomex_stretches.specs.Cycles.{is_key, sum_below, sum_where}
 use Rattle.tomex_stretches.proofs.Keyed.{keys_add_up}
 use Rattle.tomex_stretches.proofs.Totals.{length_floors, length_own, runs_add_up}
-use Rattle.tomex_loop_views.specs.ByLoop.{loops_of}
+use Rattle.tomex_loop_sums.specs.ByLoop.{loops_of}
 use Rattle.tomex_loop_views.specs.Laws.{LoopsAddUp}
 use Rattle.tomex_loop_views.specs.LoopsReport.{AreLines, floors_of, keys_in}
 use Rattle.tomex_loop_views.specs.Table.{Line}

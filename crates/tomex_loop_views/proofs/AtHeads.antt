@@ -14,9 +14,9 @@ use Rattle.tomex_loops.specs.Sound.{AreEarlier}
 use Rattle.tomex_symbols.specs.declared.symbol.Symbol.{Symbol}
 use Rattle.tomex_symbols.specs.Functions.{function_at}
 use Rattle.tomex_loop_views.specs.declared.places.Places.{Places}
-use Rattle.tomex_loop_views.specs.ByLoop.{heads_around, loops_of}
-use Rattle.tomex_loop_views.specs.Extents.{IsExtent, is_in_visit_of}
-use Rattle.tomex_loop_views.specs.Groups.{with_key}
+use Rattle.tomex_loop_sums.specs.ByLoop.{heads_around, loops_of}
+use Rattle.tomex_loop_sums.specs.Extents.{IsExtent, is_in_visit_of}
+use Rattle.tomex_loop_sums.specs.Groups.{with_key}
 use Rattle.tomex_loop_views.specs.PlaceColumns.{ArePlaces}
 
 -- the visit around one, if there is one, has a lower number

@@ -1,22 +1,10 @@
 -- Lemmas of this crate.
 pub mod PathKeys
-pub mod Arounds
-pub mod Grouping
-pub mod Longer
-pub mod Spanned
 pub mod RowsOrder
 pub mod Insertion
-pub mod Chains
-pub mod Joining
 pub mod Saving
 pub mod AddingUp
 pub mod AtHeads
 pub mod Adding
-pub mod SpansBy
-pub mod GroupsBy
-pub mod Each
-pub mod Repeating
-pub mod TurnsBy
-pub mod Outside
 pub mod LoopLines
 pub mod OneMore

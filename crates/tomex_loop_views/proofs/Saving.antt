@@ -1,5 +1,5 @@
 -- A loop on two machines.
-use Rattle.std.proofs.Common.{ℕ, suc, ◌+◌, ◌≡◌, ◌∙◌, refl, sym, ap, arith, cond, Bool, true, false, List, [], ◌∷◌}
+use Rattle.std.proofs.Common.{ℕ, suc, ◌+◌, ◌≡◌, ◌∙◌, refl, sym, ap, arith, cond, inl, Bool, true, false, List, [], ◌∷◌}
 use Rattle.std.proofs.Common.{length, map, nat_eq, reverse, slice_index, Option}
 use Rattle.std.specs.Option.{option_map}
 use Rattle.std.proofs.lemmas.List.{length-map}
@@ -14,10 +14,13 @@ use Rattle.tomex_loops.proofs.EachRun.{loops_are_sound}
 use Rattle.tomex_stretches.specs.Cycles.{floor_cycles, is_key, sum_where}
 use Rattle.tomex_stretches.proofs.Cycles.{floor_cycles_add_up}
 use Rattle.tomex_stretches.proofs.Totals.{stretches_take_their_floors, sum_reverse}
-use Rattle.tomex_loop_views.specs.Around.{around_of}
-use Rattle.tomex_loop_views.specs.ByLoop.{loops_of, round_cycles, rounds_of_loop}
-use Rattle.tomex_loop_views.specs.Groups.{with_key}
-use Rattle.tomex_loop_views.specs.Laws.{FloorsAreWithinTheRuns, LoopsAreThePrograms, NoMachineSavesMore}
+use Rattle.tomex_loop_sums.specs.Around.{around_of}
+use Rattle.tomex_loop_sums.specs.ByLoop.{loops_of, round_cycles, rounds_of_loop}
+use Rattle.tomex_loop_sums.specs.Groups.{with_key}
+use Rattle.tomex_floor.proofs.Above.{floor_is_bound}
+use Rattle.tomex_path.proofs.FreePaths.{free_is_floor}
+use Rattle.tomex_loop_views.specs.Laws.{FloorsAreWithinTheRuns, FreeRunsAreLeast, LoopsAreThePrograms}
+use Rattle.tomex_loop_views.specs.Laws.{NoMachineSavesMore}
 
 -- keys that are made of others
 where_map : (p : Option ℕ → Bool) (f : Option ℕ → Option ℕ) (keys : List (Option ℕ)) (numbers : List ℕ)
@@ -86,3 +89,9 @@ floors_are_within_the_runs config steps total within is =
     let all = floor_cycles_add_up (latency_of config) config.width (reverse steps) (reverse (innermost_of steps))
     (width_low config within) in
     omega (arith, is.floor, turned, all)
+
+pub free_runs_are_least : FreeRunsAreLeast
+free_runs_are_least config other steps total others good within is are free narrow slow =
+    let at_floor = free_is_floor config steps good free in
+    let low = floor_is_bound other (latency_of config) config.width steps within narrow (λ unit. inl (slow unit)) in
+    omega (arith, is.cycles, are.cycles, at_floor, low)

@@ -1,11 +1,12 @@
 -- Laws of the table of a run's loops.
-use Rattle.std.specs.Prelude.{ℕ, ◌+◌, ◌≤◌, ◌≡◌, List, sum_by}
+use Rattle.std.specs.Prelude.{ℕ, ◌+◌, ◌≤◌, ◌≡◌, List, sum_by, true}
 use Rattle.tomex_rvdec.specs.declared.pool.UnitId.{UnitId}
 use Rattle.tomex_rvexec.specs.declared.step.Step.{Step}
 use Rattle.tomex_config.specs.Configuration.{Configuration, IsWithinLimits, latency_of}
 use Rattle.tomex_floor.specs.Floor.{floor_of}
 use Rattle.tomex_loop_views.specs.declared.row.LoopSums.{LoopSums}
-use Rattle.tomex_loop_views.specs.LoopsReport.{AreLines, IsLine, IsOutside, IsTotal}
+use Rattle.tomex_path.specs.Laws.{is_free}
+use Rattle.tomex_loop_views.specs.LoopsReport.{AreLines, IsLine, IsOutside, IsTotal, path_in}
 use Rattle.tomex_loop_views.specs.Table.{Line, RestLine}
 
 -- Whatever parts a machine has: if it is no wider and has no shorter latency, each loop takes at least its floor.
@@ -41,3 +42,11 @@ LoopsAddUp = (config : Configuration) (file : List ℕ) (steps : List Step) (lin
     → IsOutside config steps outside → IsTotal config steps total
     → (sum_by (λ l. l.sums.own) lines + outside.sums.cycles ≡ total.sums.cycles)
     × (sum_by (λ l. l.sums.floor) lines + outside.sums.floor ≡ total.sums.floor)
+
+-- If no link of a run's path waits for a station, a unit or a bus, no machine that is no wider and has no shorter
+-- latency takes fewer cycles in all its loops and outside of them together, whatever parts it has.
+abbrev pub FreeRunsAreLeast : Type 0
+FreeRunsAreLeast = (config other : Configuration) (steps : List Step) (total others : RestLine)
+    → IsWithinLimits config → IsWithinLimits other → IsTotal config steps total → IsTotal other steps others
+    → is_free (path_in config steps) ≡ true → other.width ≤ config.width
+    → ((unit : UnitId) → latency_of config unit ≤ latency_of other unit) → total.sums.cycles ≤ others.sums.cycles

@@ -18,10 +18,10 @@ use Rattle.tomex_stretches.specs.Cycles.{is_key, sum_where}
 use Rattle.tomex_loop_views.specs.declared.lines.Columns.{Columns}
 use Rattle.tomex_loop_views.specs.declared.row.LoopSums.{LoopSums}
 use Rattle.tomex_loop_views.specs.declared.row.RestSums.{RestSums}
-use Rattle.tomex_loop_views.specs.Around.{around_of}
-use Rattle.tomex_loop_views.specs.ByLoop.{keys_of, spans_by}
+use Rattle.tomex_loop_sums.specs.Around.{around_of}
+use Rattle.tomex_loop_sums.specs.ByLoop.{keys_of, spans_by}
 use Rattle.tomex_loop_views.specs.Charges.{charges_by}
-use Rattle.tomex_loop_views.specs.Columns.{AreSpent, AreTurns}
+use Rattle.tomex_loop_sums.specs.Columns.{AreSpent, AreTurns}
 use Rattle.tomex_loop_views.specs.LoopsReport.{path_in}
 use Rattle.tomex_loop_views.specs.PathCycles.{sum_for}
 use Rattle.tomex_loop_views.specs.PlaceColumns.{ArePlaces}

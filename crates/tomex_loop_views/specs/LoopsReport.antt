@@ -13,10 +13,10 @@ use Rattle.tomex_path_views.specs.Shares.{share_of}
 use Rattle.tomex_loops.specs.Runs.{ends_of, heads_of, here_of, innermost_of, rounds_of, visits_of}
 use Rattle.tomex_stretches.specs.Accounts.{floors_in, own_in}
 use Rattle.tomex_stretches.specs.Cycles.{is_key, sum_where}
-use Rattle.tomex_loop_views.specs.Around.{around_of}
-use Rattle.tomex_loop_views.specs.ByLoop.{keys_of, spans_by}
+use Rattle.tomex_loop_sums.specs.Around.{around_of}
+use Rattle.tomex_loop_sums.specs.ByLoop.{keys_of, spans_by}
 use Rattle.tomex_loop_views.specs.Charges.{charges_by}
-use Rattle.tomex_loop_views.specs.OfLoop.{IsSpentOf, IsTurnOf}
+use Rattle.tomex_loop_sums.specs.OfLoop.{IsSpentOf, IsTurnOf}
 use Rattle.tomex_loop_views.specs.PathCycles.{sum_for}
 use Rattle.tomex_loop_views.specs.PlaceOf.{IsPlaceOf}
 use Rattle.tomex_loop_views.specs.Table.{InOrder, Line, RestLine, table_text}

@@ -3,10 +3,10 @@ use Rattle.std.specs.Prelude.{ℕ, ◌≡◌, List, Option, map}
 use Rattle.tomex_symbols.specs.declared.symbol.Symbol.{Symbol}
 use Rattle.tomex_symbols.specs.Functions.{function_at}
 use Rattle.tomex_loops.specs.declared.visit.Visit.{Visit}
-use Rattle.tomex_loop_views.specs.declared.extents.Extent.{Extent}
-use Rattle.tomex_loop_views.specs.ByLoop.{head_at, heads_around, loops_of}
-use Rattle.tomex_loop_views.specs.Extents.{IsExtent, is_in_visit_of}
-use Rattle.tomex_loop_views.specs.Groups.{with_key}
+use Rattle.tomex_loop_sums.specs.declared.extents.Extent.{Extent}
+use Rattle.tomex_loop_sums.specs.ByLoop.{head_at, heads_around, loops_of}
+use Rattle.tomex_loop_sums.specs.Extents.{IsExtent, is_in_visit_of}
+use Rattle.tomex_loop_sums.specs.Groups.{with_key}
 
 -- its head, the head's function, the least and the greatest address of its steps, calls not counted, and the head of
 -- the loop around each of its visits

@@ -10,11 +10,11 @@ use Rattle.tomex_rvexec.specs.Texts.{hex8}
 use Rattle.tomex_layout.specs.Csv.{record_text}
 use Rattle.tomex_functions.specs.ShownNames.{name_field}
 use Rattle.tomex_path_views.specs.ByReason.{name_of_reason}
-use Rattle.tomex_loop_views.specs.declared.around.Around.{Around}
-use Rattle.tomex_loop_views.specs.declared.around.Around.TheVariants.{Nowhere, Within, Several}
+use Rattle.tomex_loop_sums.specs.declared.around.Around.{Around}
+use Rattle.tomex_loop_sums.specs.declared.around.Around.TheVariants.{Nowhere, Within, Several}
 use Rattle.tomex_loop_views.specs.declared.charges.Charge.{Charge}
 use Rattle.tomex_loops.specs.declared.counts.Counts.{Counts}
-use Rattle.tomex_loop_views.specs.declared.extents.Extent.{Extent}
+use Rattle.tomex_loop_sums.specs.declared.extents.Extent.{Extent}
 use Rattle.tomex_loop_views.specs.declared.row.LoopRow.{LoopRow}
 use Rattle.tomex_loop_views.specs.declared.row.LoopSums.{LoopSums}
 use Rattle.tomex_loop_views.specs.declared.row.Rest.{Rest}

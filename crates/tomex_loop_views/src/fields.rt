@@ -10,13 +10,12 @@ ghost use Rattle.tomex_layout.specs.Growth.{Appends};
 ghost use Rattle.tomex_loop_views.specs.Table.{around_text, charge_text, count_fields, dashes, extent_fields};
 ghost use Rattle.tomex_loop_views.specs.Table.{path_text, pattern_text};
 
-use crate::around::Around;
 use crate::charges::Charge;
-use crate::extents::Extent;
 use csv::ByteRecord;
 use std::alloc::AllocError;
 use std::fmt::Write;
 use tomex_layout::push_decimal;
+use tomex_loop_sums::{Around, Extent};
 use tomex_loops::Counts;
 use tomex_path_views::push_name_of_reason;
 

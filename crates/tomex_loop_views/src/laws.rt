@@ -1,7 +1,7 @@
 //! Laws of the table of a run's loops. Each function does nothing: its contract is the law.
 
-ghost use Rattle.tomex_loop_views.specs.Laws.{FloorsAreWithinTheRuns, LoopsAddUp, LoopsAreThePrograms};
-ghost use Rattle.tomex_loop_views.specs.Laws.{NoMachineSavesMore};
+ghost use Rattle.tomex_loop_views.specs.Laws.{FloorsAreWithinTheRuns, FreeRunsAreLeast, LoopsAddUp};
+ghost use Rattle.tomex_loop_views.specs.Laws.{LoopsAreThePrograms, NoMachineSavesMore};
 
 /// On each machine of at most this width and at least these latencies, a loop takes at least its floor, whatever parts
 /// the machine has. So if its own cycles are its floor, no parts make it faster.
@@ -22,4 +22,11 @@ pub fn loops_are_the_programs()
 /// The columns `own` and `floor` add up to the total.
 pub fn loops_add_up()
     ensures { LoopsAddUp }
+{}
+
+/// If no link of a run's path waits for a station, a unit or a bus, no machine of at most its width and at least its
+/// latencies takes fewer cycles, so the sum of the column `own` is no smaller on any of them. Of one loop that says
+/// nothing.
+pub fn free_runs_are_least()
+    ensures { FreeRunsAreLeast }
 {}

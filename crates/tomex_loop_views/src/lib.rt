@@ -5,27 +5,19 @@
 //! Tests: tomex_cases, tomex_tests_commands.
 #![tactic(auto)]
 
-mod around;
 mod charges;
-mod extents;
 mod fields;
-mod groups;
 mod laws;
 mod lines;
-mod longest;
 mod path_cycles;
 mod paths;
 mod places;
 mod report;
 mod row;
-mod spans;
-mod spent;
 mod table;
-mod turns;
-mod visited;
 
 pub use laws::{
-    floors_are_within_the_runs, loops_add_up, loops_are_the_programs,
+    floors_are_within_the_runs, free_runs_are_least, loops_add_up, loops_are_the_programs,
     no_machine_saves_more_of_a_loop,
 };
 pub use path_cycles::path_cycles_add_up;

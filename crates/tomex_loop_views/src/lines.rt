@@ -5,13 +5,11 @@ ghost use Rattle.std.specs.Option.{option_map};
 ghost use Rattle.tomex_loop_views.specs.Lines.{HaveLoops, line_at, lines_to, sums_at};
 ghost use Rattle.tomex_loop_views.specs.Table.{line_of};
 
-use crate::around::around_of;
 use crate::paths::Paths;
 use crate::places::Places;
 use crate::row::{LoopRow, LoopSums};
-use crate::spent::Spent;
-use crate::turns::Turns;
 use std::alloc::{AllocError, Allocator};
+use tomex_loop_sums::{Spent, Turns, around_of};
 
 /// What is known of a run's loops, by their numbers.
 #[derive(Drop)]

@@ -11,9 +11,9 @@ ghost use Rattle.tomex_loop_views.specs.Charges.{charges_by, with_reason};
 ghost use Rattle.tomex_loop_views.specs.PathCycles.{sum_for};
 
 use crate::charges::{Charge, add_reason};
-use crate::groups::no_groups;
 use crate::path_cycles::path_cycles_of;
 use std::alloc::{AllocError, Allocator};
+use tomex_loop_sums::no_groups;
 use tomex_path::{Link, Reason};
 use tomex_path_views::{REASONS, share_of};
 

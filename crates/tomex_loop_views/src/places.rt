@@ -10,16 +10,14 @@ ghost use Rattle.tomex_symbols.specs.Symbols.{symbols_of};
 ghost use Rattle.tomex_run_views.specs.ByPlace.{pc_of};
 ghost use Rattle.tomex_functions.specs.Kept.{HasAddress, IsIndexOf};
 ghost use Rattle.tomex_loops.specs.Sound.{AreEarlier, IsOneOf};
-ghost use Rattle.tomex_loop_views.specs.ByLoop.{head_of_visit, heads_around, loops_of};
-ghost use Rattle.tomex_loop_views.specs.Extents.{IsExtent, is_in_visit_of};
-ghost use Rattle.tomex_loop_views.specs.Groups.{with_key};
+ghost use Rattle.tomex_loop_sums.specs.ByLoop.{head_of_visit, heads_around, loops_of};
+ghost use Rattle.tomex_loop_sums.specs.Extents.{IsExtent, is_in_visit_of};
+ghost use Rattle.tomex_loop_sums.specs.Groups.{with_key};
 ghost use Rattle.tomex_loop_views.specs.PlaceColumns.{ArePlaces};
 
-use crate::extents::{Extent, extents_of};
-use crate::groups::grouped;
-use crate::visited::{addresses_of, loops_of, within_of};
 use std::alloc::{AllocError, Allocator};
 use tomex_functions::Index;
+use tomex_loop_sums::{Extent, extents_of, grouped, loops_of, within_of};
 use tomex_loops::Visit;
 use tomex_rvexec::Step;
 use tomex_symbols::{Symbol, symbols};
@@ -35,6 +33,17 @@ pub(crate) struct Places<A: Allocator> {
     pub extents: Vec<Option<Extent>, A>,
     /// For each visit the address of the head of the loop around.
     pub around: Vec<Vec<Option<u32>, A>, A>,
+}
+
+/// The address of each step.
+fn addresses_of<A: Allocator>(alloc: A, steps: &[Step]) -> Result<Vec<u32, A>, AllocError>
+    ensures { IfOk result (λ v. v.items ≡ map pc_of steps.now) }
+{
+    let mut addresses = Vec::new(alloc);
+    for step in steps {
+        addresses.push(step.pc)?;
+    }
+    Ok(addresses)
 }
 
 /// The addresses of these steps, given those of all.

@@ -1,8 +1,7 @@
 //! What the table of a run's loops has of each.
 
-use crate::around::Around;
 use crate::charges::Charge;
-use crate::extents::Extent;
+use tomex_loop_sums::{Around, Extent};
 use tomex_loops::Counts;
 use tomex_symbols::Symbol;
 

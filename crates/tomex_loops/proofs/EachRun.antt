@@ -18,7 +18,7 @@ many_after steps awaited before [] = refl
 many_after steps awaited before (x ∷ left) = ap (λ (n : ℕ). suc n)
     (many_after steps (awaited_after (move_to awaited before x) awaited before) x left)
 
-many_comings : (steps : List Step) → length (comings_of steps) ≡ length steps
+pub many_comings : (steps : List Step) → length (comings_of steps) ≡ length steps
 many_comings [] = refl
 many_comings (x ∷ left) = ap (λ (n : ℕ). suc n) (many_after (x ∷ left) [] x left)
 
@@ -46,7 +46,7 @@ places_after steps front awaited before (x ∷ left) is =
     (places_after steps (front ++ x ∷ []) (awaited_after (move_to awaited before x) awaited before) x left
     (is ∙ sym (append_assoc front (x ∷ []) left)))
 
-places_low : (steps : List Step) → All (λ (c : Coming). c.place < length steps) (comings_of steps)
+pub places_low : (steps : List Step) → All (λ (c : Coming). c.place < length steps) (comings_of steps)
 places_low [] = All-nil (λ (c : Coming). c.place < 0)
 places_low (x ∷ left) = All-cons (λ (c : Coming). c.place < length (x ∷ left)) _ _ (place_low (x ∷ left) [] x left refl)
     (places_after (x ∷ left) (x ∷ []) [] x left refl)

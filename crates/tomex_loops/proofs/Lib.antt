@@ -14,6 +14,10 @@ pub mod WalkSteps
 pub mod Agree
 pub mod Sound
 pub mod EachRun
+pub mod Nest
+pub mod UnderWay
+pub mod VisitNest
+pub mod Innermost
 pub mod AtPlaces
 pub mod Moved
 pub mod Reading

@@ -105,7 +105,7 @@ ends_later now later visits ends le are v z h =
     IfSome_then (get_or ends v None) (are v z h) (λ e p. (p.0, omega (arith, p.1, le)))
 
 -- one visit ends now
-ends_set : (now u : ℕ) (visits : List Visit) (ends : List (Option ℕ)) → length ends ≡ length visits
+pub ends_set : (now u : ℕ) (visits : List Visit) (ends : List (Option ℕ)) → length ends ≡ length visits
     → All (λ (v : Visit). v.first < now) visits → AreEnds now visits ends
     → AreEnds now visits (set ends u (Some now))
 ends_set now u visits ends same before are v z h = ⊎_elim
@@ -134,10 +134,10 @@ ends_close now (v ∷ opens) visits ends same before are =
     (ends_set now v.visit visits ends same before are)
 
 -- A visit under way is one of those that have begun, and so is its latest iteration.
-abbrev IsUnderWay : ℕ → ℕ → Open → Type 0
+abbrev pub IsUnderWay : ℕ → ℕ → Open → Type 0
 IsUnderWay many now v = (v.visit < many) × (v.latest < now)
 
-abbrev AreUnderWay : ℕ → ℕ → List Open → Type 0
+abbrev pub AreUnderWay : ℕ → ℕ → List Open → Type 0
 AreUnderWay many now opens = All (IsUnderWay many now) opens
 
 later_open : (many more now later : ℕ) (opens : List Open) → many ≤ more → now ≤ later → AreUnderWay many now opens
@@ -182,30 +182,30 @@ all_still loop x P (v ∷ opens) are =
     ]
 
 -- steps at the first n places
-abbrev AreWithin : ℕ → List Coming → Type 0
+abbrev pub AreWithin : ℕ → List Coming → Type 0
 AreWithin n comings = (k : ℕ) (z : Coming) → k < length comings → (get_or comings k z).place < n
 
 module _ (f : Found) (n : ℕ) where
   -- the visits that have begun before a step
-  record HaveBegun (now : ℕ) (visits : List Visit) : Type 0 where
-    loops : All (λ (v : Visit). v.number < length (heads_to f.heads n)) visits
-    around : AreEarlier (λ v. v.around) visits
-    within : AreEarlier (λ v. v.within) visits
-    order : IsNonDecreasingBy (λ (v : Visit). v.first) visits
-    first : All (λ (v : Visit). v.first < now) visits
+  pub record HaveBegun (now : ℕ) (visits : List Visit) : Type 0 where
+    pub loops : All (λ (v : Visit). v.number < length (heads_to f.heads n)) visits
+    pub around : AreEarlier (λ v. v.around) visits
+    pub within : AreEarlier (λ v. v.within) visits
+    pub order : IsNonDecreasingBy (λ (v : Visit). v.first) visits
+    pub first : All (λ (v : Visit). v.first < now) visits
 
   -- what holds before a step of all that is known of the steps before it
-  record AreKept (now : ℕ) (calls : Calls Open) (visits : List Visit) (ended : List (Option ℕ)) (over : List Round)
+  pub record AreKept (now : ℕ) (calls : Calls Open) (visits : List Visit) (ended : List (Option ℕ)) (over : List Round)
       : Type 0 where
-    here : AreUnderWay (length visits) now calls.here
-    around : All (AreUnderWay (length visits) now) calls.around
-    begun : HaveBegun now visits
-    many_ends : length ended ≡ length visits
-    ends : AreEnds now visits ended
-    rounds : All (IsRound (length visits) now) over
-    few : length visits + length over ≤ now
+    pub here : AreUnderWay (length visits) now calls.here
+    pub around : All (AreUnderWay (length visits) now) calls.around
+    pub begun : HaveBegun now visits
+    pub many_ends : length ended ≡ length visits
+    pub ends : AreEnds now visits ended
+    pub rounds : All (IsRound (length visits) now) over
+    pub few : length visits + length over ≤ now
 
-  abbrev IsKept : ℕ → Walk → Type 0
+  abbrev pub IsKept : ℕ → Walk → Type 0
   IsKept now w = AreKept now w.under_way w.visits w.ends w.rounds
 
   later_begun : (now later : ℕ) (visits : List Visit) → now ≤ later → HaveBegun now visits → HaveBegun later visits
@@ -234,7 +234,7 @@ module _ (f : Found) (n : ℕ) where
     few = omega (arith, are.few, le);
   }
 
-  come_kept : (by : Move) (w : Walk) → IsKept w.passed w → IsKept w.passed (come by w)
+  pub come_kept : (by : Move) (w : Walk) → IsKept w.passed w → IsKept w.passed (come by w)
   come_kept On w are = are
   come_kept Call w are = record {
     here = All-nil (IsUnderWay (length w.visits) w.passed);
@@ -255,7 +255,7 @@ module _ (f : Found) (n : ℕ) where
     few = are.few;
   }
 
-  leave_kept : (x : ℕ) (w : Walk) → IsKept w.passed w → IsKept w.passed (leave f.loop x w)
+  pub leave_kept : (x : ℕ) (w : Walk) → IsKept w.passed w → IsKept w.passed (leave f.loop x w)
   leave_kept x w are = record {
     here = all_still f.loop x (IsUnderWay (length w.visits) w.passed) w.under_way.here are.here;
     around = are.around;
@@ -355,11 +355,11 @@ module _ (f : Found) (n : ℕ) where
   arrive_kept x w true is low are = reach_kept x w w.under_way.here is low refl are
   arrive_kept x w false is low are = later_kept w.passed (w.passed + 1) w (omega arith) are
 
-  on_kept : (w : Walk) (c : Coming) → c.place < n → IsKept w.passed w → IsKept (w.passed + 1) (walk_on f w c)
+  pub on_kept : (w : Walk) (c : Coming) → c.place < n → IsKept w.passed w → IsKept (w.passed + 1) (walk_on f w c)
   on_kept w c low are = arrive_kept c.place (leave f.loop c.place (come c.by w)) (f.heads c.place) refl low
       (leave_kept c.place (come c.by w) (come_kept c.by w are))
 
-  after_kept : (w : Walk) (comings : List Coming) (total : ℕ) → AreWithin n comings
+  pub after_kept : (w : Walk) (comings : List Coming) (total : ℕ) → AreWithin n comings
       → w.passed + length comings ≡ total → IsKept w.passed w → IsKept total (walk_after f w comings)
   after_kept w [] total low is are = later_kept w.passed total w (omega (arith, is)) are
   after_kept w (c ∷ left) total low is are =
@@ -414,7 +414,7 @@ module _ (f : Found) (n : ℕ) where
   many_walks w [] = refl
   many_walks w (c ∷ left) = ap (λ (k : ℕ). suc k) (many_walks (walk_on f w c) left)
 
-  starts_kept : IsKept 0 setting_out
+  pub starts_kept : IsKept 0 setting_out
   starts_kept = record {
     here = All-nil (IsUnderWay 0 0);
     around = All-nil (AreUnderWay 0 0);

@@ -11,3 +11,4 @@ pub mod Jumps
 pub mod Sound
 pub mod Rounds
 pub mod Pattern
+pub mod Nest

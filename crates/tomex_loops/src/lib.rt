@@ -3,7 +3,7 @@
 //! `specs/Calls.antt` says how a run reaches each step, `specs/Loops.antt` what a loop is, `specs/Visits.antt` what its
 //! visits and rounds are, and `specs/Rounds.antt` and `Pattern.antt` what is counted of rounds.
 //!
-//! Tests: tomex_tests_in_order, tomex_tests_commands.
+//! Tests: tomex_tests_timing, tomex_tests_commands.
 #![tactic(auto)]
 
 mod coming;
@@ -18,7 +18,7 @@ mod visiting;
 
 pub use coming::{Coming, Move};
 pub use counts::{Counts, count_rounds};
-pub use laws::loops_are_sound;
+pub use laws::{innermost_visits_began_last, loops_are_a_nest, loops_are_sound, visits_are_a_nest};
 pub use loops::Loops;
 pub use pattern::pattern_of;
 pub use visit::{Open, Round, Visit};

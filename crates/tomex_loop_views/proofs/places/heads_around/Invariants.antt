@@ -1,7 +1,7 @@
 -- The heads around the visits so far.
 use Rattle.std.proofs.Common.{◌≡◌, map, take}
 use Rattle.std.specs.Option.{option_map}
-use Rattle.tomex_loop_views.specs.ByLoop.{head_of_visit}
+use Rattle.tomex_loop_sums.specs.ByLoop.{head_of_visit}
 use Rattle.tomex_loop_views.proofs.places.heads_around.Given as goal
 
 abbrev pub invariant-loop-visit : goal.invariant-loop-visit

@@ -1,0 +1,13 @@
+-- Lemmas of this crate.
+pub mod Arounds
+pub mod Grouping
+pub mod Longer
+pub mod Spanned
+pub mod Chains
+pub mod Joining
+pub mod SpansBy
+pub mod GroupsBy
+pub mod Each
+pub mod Repeating
+pub mod TurnsBy
+pub mod Outside

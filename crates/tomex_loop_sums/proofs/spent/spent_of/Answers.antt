@@ -1,0 +1,37 @@
+-- Each list has what it is the sums of.
+use Rattle.std.proofs.Common.{◌∙◌, ap, arith, length, List, map}
+use Rattle.std.proofs.lemmas.List.{length-map}
+use Rattle.tomex_rvexec.specs.declared.step.Step.{Step}
+use Rattle.tomex_stretches.specs.Accounts.{own_in}
+use Rattle.tomex_stretches.proofs.Totals.{length_own}
+use Rattle.tomex_loop_sums.proofs.Outside.{keys_low, same_sum, sum_ones}
+use Rattle.tomex_loop_sums.proofs.spent.spent_of.Goals as goal
+
+pub sums_in_visits-requires-clause-few : goal.sums_in_visits-requires-clause-few
+sums_in_visits-requires-clause-few g c = rw (c.deref.ensures.value, c.in_ok-ones.ensures, c.steps.ensures)
+    (let few = sum_ones c.args.run.now in omega (arith, few, c.requires.few))
+
+pub accounts_of-requires-clause-keys : goal.accounts_of-requires-clause-keys
+accounts_of-requires-clause-keys g c = rw c.requires.keys
+    (keys_low c.args.count c.args.visits.now c.args.innermost.now c.requires.loops c.requires.innermost)
+
+pub returns : goal.returns
+returns g c = record {
+  steps_of_all = c.in_ok-sums_in_visits.ensures.count;
+  cycles_of_all = c.in_ok-sums_in_visits-2.ensures.count;
+  own_of_all = c.in_ok-accounts_of.ensures.own.many;
+  floor_of_all = c.in_ok-accounts_of.ensures.floor.many;
+  each = λ n l. record {
+    many_is = same_sum n _ (length c.args.run.now) c.args.visits.now c.args.ends.now c.deref.result.now
+        (map (λ x. 1) c.args.run.now) (c.in_ok-sums_in_visits.ensures.sums n l)
+        (c.deref.ensures.value ∙ c.in_ok-ones.ensures ∙ ap (λ (xs : List Step). map (λ x. 1) xs) c.steps.ensures)
+        (length-map c.args.run.now (λ x. 1));
+    in_all_is = same_sum n _ (length c.args.run.now) c.args.visits.now c.args.ends.now c.deref-2.result.now
+        (own_in c.args.config.now c.args.run.now) (c.in_ok-sums_in_visits-2.ensures.sums n l)
+        (c.deref-2.ensures.value ∙ c.in_ok-own.ensures.exact) (length_own c.args.config.now c.args.run.now);
+    own_is = c.in_ok-accounts_of.ensures.own.by_key n l;
+    floor_is = c.in_ok-accounts_of.ensures.floor.by_key n l;
+  };
+  own_without = c.in_ok-accounts_of.ensures.own.without;
+  floor_without = c.in_ok-accounts_of.ensures.floor.without;
+}
