@@ -25,7 +25,7 @@ AreEach rows name words = words ≡ unwrap_or (all_of name rows) []
 -- the number that was found for an argument, or its default: in decimal, and within these bounds
 abbrev pub IsNumber : List Row → Text → ℕ → ℕ → ℕ → Type 0
 IsNumber rows name least greatest number =
-    (text : Text) × (one_of name rows ≡ Some text) × ParsesUnsigned {E = ParseIntError} 32 10 text (Ok number)
+    (text : Text) × (one_of name rows ≡ Some text) × ParsesUnsigned {E = ParseIntError} 64 10 text (Ok number)
     × (least ≤ number) × (number ≤ greatest)
 
 -- a flag was found or not: `clap` keeps its value as a text, which is `false` if it wasn't given

@@ -8,4 +8,6 @@ mod values;
 
 pub use fault::{LineFault, fault_of, refusal_of};
 pub use system::{not_text, reading_fault};
-pub use values::{Bounds, each_of, flag_of, number_of, word_of, words_of};
+pub use values::{
+    Bounds, LongBounds, each_of, flag_of, long_number_of, number_of, word_of, words_of,
+};

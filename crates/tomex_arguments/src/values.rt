@@ -16,8 +16,14 @@ pub struct Bounds {
     pub greatest: u32,
 }
 
-/// The number that an option was given, or its default. `clap` checks the bounds, but its contract
-/// doesn't say so for subcommands, so they are checked again.
+/// The same of a number that may need more than 32 bits.
+#[derive(Clone, Copy)]
+pub struct LongBounds {
+    pub least: u64,
+    pub greatest: u64,
+}
+
+/// The number of 32 bits that an argument was given, or its default.
 pub fn number_of(
     alloc: Global,
     matches: &ArgMatches<'_>,
@@ -29,7 +35,27 @@ pub fn number_of(
     ensures refused { IfErr result (IsRefusedIf ((number : ℕ)
         → IsNumber (rows_of (found_of matches.now)) name.now bounds.least bounds.greatest number → ⊥)) }
 {
-    match matches.get_one::<u32>(name) {
+    let bounds = LongBounds {
+        least: u64::from(bounds.least),
+        greatest: u64::from(bounds.greatest),
+    };
+    Ok(long_number_of(alloc, matches, name, bounds)? as u32)
+}
+
+/// The number of 64 bits that an argument was given, or its default. `clap` checks the bounds, but its contract
+/// doesn't say so for subcommands, so they are checked again.
+pub fn long_number_of(
+    alloc: Global,
+    matches: &ArgMatches<'_>,
+    name: &str,
+    bounds: LongBounds,
+) -> Result<u64, LineFault>
+    ensures number { IfOk result
+        (λ number. IsNumber (rows_of (found_of matches.now)) name.now bounds.least bounds.greatest number) }
+    ensures refused { IfErr result (IsRefusedIf ((number : ℕ)
+        → IsNumber (rows_of (found_of matches.now)) name.now bounds.least bounds.greatest number → ⊥)) }
+{
+    match matches.get_one::<u64>(name) {
         Some(number) if bounds.least <= number && number <= bounds.greatest => Ok(number),
         _ => Err(refusal_of(alloc, name)),
     }

@@ -1,10 +1,10 @@
 -- The first refusal that is in a text, and the lines of all, one turn later.
-use Rattle.std.proofs.Common.{◌≡◌, ◌≢◌, ◌∙◌, ap, add-one, append_assoc, arith, refl, subst, sym, ℕ, zero, suc}
+use Rattle.std.proofs.Common.{◌≡◌, ◌∙◌, ap, add-one, append_assoc, arith, refl, subst, sym, ℕ, zero, suc}
 use Rattle.std.proofs.Common.{◌+◌, ◌<◌, ◌≤◌}
 use Rattle.std.proofs.Common.{List, [], ◌∷◌, ◌++◌, drop, get_or, length, Option, Some, None, inl, inr}
 use Rattle.std.specs.List.{Contains, flat_map}
 use Rattle.std.proofs.lemmas.List.{append-nil, drop_all}
-use Rattle.tomex_refusals.specs.Refusals.{AreWith, HasPart, HasText, IsFirstIn, IsIn, all_refusals}
+use Rattle.tomex_refusals.specs.Refusals.{AreWith, HasPart, IsFirstIn, IsIn}
 use Rattle.tomex_refusals.specs.declared.refusal.Refusal.{Refusal}
 
 -- the item at a place, and those after it
@@ -96,24 +96,3 @@ contains_at (q ∷ refusals) (suc i) r d within is =
     let w = contains_at refusals i r d (omega (arith, within)) is in
     let l : w.0 < length refusals = w.1 in
     (suc w.0, omega arith, w.2)
-
--- the first of those that were found is one of all
-found_is_one : (words : List ℕ) (refusals found : List Refusal) (r : Refusal) → AreWith words refusals (r ∷ found)
-    → Contains refusals r × HasPart words r
-unfolding AreWith
-found_is_one words [] found r are = absurd (let bad : r ∷ found ≡ [] = are in cc)
-found_is_one words (q ∷ refusals) found r (inl are) =
-    let e : r ∷ found ≡ q ∷ are.1.0 = are.1.2 in
-    let same : q ≡ r = cc in
-    ((0, omega arith, same), subst (HasPart words) same are.0)
-found_is_one words (q ∷ refusals) found r (inr are) =
-    let w = found_is_one words refusals found r are.1 in
-    let l : w.0.0 < length refusals = w.0.1 in
-    ((suc w.0.0, omega arith, w.0.2), w.1)
-
--- if there are some, there is a text
-pub has_text : (words : List ℕ) (found : List Refusal) → IsFirstIn words all_refusals None
-    → AreWith words all_refusals found → found ≢ [] → HasText words
-has_text words [] none are some = absurd (some refl)
-has_text words (r ∷ found) none are some =
-    let w = found_is_one words all_refusals found r are in inr (none, (r, w.0, w.1))

@@ -1,2 +1,3 @@
 mod Found
 mod Standing
+mod Longest

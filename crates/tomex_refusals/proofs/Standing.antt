@@ -1,8 +1,8 @@
 -- Words that are in a text stand at one of its places.
-use Rattle.std.proofs.Common.{◌≡◌, ◌∙◌, ◌+◌, ◌-◌, ◌<◌, ◌≤◌, ℕ, ap, ap₂, arith, subst, sym, refl, Bool, true, false, inl, inr}
-use Rattle.std.proofs.Common.{List, [], ◌∷◌, ◌++◌, drop, length, map, take}
+use Rattle.std.proofs.Common.{◌≡◌, ◌∙◌, ◌+◌, ◌-◌, ◌<◌, ◌≤◌, ℕ, ap, arith, subst, sym, refl, Bool, true, false, inl, inr}
+use Rattle.std.proofs.Common.{List, [], ◌∷◌, ◌++◌, drop, length, take}
 use Rattle.std.specs.Char.{to_ascii_lowercase}
-use Rattle.std.specs.Str.{bytes_eq, str_eq_ignore_ascii_case, str_to_ascii_lowercase}
+use Rattle.std.specs.Str.{str_eq_ignore_ascii_case, str_to_ascii_lowercase}
 use Rattle.std.proofs.lemmas.Bool.{cases_eq, false≢true}
 use Rattle.std.proofs.lemmas.List.{drop-map, length-append, length-map, take-append-drop, take-map}
 use Rattle.std.proofs.lemmas.Slice.Eq.{bytes_eq-Decides}
@@ -27,7 +27,8 @@ in_text text words place stand =
           same),
     )
   where
-    in_two : (xs ys : List ℕ) → str_to_ascii_lowercase (xs ++ ys) ≡ str_to_ascii_lowercase xs ++ str_to_ascii_lowercase ys
+    in_two : (xs ys : List ℕ)
+        → str_to_ascii_lowercase (xs ++ ys) ≡ str_to_ascii_lowercase xs ++ str_to_ascii_lowercase ys
     in_two [] ys = refl
     in_two (x ∷ xs) ys = ap (λ (z : List ℕ). to_ascii_lowercase x ∷ z) (in_two xs ys)
 
@@ -76,7 +77,8 @@ at_last text words place last here room last_is past none is has =
     let found = at_a_place text words has in
     elim (cases_eq found.place last) [
       | inl same ↦ is
-          ∙ subst (λ (i : ℕ). str_eq_ignore_ascii_case (take (length words) (drop i text)) words ≡ true) same found.stand
+          ∙ subst (λ (i : ℕ). str_eq_ignore_ascii_case (take (length words) (drop i text)) words ≡ true) same
+          found.stand
       | inr apart ↦
           let before : found.place < place = omega (arith, room, last_is, past, found.within, apart) in
           absurd (false≢true (sym (none found.place before) ∙ found.stand))

@@ -14,10 +14,14 @@ words_of those.SeveralRows = codes "several rows"
 words_of those.NoSuchProgram = codes "no such program"
 words_of those.NoSymbols = codes "no symbols"
 words_of those.NoSuchStep = codes "no such step"
+words_of those.NoEnd = codes "no end"
+words_of those.CodeOverwritten = codes "code overwritten"
+words_of those.NoRoom = codes "no room"
 words_of those.PictureTooLarge = codes "picture too large"
 words_of those.TableTooLarge = codes "table too large"
 words_of those.CyclePastEnd = codes "cycle past the end"
 words_of those.CannotWrite = codes "cannot write"
+words_of those.OnTerminal = codes "output is a terminal"
 words_of those.ThreadRefused = codes "thread refused"
 words_of those.OutOfMemory = codes "out of memory"
 words_of those.NoSuchRefusal = codes "no such refusal"
@@ -53,8 +57,9 @@ abbrev pub too_long : List ℕ
 too_long =
     codes "The program didn't end within its limit of instructions: `--limit`, or `limit`\n"
     ++ (codes "in a study, 262144 if nothing else is said, and no more than that. It has to end\n"
-    ++ (codes "by ECALL or EBREAK. Give it less to do; if it waits for something, it waits for\n"
-    ++ codes "ever.\n"))
+    ++ (codes "by ECALL or EBREAK. Give it less to do, or explore parts of its run: `tomex\n"
+    ++ (codes "parts` says which stand for it, and `tomex cut` makes a program of each. If it\n"
+    ++ codes "waits for something, it waits for ever.\n")))
 
 abbrev pub no_such_row : List ℕ
 no_such_row =
@@ -83,8 +88,28 @@ no_symbols =
 
 abbrev pub no_such_step : List ℕ
 no_such_step =
-    codes "The program ends before the instruction that `--from` names. `tomex times STUDY\n"
-    ++ codes "CONFIG PROGRAM` numbers them, from 1.\n"
+    codes "The program ends before the instruction that `--from`, or FROM of `tomex cut`,\n"
+    ++ (codes "names, or has fewer than STEPS of `tomex parts`. `tomex times STUDY CONFIG\n"
+    ++ codes "PROGRAM` numbers them, from 1.\n")
+
+abbrev pub no_end : List ℕ
+no_end =
+    codes "A part of a run, from its step STEPS on, ends if the run ends, or before an\n"
+    ++ (codes "instruction in a word of memory that none of its steps has used. After 262,079\n"
+    ++ (codes "steps there was none: the program goes on in a loop. Cut it at another step, or\n"
+    ++ codes "with fewer steps. `tomex parts` found none for any part: try fewer steps.\n"))
+
+abbrev pub code_overwritten : List ℕ
+code_overwritten =
+    codes "The program wrote instructions of the part before the part begins. An image runs\n"
+    ++ (codes "what its file has, so this part can't be cut: cut it at an earlier step, or a\n"
+    ++ codes "part that doesn't run that code.\n")
+
+abbrev pub no_room : List ℕ
+no_room =
+    codes "The 64 instructions before a part need 61 words of memory in a row, and three\n"
+    ++ (codes "near its first instruction, that the part doesn't use. Give the program more\n"
+    ++ codes "memory, by `--size`; or cut fewer steps, or at another step.\n")
 
 abbrev pub picture_too_large : List ℕ
 picture_too_large =
@@ -108,6 +133,11 @@ cannot_write =
     codes "The standard output didn't take the whole text: it is closed, its device is\n"
     ++ codes "full, or the program that reads it ended, as `head` does.\n"
 
+abbrev pub on_terminal : List ℕ
+on_terminal =
+    codes "An image isn't text, and a terminal shows nothing of it. Write it to a file:\n"
+    ++ codes "`tomex cut IMAGE FROM STEPS > part.elf`.\n"
+
 abbrev pub thread_refused : List ℕ
 thread_refused =
     codes "The system didn't start a thread. Use fewer: `--workers N`. `ulimit -u` and\n"
@@ -120,8 +150,9 @@ out_of_memory =
 
 abbrev pub no_such_refusal : List ℕ
 no_such_refusal =
-    codes "What `tomex explain` was given has the words of no refusal. Without words it\n"
-    ++ codes "lists them all. A command line that is refused (status 2) says itself why.\n"
+    codes "What `tomex explain` was given has the words of no refusal, and no line of the\n"
+    ++ (codes "list has one of them. Without words it lists all refusals. A command line that\n"
+    ++ codes "is refused (status 2) says itself why.\n")
 
 -- the advice on each: its meaning, the usual causes, and what to do
 abbrev pub advice_of : CommandRefusal → List ℕ
@@ -134,10 +165,14 @@ advice_of those.SeveralRows = several_rows
 advice_of those.NoSuchProgram = no_such_program
 advice_of those.NoSymbols = no_symbols
 advice_of those.NoSuchStep = no_such_step
+advice_of those.NoEnd = no_end
+advice_of those.CodeOverwritten = code_overwritten
+advice_of those.NoRoom = no_room
 advice_of those.PictureTooLarge = picture_too_large
 advice_of those.TableTooLarge = table_too_large
 advice_of those.CyclePastEnd = cycle_past_end
 advice_of those.CannotWrite = cannot_write
+advice_of those.OnTerminal = on_terminal
 advice_of those.ThreadRefused = thread_refused
 advice_of those.OutOfMemory = out_of_memory
 advice_of those.NoSuchRefusal = no_such_refusal

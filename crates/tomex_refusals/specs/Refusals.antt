@@ -1,9 +1,7 @@
 -- All refusals of the program, and how to find a text's.
-use Rattle.std.specs.Prelude.{◌≡◌, ◌≢◌, ◌⊎◌, ℕ, List, [], ◌∷◌, ◌++◌, codes, Option, Some, None}
-use Rattle.std.specs.List.{Contains, flat_map}
+use Rattle.std.specs.Prelude.{◌≡◌, ◌⊎◌, ℕ, List, [], ◌∷◌, ◌++◌, codes, Option, Some, None}
+use Rattle.std.specs.List.{flat_map}
 use Rattle.tomex_refusals.specs.declared.commands.CommandRefusal.TheVariants as commands
-use Rattle.tomex_refusals.specs.declared.explaining.ExplainError.{ExplainError}
-use Rattle.tomex_refusals.specs.declared.explaining.ExplainError.TheVariants.{NoSuchRefusal, Memory}
 use Rattle.tomex_refusals.specs.declared.faults.FaultRefusal.TheVariants as faults
 use Rattle.tomex_refusals.specs.declared.images.ImageRefusal.TheVariants as images
 use Rattle.tomex_refusals.specs.declared.refusal.Refusal.{Refusal}
@@ -23,8 +21,10 @@ all_refusals =
     Command commands.CannotRead ∷ Command commands.NoSuchChoice ∷ Command commands.BadWindow ∷ Command commands.TooLong
     ∷ Command commands.NoSuchRow ∷ Command commands.SeveralRows ∷ Command commands.NoSuchProgram
     ∷ Command commands.NoSymbols
-    ∷ Command commands.NoSuchStep ∷ Command commands.PictureTooLarge ∷ Command commands.TableTooLarge
-    ∷ Command commands.CyclePastEnd ∷ Command commands.CannotWrite ∷ Command commands.ThreadRefused
+    ∷ Command commands.NoSuchStep ∷ Command commands.NoEnd ∷ Command commands.CodeOverwritten
+    ∷ Command commands.NoRoom ∷ Command commands.PictureTooLarge ∷ Command commands.TableTooLarge
+    ∷ Command commands.CyclePastEnd ∷ Command commands.CannotWrite ∷ Command commands.OnTerminal
+    ∷ Command commands.ThreadRefused
     ∷ Command commands.OutOfMemory ∷ Command commands.NoSuchRefusal
     ∷ Image images.Empty ∷ Image images.TooLarge ∷ Image images.Truncated ∷ Image images.NotRiscv
     ∷ Image images.NotExecutable ∷ Image images.HeaderSize ∷ Image images.Dynamic ∷ Image images.TooManySegments
@@ -90,25 +90,6 @@ AreWith words (refusal ∷ refusals) found =
 abbrev pub text_of_found : List Refusal → List ℕ
 text_of_found (refusal ∷ []) = explanation_of refusal
 text_of_found refusals = flat_map line_of refusals
-
--- a text explains the refusal in the words, if there is one; else it is of those that have the words as a part
-abbrev pub IsExplained : List ℕ → List ℕ → Type 0
-IsExplained words text =
-    ((refusal : Refusal) × IsFirstIn words all_refusals (Some refusal) × (text ≡ explanation_of refusal))
-    ⊎ (IsFirstIn words all_refusals None
-    × ((found : List Refusal) × AreWith words all_refusals found × (found ≢ []) × (text ≡ text_of_found found)))
-
--- there is a text for the words
-abbrev pub HasText : List ℕ → Type 0
-HasText words =
-    ((refusal : Refusal) × IsFirstIn words all_refusals (Some refusal))
-    ⊎ (IsFirstIn words all_refusals None
-    × ((refusal : Refusal) × Contains all_refusals refusal × HasPart words refusal))
-
--- why there is no explanation; out of memory only if there is a text
-abbrev pub IsUnexplained : List ℕ → ExplainError → Type 0
-IsUnexplained words NoSuchRefusal = IsFirstIn words all_refusals None × AreWith words all_refusals []
-IsUnexplained words Memory = HasText words
 
 -- all refusals, each on a line
 unfoldable pub refusal_lines : List ℕ

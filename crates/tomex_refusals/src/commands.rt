@@ -24,6 +24,12 @@ pub enum CommandRefusal {
     NoSymbols,
     /// The run has fewer instructions.
     NoSuchStep,
+    /// A part of a run has no end.
+    NoEnd,
+    /// A part's code was overwritten before it.
+    CodeOverwritten,
+    /// A part leaves no room for the instructions before it.
+    NoRoom,
     /// The picture would have too many signs.
     PictureTooLarge,
     /// The table would have too many intervals.
@@ -32,6 +38,8 @@ pub enum CommandRefusal {
     CyclePastEnd,
     /// The output failed before the end of the text.
     CannotWrite,
+    /// An image would be written to a terminal.
+    OnTerminal,
     /// The system can't start another thread.
     ThreadRefused,
     /// The system has no more memory.
@@ -62,8 +70,9 @@ multiple of 4, or memory would end after address 2^32.
 const TOO_LONG: &str =
     "The program didn't end within its limit of instructions: `--limit`, or `limit`
 in a study, 262144 if nothing else is said, and no more than that. It has to end
-by ECALL or EBREAK. Give it less to do; if it waits for something, it waits for
-ever.
+by ECALL or EBREAK. Give it less to do, or explore parts of its run: `tomex
+parts` says which stand for it, and `tomex cut` makes a program of each. If it
+waits for something, it waits for ever.
 ";
 
 const NO_SUCH_ROW: &str =
@@ -92,8 +101,26 @@ lists the symbols (FUNC). `tomex functions` needs those of both its programs.
 ";
 
 const NO_SUCH_STEP: &str =
-    "The program ends before the instruction that `--from` names. `tomex times STUDY
-CONFIG PROGRAM` numbers them, from 1.
+    "The program ends before the instruction that `--from`, or FROM of `tomex cut`,
+names, or has fewer than STEPS of `tomex parts`. `tomex times STUDY CONFIG
+PROGRAM` numbers them, from 1.
+";
+
+const NO_END: &str = "A part of a run, from its step STEPS on, ends if the run ends, or before an
+instruction in a word of memory that none of its steps has used. After 262,079
+steps there was none: the program goes on in a loop. Cut it at another step, or
+with fewer steps. `tomex parts` found none for any part: try fewer steps.
+";
+
+const CODE_OVERWRITTEN: &str =
+    "The program wrote instructions of the part before the part begins. An image runs
+what its file has, so this part can't be cut: cut it at an earlier step, or a
+part that doesn't run that code.
+";
+
+const NO_ROOM: &str = "The 64 instructions before a part need 61 words of memory in a row, and three
+near its first instruction, that the part doesn't use. Give the program more
+memory, by `--size`; or cut fewer steps, or at another step.
 ";
 
 const PICTURE_TOO_LARGE: &str =
@@ -118,6 +145,11 @@ const CANNOT_WRITE: &str =
 full, or the program that reads it ended, as `head` does.
 ";
 
+const ON_TERMINAL: &str =
+    "An image isn't text, and a terminal shows nothing of it. Write it to a file:
+`tomex cut IMAGE FROM STEPS > part.elf`.
+";
+
 const THREAD_REFUSED: &str =
     "The system didn't start a thread. Use fewer: `--workers N`. `ulimit -u` and
 `ulimit -v` say what is allowed.
@@ -129,8 +161,9 @@ less with fewer configurations or programs, or with fewer `--workers`.
 ";
 
 const NO_SUCH_REFUSAL: &str =
-    "What `tomex explain` was given has the words of no refusal. Without words it
-lists them all. A command line that is refused (status 2) says itself why.
+    "What `tomex explain` was given has the words of no refusal, and no line of the
+list has one of them. Without words it lists all refusals. A command line that
+is refused (status 2) says itself why.
 ";
 
 impl CommandRefusal {
@@ -148,10 +181,14 @@ impl CommandRefusal {
             CommandRefusal::NoSuchProgram => "no such program",
             CommandRefusal::NoSymbols => "no symbols",
             CommandRefusal::NoSuchStep => "no such step",
+            CommandRefusal::NoEnd => "no end",
+            CommandRefusal::CodeOverwritten => "code overwritten",
+            CommandRefusal::NoRoom => "no room",
             CommandRefusal::PictureTooLarge => "picture too large",
             CommandRefusal::TableTooLarge => "table too large",
             CommandRefusal::CyclePastEnd => "cycle past the end",
             CommandRefusal::CannotWrite => "cannot write",
+            CommandRefusal::OnTerminal => "output is a terminal",
             CommandRefusal::ThreadRefused => "thread refused",
             CommandRefusal::OutOfMemory => "out of memory",
             CommandRefusal::NoSuchRefusal => "no such refusal",
@@ -184,10 +221,14 @@ impl CommandRefusal {
             CommandRefusal::NoSuchProgram => NO_SUCH_PROGRAM,
             CommandRefusal::NoSymbols => NO_SYMBOLS,
             CommandRefusal::NoSuchStep => NO_SUCH_STEP,
+            CommandRefusal::NoEnd => NO_END,
+            CommandRefusal::CodeOverwritten => CODE_OVERWRITTEN,
+            CommandRefusal::NoRoom => NO_ROOM,
             CommandRefusal::PictureTooLarge => PICTURE_TOO_LARGE,
             CommandRefusal::TableTooLarge => TABLE_TOO_LARGE,
             CommandRefusal::CyclePastEnd => CYCLE_PAST_END,
             CommandRefusal::CannotWrite => CANNOT_WRITE,
+            CommandRefusal::OnTerminal => ON_TERMINAL,
             CommandRefusal::ThreadRefused => THREAD_REFUSED,
             CommandRefusal::OutOfMemory => OUT_OF_MEMORY,
             CommandRefusal::NoSuchRefusal => NO_SUCH_REFUSAL,

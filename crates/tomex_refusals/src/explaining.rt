@@ -2,9 +2,11 @@
 
 ghost use Rattle.std.specs.Prelude.{◌≡◌, ◌++◌, None, IfErr, IfOk, OnOk, string_bytes};
 ghost use Rattle.std.specs.List.{flat_map};
-ghost use Rattle.tomex_refusals.specs.Refusals.{IsExplained, IsFirstIn, IsUnexplained, all_refusals, explanation_of};
+ghost use Rattle.tomex_refusals.specs.Explanations.{IsExplained, IsUnexplained};
+ghost use Rattle.tomex_refusals.specs.Refusals.{IsFirstIn, all_refusals, explanation_of};
 ghost use Rattle.tomex_refusals.specs.Refusals.{line_of, refusal_lines, text_of_found};
 
+use crate::parts::part_of;
 use crate::refusal::{Refusal, refusal_in, refusals_with};
 use std::alloc::{AllocError, Allocator};
 
@@ -49,7 +51,7 @@ fn text_of_found<A: Allocator>(alloc: A, found: &[Refusal]) -> Result<Vec<u8, A>
     }
 }
 
-/// The explanation of the refusal whose line has these words in it, or the list of those that have.
+/// The explanation of the refusal whose line has a part of these words in it, or the list of those that have.
 fn explain_part<A: Allocator, B: Allocator>(
     alloc: A,
     heap: B,
@@ -59,10 +61,10 @@ fn explain_part<A: Allocator, B: Allocator>(
     ensures text { IfOk result (λ text. IsExplained words.now text.items) }
     ensures refused { IfErr result (λ error. IsUnexplained words.now error) }
 {
-    let found = refusals_with(heap, words)?;
-    if found.is_empty() {
+    let Some(part) = part_of(words) else {
         return Err(ExplainError::NoSuchRefusal);
-    }
+    };
+    let found = refusals_with(heap, part)?;
     Ok(text_of_found(alloc, found.as_slice())?)
 }
 
@@ -70,8 +72,9 @@ fn explain_part<A: Allocator, B: Allocator>(
 /// what it means, its usual causes, and what to do. Text before and after its own words doesn't
 /// matter.
 ///
-/// If the words are no refusal's, they are looked for in the lines of the list: of several that have them these lines
-/// are the text, a single one is explained. They are gathered in `heap`.
+/// If the words are no refusal's, they are looked for in the lines of the list, and if none has them the longest of the
+/// words that one has. If several have it these lines are the text, a single one is explained. They are gathered in
+/// `heap`.
 pub fn explain<A: Allocator, B: Allocator>(
     alloc: A,
     heap: B,

@@ -7,6 +7,7 @@ mod explaining;
 mod faults;
 mod images;
 mod looking;
+mod parts;
 mod refusal;
 mod statuses;
 mod studies;

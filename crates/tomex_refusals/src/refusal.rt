@@ -1,9 +1,7 @@
 //! All refusals, and how to find a text's.
 
-ghost use Rattle.std.specs.Prelude.{◌≡◌, IfErr, IfOk};
-ghost use Rattle.std.specs.List.{Contains};
-ghost use Rattle.tomex_refusals.specs.declared.refusal.Refusal.{Refusal};
-ghost use Rattle.tomex_refusals.specs.Refusals.{AreWith, HasPart, IsFirstIn, advice_of, all_refusals};
+ghost use Rattle.std.specs.Prelude.{◌≡◌, IfOk};
+ghost use Rattle.tomex_refusals.specs.Refusals.{AreWith, IsFirstIn, advice_of, all_refusals};
 ghost use Rattle.tomex_refusals.specs.Refusals.{form_of, words_of};
 
 use crate::commands::CommandRefusal;
@@ -26,7 +24,7 @@ pub enum Refusal {
 
 impl Refusal {
     /// All refusals, in the order in which they are looked for: those with a name in them first.
-    pub const ALL: [Refusal; 41] = [
+    pub const ALL: [Refusal; 45] = [
         Refusal::Command(CommandRefusal::CannotRead),
         Refusal::Command(CommandRefusal::NoSuchChoice),
         Refusal::Command(CommandRefusal::BadWindow),
@@ -36,10 +34,14 @@ impl Refusal {
         Refusal::Command(CommandRefusal::NoSuchProgram),
         Refusal::Command(CommandRefusal::NoSymbols),
         Refusal::Command(CommandRefusal::NoSuchStep),
+        Refusal::Command(CommandRefusal::NoEnd),
+        Refusal::Command(CommandRefusal::CodeOverwritten),
+        Refusal::Command(CommandRefusal::NoRoom),
         Refusal::Command(CommandRefusal::PictureTooLarge),
         Refusal::Command(CommandRefusal::TableTooLarge),
         Refusal::Command(CommandRefusal::CyclePastEnd),
         Refusal::Command(CommandRefusal::CannotWrite),
+        Refusal::Command(CommandRefusal::OnTerminal),
         Refusal::Command(CommandRefusal::ThreadRefused),
         Refusal::Command(CommandRefusal::OutOfMemory),
         Refusal::Command(CommandRefusal::NoSuchRefusal),
@@ -122,12 +124,9 @@ pub fn refusal_in(text: &str) -> Option<Refusal>
     None
 }
 
-/// Those of all refusals whose line in the list has these words in it, in the list's order. Out of memory only if there
-/// is one.
+/// Those of all refusals whose line in the list has these words in it, in the list's order.
 pub fn refusals_with<A: Allocator>(alloc: A, words: &str) -> Result<Vec<Refusal, A>, AllocError>
-    ensures found { IfOk result (λ found. AreWith words.now all_refusals found.items) }
-    ensures refused { IfErr result
-        (λ _. (refusal : Refusal) × Contains all_refusals refusal × HasPart words.now refusal) }
+    ensures { IfOk result (λ found. AreWith words.now all_refusals found.items) }
 {
     let mut found = Vec::new(alloc);
     for refusal in Refusal::ALL {

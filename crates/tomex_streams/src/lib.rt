@@ -8,5 +8,5 @@ mod meter;
 mod sink;
 
 pub use files::{Files, HostFiles, ReadFault, bytes_within};
-pub use meter::{HINT, Meter, NoMeter, Progress, TerminalMeter};
+pub use meter::{Counted, HINT, Meter, NoMeter, Progress, TerminalMeter};
 pub use sink::{PutFault, Sink, Stream, WriteFault, write_all_of};

@@ -14,29 +14,44 @@ const PAUSE: u64 = 100;
 /// The line on a terminal after a refusal.
 pub const HINT: &str = "tomex: `tomex explain` and these words say what it means\n";
 
-/// How many configurations are finished.
-#[derive(Clone, Copy, Debug)]
+/// What progress counts.
+#[derive(Clone, Copy, Debug, PartialEq, Eq)]
+pub enum Counted {
+    Configurations,
+    /// The steps of a run.
+    Steps,
+    /// The steps of a run that may have fewer.
+    AtMostSteps,
+}
+
+/// How much of long work is finished.
+#[derive(Clone, Copy, Debug, PartialEq, Eq)]
 pub struct Progress {
     pub done: u64,
     pub of: u64,
+    pub counted: Counted,
 }
 
 impl fmt::Display for Progress {
-    ghost use Rattle.std.specs.Fmt.{decimal};
-    ghost use Rattle.std.specs.Prelude.{◌++◌, Some, codes};
+    ghost use Rattle.std.specs.Prelude.{Some};
+    ghost use Rattle.tomex_streams.specs.Progress.{text_of};
 
-    ghost output = { λ p. Some (decimal p.done ++ (codes " of " ++ (decimal p.of ++ codes " configurations"))) };
+    ghost output = { λ p. Some (text_of p) };
 
     fn fmt<W: fmt::Write>(&self, f: &mut fmt::Formatter<W>) -> fmt::Result {
-        let Progress { done, of } = *self;
-        write!(f, "{done} of {of} configurations")
+        let Progress { done, of, counted } = *self;
+        match counted {
+            Counted::Configurations => write!(f, "{done} of {of} configurations"),
+            Counted::Steps => write!(f, "{done} of {of} steps"),
+            Counted::AtMostSteps => write!(f, "{done} of at most {of} steps"),
+        }
     }
 }
 
 /// Shows progress. Several threads may call it at once.
 pub trait Meter {
-    /// Shows that `done` of `of` configurations are finished.
-    fn show(&self, done: u64, of: u64);
+    /// Shows how much is finished.
+    fn show(&self, progress: Progress);
 
     /// Removes what is shown; the work is finished.
     fn clear(&self);
@@ -50,7 +65,7 @@ pub trait Meter {
 pub struct NoMeter;
 
 impl Meter for NoMeter {
-    fn show(&self, _done: u64, _of: u64) {}
+    fn show(&self, _progress: Progress) {}
 
     fn clear(&self) {}
 
@@ -113,10 +128,9 @@ impl<'a, R: Clock> TerminalMeter<'a, R> {
 }
 
 impl<'a, R: Clock> Meter for TerminalMeter<'a, R> {
-    fn show(&self, done: u64, of: u64) {
+    fn show(&self, progress: Progress) {
         if let Some(terminal) = &self.terminal {
             if self.is_due() {
-                let progress = Progress { done, of };
                 let mut writer = terminal;
                 let _ = write!(writer, "\r\x1b[K{progress}");
                 self.lines.fetch_add(1, Ordering::SeqCst);

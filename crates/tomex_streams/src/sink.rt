@@ -1,5 +1,5 @@
 //! Output: a sink takes bytes piece by piece, and may take less than it is given or fail.
-ghost use Rattle.std.specs.Prelude.{◌≡◌, ◌<◌, ◌≤◌, length, take, IfOk, IfErr, OnOk, OnErr};
+ghost use Rattle.std.specs.Prelude.{◌≡◌, ◌<◌, ◌≤◌, Bool, false, length, take, IfOk, IfErr, OnOk, OnErr};
 ghost use Rattle.std.specs.Io.KnownBytes.{Appends, Keeps};
 ghost use Rattle.tomex_streams.specs.Sinks.{Rises, Seen};
 
@@ -19,6 +19,13 @@ pub struct PutFault;
 pub trait Sink {
     /// The bytes that it took so far, if they are known, and the number of puts that were faults.
     ghost seen: { Self → Seen };
+
+    /// True if it is a terminal, which shows text.
+    ghost terminal: { Self → Bool };
+
+    /// True if it is a terminal, on which bytes that aren't text make no sense.
+    fn is_terminal(&self) -> bool
+        ensures { result ≡ terminal self.now };
 
     /// Takes a first part of the piece, and returns its length in bytes.
     fn put(&mut self, piece: &[u8]) -> Result<usize, PutFault>
@@ -71,20 +78,33 @@ pub struct Stream<W: Write + Drop> {
     pub writer: W,
     /// The number of puts that were faults.
     pub faults: u64,
+    /// True if the writer writes to a terminal.
+    pub is_terminal: bool,
 }
 
 impl<W: Write + Drop> Stream<W> {
-    /// A stream with no faults so far.
-    pub fn new(writer: W) -> Stream<W>
+    /// A stream with no faults so far, which is a terminal or isn't.
+    pub fn new(writer: W, is_terminal: bool) -> Stream<W>
         ensures writer { result.writer ≡ writer }
         ensures no_fault { result.faults ≡ 0 }
+        ensures terminal { result.is_terminal ≡ is_terminal }
     {
-        Stream { writer, faults: 0 }
+        Stream {
+            writer,
+            faults: 0,
+            is_terminal,
+        }
     }
 }
 
 impl<W: Write + Drop> Sink for Stream<W> {
     ghost seen = { λ stream. record { taken = W.contents stream.writer; faults = stream.faults } };
+
+    ghost terminal = { λ stream. stream.is_terminal };
+
+    fn is_terminal(&self) -> bool {
+        self.is_terminal
+    }
 
     fn put(&mut self, piece: &[u8]) -> Result<usize, PutFault> {
         match self.writer.write(piece) {

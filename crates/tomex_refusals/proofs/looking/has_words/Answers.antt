@@ -1,5 +1,5 @@
 -- The words stand at a place, or at none.
-use Rattle.std.proofs.Common.{◌∙◌, arith, refl, sym}
+use Rattle.std.proofs.Common.{◌∙◌, refl, sym}
 use Rattle.tomex_refusals.proofs.Standing.{at_last, in_text}
 use Rattle.tomex_refusals.proofs.looking.has_words.Goals as goal
 

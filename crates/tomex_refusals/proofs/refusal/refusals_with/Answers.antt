@@ -1,20 +1,11 @@
 -- A refusal's line has the words, or it hasn't.
 use Rattle.std.proofs.Common.{◌∙◌, List, ℕ, refl, subst, sym}
 use Rattle.std.proofs.lemmas.Bool.{false≢true}
-use Rattle.std.proofs.lemmas.Result.{err_from_is_err_and}
 use Rattle.tomex_refusals.specs.Looking.{HasWords}
 use Rattle.tomex_refusals.specs.Refusals.{all_refusals}
-use Rattle.tomex_refusals.proofs.Found.{all_with, contains_at, one_with, one_without}
+use Rattle.tomex_refusals.proofs.Found.{all_with, one_with, one_without}
 use Rattle.tomex_refusals.proofs.refusal.refusals_with.Goals as goal
 use Rattle.tomex_refusals.proofs.refusal.refusals_with.Goals.{then-has_words+in_ok-push, else-has_words}
-
-pub returns-in_err-push-clause-refused : goal.returns-in_err-push-clause-refused
-returns-in_err-push-clause-refused g c =
-    let p = err_from_is_err_and c.from_residual.result c.from_residual.ensures.1 in
-    let here = c.has_words.ensures in
-    let has = subst (λ (form : List ℕ). HasWords form c.args.words.now) c.form.ensures
-    (here.0 c.if-has_words.true) in
-    rw p.1 (_, contains_at all_refusals c.loop-refusal.refusal-index _ _ c.loop-refusal-test.true refl, has)
 
 pub loop-refusal-preserved : goal.loop-refusal-preserved
 loop-refusal-preserved g c =
@@ -30,7 +21,7 @@ loop-refusal-preserved g c =
           (subst (λ (form : List ℕ). HasWords form c.args.words.now) (sym same) has))) c.loop-refusal.invariant)
     ]
 
-pub returns-clause-found : goal.returns-clause-found
-returns-clause-found g c =
+pub returns : goal.returns
+returns g c =
     all_with c.args.words.now all_refusals c.loop-refusal.refusal-index _ c.loop-refusal-test.false
     c.loop-refusal.invariant
