@@ -1,5 +1,6 @@
 -- A place that is found in a list is inside it, and what is found stands there.
-use Rattle.std.proofs.Common.{◌≡◌, ◌<◌, ◌≤◌, ◌∙◌, ap, arith, ℕ, zero, suc, Bool, true, false, cond, List, [], ◌∷◌, length, Option, Some, None}
+use Rattle.std.proofs.Common.{◌≡◌, ◌<◌, ◌≤◌, ◌∙◌, ap, arith, ℕ, zero, suc, Bool, true, false, cond, List, [], ◌∷◌}
+use Rattle.std.proofs.Common.{length, Option, Some, None}
 use Rattle.std.proofs.Common.{refl, sym}
 use Rattle.std.specs.Prelude.{IfSome, is_some, nat_lt, slice_get}
 use Rattle.std.specs.List.{find, position, position_or_len}

@@ -69,7 +69,8 @@ same_program : (p : Workload) → IsSameProgram p p
 same_program p = record { name = refl; image = refl; limit = refl }
 
 same_printed : OnlyTheTwoMatter → OnlyTheTwoMatterInCsv → (form : Form) (s t : DesignSpace) → IsStudy s → IsStudy t
-    → s.rows ≡ t.rows → s.costs ≡ t.costs → (old new : Option Workload) → printed form s old new ≡ printed form t old new
+    → s.rows ≡ t.rows → s.costs ≡ t.costs → (old new : Option Workload)
+    → printed form s old new ≡ printed form t old new
 unfolding printed
 same_printed law csv forms.Table s t study other rows costs (Some old) (Some new) =
     law s t old new old new study other rows costs (same_program old) (same_program new)

@@ -5,6 +5,7 @@
 
 mod answering;
 mod crew;
+pub mod laws;
 mod needs;
 mod numbered;
 mod study_view;

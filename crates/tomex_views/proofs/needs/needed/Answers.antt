@@ -22,7 +22,8 @@ returns-clause-needed g c = elim c.match-view.branch [
 pub returns-clause-text : goal.returns-clause-text
 returns-clause-text g c = λ text is.
     let same = returns-clause-needed g c in
-    text_of_needed c.only_the_two_builds_matter.ensures.all c.only_the_two_builds_matter.ensures.csv c.args.view c.args.study text c.keeps_limits.ensures
+    text_of_needed c.only_the_two_builds_matter.ensures.all c.only_the_two_builds_matter.ensures.csv
+    c.args.view c.args.study text c.keeps_limits.ensures
     (subst IsStudy same c.keeps_limits-2.ensures)
     (subst (λ (s : DesignSpace). IsSurveyText c.args.view s text) same is)
 
