@@ -5,12 +5,13 @@ use std::fs;
 use std::rt::Files;
 
 /// The archives, one a command, and those of forms that several commands have.
-pub const COMMANDS: [&str; 24] = [
+pub const COMMANDS: [&str; 26] = [
     "all",
     "animate",
     "choices",
     "compare",
     "config",
+    "cut",
     "explore",
     "find",
     "front",
@@ -19,6 +20,7 @@ pub const COMMANDS: [&str; 24] = [
     "hull",
     "loops",
     "page",
+    "parts",
     "path",
     "pipeline",
     "plot",

@@ -29,6 +29,10 @@ unreported file line (failures.NoSuchChoice choice) of = absurd of.holds
 unreported file line failures.NoSuchRefusal of = absurd of.holds
 unreported file line (failures.CannotRead name) of = absurd of.holds
 unreported file line failures.CannotWrite of = absurd of.holds
+unreported file line failures.NoEnd of = absurd of.holds
+unreported file line failures.CodeOverwritten of = absurd of.holds
+unreported file line failures.NoRoom of = absurd of.holds
+unreported file line failures.OnTerminal of = absurd of.holds
 unreported file line failures.Worker of = absurd of.holds
 
 -- a build that isn't chosen is the old one or the new one
@@ -54,6 +58,10 @@ module _ (file : List ℕ → Known) (line : FunctionsLine) (study : DesignSpace
   without failures.NoSuchRefusal why = absurd why
   without (failures.CannotRead name) why = absurd why
   without failures.CannotWrite why = absurd why
+  without failures.NoEnd why = absurd why
+  without failures.CodeOverwritten why = absurd why
+  without failures.NoRoom why = absurd why
+  without failures.OnTerminal why = absurd why
   without failures.Worker why = absurd why
 
   pub unchosen : (failure same : Failure) → IsUnchosen study (run_of_build line build) failure → same ≡ failure

@@ -27,6 +27,10 @@ not_shown file view (failures.NoSuchChoice choice) of = absurd of.holds
 not_shown file view failures.NoSuchRefusal of = absurd of.holds
 not_shown file view (failures.CannotRead name) of = absurd of.holds
 not_shown file view failures.CannotWrite of = absurd of.holds
+not_shown file view failures.NoEnd of = absurd of.holds
+not_shown file view failures.CodeOverwritten of = absurd of.holds
+not_shown file view failures.NoRoom of = absurd of.holds
+not_shown file view failures.OnTerminal of = absurd of.holds
 not_shown file view failures.Worker of = absurd of.holds
 
 module _ (file : List ℕ → Known) (view : RunView) (study : DesignSpace)
@@ -49,6 +53,10 @@ module _ (file : List ℕ → Known) (view : RunView) (study : DesignSpace)
   without_choice failures.NoSuchRefusal why = absurd why
   without_choice (failures.CannotRead name) why = absurd why
   without_choice failures.CannotWrite why = absurd why
+  without_choice failures.NoEnd why = absurd why
+  without_choice failures.CodeOverwritten why = absurd why
+  without_choice failures.NoRoom why = absurd why
+  without_choice failures.OnTerminal why = absurd why
   without_choice failures.Worker why = absurd why
 
   pub unchosen : (failure same : Failure) → IsUnchosen study (run_of_view view) failure → same ≡ failure

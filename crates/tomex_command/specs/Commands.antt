@@ -1,9 +1,10 @@
 -- The result of a run of the program. A further command is a further case of `IsDone` and of `IsFailure`.
-use Rattle.std.specs.Prelude.{◌≡◌, ◌⊎◌, ℕ, List, option_map, string_bytes}
+use Rattle.std.specs.Prelude.{◌≡◌, ◌⊎◌, ◌&&◌, ℕ, Bool, true, false, IsTrue, List, option_map, string_bytes}
 use Rattle.tomex_command.specs.declared.failure.Failure.{Failure}
-use Rattle.tomex_command.specs.declared.failure.Failure.TheVariants.{CannotWrite}
+use Rattle.tomex_command.specs.declared.failure.Failure.TheVariants.{CannotWrite, OnTerminal}
 use Rattle.tomex_command_line.specs.declared.line.Line.{Line}
-use Rattle.tomex_command_line.specs.declared.line.Line.TheVariants.{Run, Times, Stalls, Path, Loops, Pipeline}
+use Rattle.tomex_command_line.specs.declared.line.Line.TheVariants.{Run, Parts, Cut, Times}
+use Rattle.tomex_command_line.specs.declared.line.Line.TheVariants.{Stalls, Path, Loops, Pipeline}
 use Rattle.tomex_command_line.specs.declared.line.Line.TheVariants.{Tables, Animate, All, Explore, Front, Plot, Rows}
 use Rattle.tomex_command_line.specs.declared.line.Line.TheVariants.{Worth, Choices, Prices, Weights, Compare}
 use Rattle.tomex_command_line.specs.declared.line.Line.TheVariants.{Functions, Page, Find, Explain}
@@ -13,10 +14,12 @@ use Rattle.tomex_views.specs.declared.study_view.ChoicesView.TheVariants as choi
 use Rattle.tomex_views.specs.declared.study_view.StudyView.TheVariants as views
 use Rattle.tomex_views.specs.declared.study_view.SurveyView.TheVariants as surveys
 use Rattle.tomex_streams.specs.Files.{Known}
+use Rattle.tomex_command.specs.CutLines.{IsCutFailure, IsCutOf}
 use Rattle.tomex_command.specs.ExplainLines.{IsExplanation, IsExplainFailure}
 use Rattle.tomex_command.specs.FindLines.{IsFindOf, IsFindFailure}
 use Rattle.tomex_command.specs.FunctionsLines.{IsFunctionsFailure, IsFunctionsOf}
 use Rattle.tomex_command.specs.FrontLines.{IsAllFailure, IsExploreFailure, IsReportOf}
+use Rattle.tomex_command.specs.PartsLines.{IsPartsFailure, IsPartsOf}
 use Rattle.tomex_streams.specs.Sinks.{Seen, IsWhole, IsCut}
 use Rattle.tomex_command.specs.RunLines.{IsRunOf, IsRunFailure}
 use Rattle.tomex_command.specs.Chosen.{row_name}
@@ -29,6 +32,8 @@ use Rattle.tomex_command.specs.Reporting.{IsFailureReported, IsSaid, IsFaultRepo
 -- this text is what the line asks for, given the files by their names
 abbrev pub IsDone : (List ℕ → Known) → Line → List ℕ → Type 0
 IsDone file (Run line) text = IsRunOf file line text
+IsDone file (Parts line) text = IsPartsOf file line text
+IsDone file (Cut line) text = IsCutOf file line text
 IsDone file (Times line) text = IsRunViewOf (runs.Times line) file text
 IsDone file (Stalls line) text = IsRunViewOf (runs.Stalls line) file text
 IsDone file (Path line) text = IsRunViewOf (runs.Path line) file text
@@ -60,6 +65,8 @@ IsDone file (Explain line) text = IsExplanation (option_map string_bytes line.re
 -- the line has no text, for this reason
 abbrev pub IsFailure : (List ℕ → Known) → Line → Failure → Type 0
 IsFailure file (Run line) failure = IsRunFailure file line failure
+IsFailure file (Parts line) failure = IsPartsFailure file line failure
+IsFailure file (Cut line) failure = IsCutFailure file line failure
 IsFailure file (Times line) failure = IsRunViewFailure (runs.Times line) file failure
 IsFailure file (Stalls line) failure = IsRunViewFailure (runs.Stalls line) file failure
 IsFailure file (Path line) failure = IsRunViewFailure (runs.Path line) file failure
@@ -75,7 +82,8 @@ IsFailure file (Plot line) failure =
     IsViewFailure (views.Survey (plot_view line.all)) file line.explore.study.now failure
 IsFailure file (Rows line) failure = IsViewFailure (views.Survey surveys.Rows) file line.study.now failure
 IsFailure file (Worth line) failure =
-    IsViewFailure (views.Survey (surveys.Worth (row_name line.config) (form_of line.csv))) file line.explore.study.now failure
+    IsViewFailure (views.Survey (surveys.Worth (row_name line.config) (form_of line.csv))) file
+    line.explore.study.now failure
 IsFailure file (Choices line) failure =
     IsViewFailure (views.Choices (choices.Lists (form_of line.csv))) file line.explore.study.now failure
 IsFailure file (Prices line) failure =
@@ -90,22 +98,35 @@ IsFailure file (Page line) failure = IsViewFailure (page_view line) file line.ex
 IsFailure file (Find line) failure = IsFindFailure file line failure
 IsFailure file (Explain line) failure = IsExplainFailure (option_map string_bytes line.refusal) failure
 
+-- a command prints an image, which isn't text
+abbrev pub prints_image : Line → Bool
+prints_image (Cut line) = true
+prints_image line = false
+
+-- its output is a terminal, and that is of no use to anybody
+abbrev pub IsUnfit : Bool → Line → Type 0
+IsUnfit terminal line = IsTrue (terminal && prints_image line)
+
 -- a line was carried out: its text is on the output
-pub record IsCarriedOut (file : List ℕ → Known) (line : Line) (old new : Seen) : Type 0 where
+pub record IsCarriedOut (file : List ℕ → Known) (terminal : Bool) (line : Line) (old new : Seen) : Type 0 where
+  pub fits : IsUnfit terminal line → ⊥
   pub text : List ℕ
   pub is_done : IsDone file line text
   pub written : IsWhole text old new
 
 -- its text was made, and the output took only a first part of it
-pub record IsCutShort (file : List ℕ → Known) (line : Line) (old new : Seen) : Type 0 where
+pub record IsCutShort (file : List ℕ → Known) (terminal : Bool) (line : Line) (old new : Seen) : Type 0 where
+  pub fits : IsUnfit terminal line → ⊥
   pub text : List ℕ
   pub is_done : IsDone file line text
   pub cut : IsCut text old new
 
--- a line was not carried out: the output failed, or it took nothing, and the line has no text
-abbrev pub IsLeft : (List ℕ → Known) → Line → Failure → Seen → Seen → Type 0
-IsLeft file line CannotWrite old new = IsCutShort file line old new
-IsLeft file line failure old new = IsFailure file line failure × (new ≡ old)
+-- a line was not carried out: an image would go to a terminal, the output failed, or the line has no text; nothing is
+-- on the output unless it failed
+abbrev pub IsLeft : (List ℕ → Known) → Bool → Line → Failure → Seen → Seen → Type 0
+IsLeft file terminal line OnTerminal old new = IsUnfit terminal line × (new ≡ old)
+IsLeft file terminal line CannotWrite old new = IsCutShort file terminal line old new
+IsLeft file terminal line failure old new = (IsUnfit terminal line → ⊥) × IsFailure file line failure × (new ≡ old)
 
 -- help or the refusal of a line was printed
 pub record IsToldOnly (words : List (List ℕ)) (status : ℕ) (out-old out err-old err : Seen) : Type 0 where
@@ -115,26 +136,26 @@ pub record IsToldOnly (words : List (List ℕ)) (status : ℕ) (out-old out err-
   pub said : IsSaid fault status err-old err
 
 -- the line that the words ask for was carried out
-pub record HasDone (words : List (List ℕ)) (file : List ℕ → Known) (status : ℕ)
+pub record HasDone (words : List (List ℕ)) (file : List ℕ → Known) (terminal : Bool) (status : ℕ)
     (out-old out err-old err : Seen) : Type 0 where
   pub line : Line
   pub asked : IsAsked words line
-  pub carried_out : IsCarriedOut file line out-old out
+  pub carried_out : IsCarriedOut file terminal line out-old out
   pub status_is : status ≡ 0
   pub nothing_said : err ≡ err-old
 
 -- the line that the words ask for failed, and that was reported
-pub record HasFailed (words : List (List ℕ)) (file : List ℕ → Known) (status : ℕ)
+pub record HasFailed (words : List (List ℕ)) (file : List ℕ → Known) (terminal : Bool) (status : ℕ)
     (out-old out err-old err : Seen) : Type 0 where
   pub line : Line
   pub asked : IsAsked words line
   pub failure : Failure
-  pub left : IsLeft file line failure out-old out
+  pub left : IsLeft file terminal line failure out-old out
   pub reported : IsFailureReported failure status err-old err
 
--- the end of a run of the program
-abbrev pub IsEnd : List (List ℕ) → (List ℕ → Known) → ℕ → Seen → Seen → Seen → Seen → Type 0
-IsEnd words file status out-old out err-old err =
+-- the end of a run of the program, whose output is a terminal or isn't
+abbrev pub IsEnd : List (List ℕ) → (List ℕ → Known) → Bool → ℕ → Seen → Seen → Seen → Seen → Type 0
+IsEnd words file terminal status out-old out err-old err =
     IsToldOnly words status out-old out err-old err
-    ⊎ (HasDone words file status out-old out err-old err
-    ⊎ HasFailed words file status out-old out err-old err)
+    ⊎ (HasDone words file terminal status out-old out err-old err
+    ⊎ HasFailed words file terminal status out-old out err-old err)

@@ -3,7 +3,8 @@ use Rattle.std.specs.Prelude.{◌≡◌, List, ℕ, Option, Some, None}
 use Rattle.tomex_command.specs.declared.failure.Failure.{Failure}
 use Rattle.tomex_command.specs.declared.failure.Failure.TheVariants.{NoSuchRefusal, Memory}
 use Rattle.tomex_refusals.specs.declared.explaining.ExplainError.TheVariants as errors
-use Rattle.tomex_refusals.specs.Refusals.{IsExplained, IsUnexplained, refusal_lines}
+use Rattle.tomex_refusals.specs.Explanations.{IsExplained, IsUnexplained}
+use Rattle.tomex_refusals.specs.Refusals.{refusal_lines}
 
 -- the text explains the refusal in the words; without words it is the list of all refusals
 abbrev pub IsExplanation : Option (List ℕ) → List ℕ → Type 0

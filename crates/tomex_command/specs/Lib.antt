@@ -1,9 +1,12 @@
 pub mod Chosen
 pub mod Commands
+pub mod CutLines
 pub mod ExplainLines
 pub mod FindLines
 pub mod FrontLines
 pub mod FunctionsLines
+pub mod ImageLines
+pub mod PartsLines
 pub mod Reading
 pub mod RunLines
 pub mod RunText

@@ -4,6 +4,7 @@ use Rattle.std.specs.Fmt.{decimal}
 use Rattle.tomex_command.specs.declared.failure.Failure.{Failure}
 use Rattle.tomex_command.specs.declared.failure.Failure.TheVariants.{BadWindow, Run, Study, NoSuchRow}
 use Rattle.tomex_command.specs.declared.failure.Failure.TheVariants.{NoSuchProgram, NoSymbols, CyclePastEnd, NoSuchStep}
+use Rattle.tomex_command.specs.declared.failure.Failure.TheVariants.{NoEnd, CodeOverwritten, NoRoom, OnTerminal}
 use Rattle.tomex_command.specs.declared.failure.Failure.TheVariants.{PictureTooLarge, TableTooLarge, CannotRead}
 use Rattle.tomex_command.specs.declared.failure.Failure.TheVariants.{CannotWrite, NoSuchChoice, SeveralRows}
 use Rattle.tomex_command.specs.declared.failure.Failure.TheVariants.{NoSuchRefusal, Memory, Worker}
@@ -25,12 +26,16 @@ IsTextOf NoSuchProgram text = text ≡ codes "no such program"
 IsTextOf NoSymbols text = text ≡ codes "no symbols"
 IsTextOf CyclePastEnd text = text ≡ codes "cycle past the end"
 IsTextOf NoSuchStep text = text ≡ codes "no such step"
+IsTextOf NoEnd text = text ≡ codes "no end"
+IsTextOf CodeOverwritten text = text ≡ codes "code overwritten"
+IsTextOf NoRoom text = text ≡ codes "no room"
 IsTextOf PictureTooLarge text = text ≡ codes "picture too large"
 IsTextOf TableTooLarge text = text ≡ codes "table too large"
 IsTextOf (NoSuchChoice choice) text = text ≡ codes "no such choice: " ++ shown_name (string_bytes choice)
 IsTextOf NoSuchRefusal text = text ≡ codes "no such refusal"
 IsTextOf (CannotRead name) text = text ≡ codes "cannot read " ++ shown_name (string_bytes name)
 IsTextOf CannotWrite text = text ≡ codes "cannot write"
+IsTextOf OnTerminal text = text ≡ codes "output is a terminal"
 IsTextOf Memory text = text ≡ codes "out of memory"
 IsTextOf Worker text = text ≡ codes "thread refused"
 

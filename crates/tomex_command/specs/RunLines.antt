@@ -11,22 +11,23 @@ use Rattle.tomex_command.specs.RunText.{IsRunText, IsRunRefusal}
 
 -- base and size are a window, and the text is that of the run of the image's bytes in it
 pub record IsRunOf (file : List ℕ → Known) (line : RunLine) (text : List ℕ) : Type 0 where
-  pub window : IsWindow line.base line.size
+  pub window : IsWindow line.image.base line.image.size
   pub bytes : List ℕ
-  pub read : IsRead (file line.image.now) bytes
-  pub is_text : IsRunText bytes (record { base = line.base; size = line.size }) line.limit text
+  pub read : IsRead (file line.image.file.now) bytes
+  pub is_text : IsRunText bytes (record { base = line.image.base; size = line.image.size }) line.limit text
 
 -- base and size are a window, and the image's bytes or their run have this refusal
 pub record IsRefusedRun (file : List ℕ → Known) (line : RunLine) (refusal : RunRefusal) : Type 0 where
-  pub window : IsWindow line.base line.size
+  pub window : IsWindow line.image.base line.image.size
   pub bytes : List ℕ
-  pub read : IsRead (file line.image.now) bytes
-  pub is_refusal : IsRunRefusal bytes (record { base = line.base; size = line.size }) line.limit refusal
+  pub read : IsRead (file line.image.file.now) bytes
+  pub is_refusal : IsRunRefusal bytes (record { base = line.image.base; size = line.image.size }) line.limit refusal
 
 -- when each failure comes: the window is tested before the file is read; memory may run out at any time
 abbrev pub IsRunFailure : (List ℕ → Known) → RunLine → Failure → Type 0
-IsRunFailure file line BadWindow = IsWindow line.base line.size → ⊥
-IsRunFailure file line (CannotRead name) = IsWindow line.base line.size × IsUnread file line.image.now (CannotRead name)
+IsRunFailure file line BadWindow = IsWindow line.image.base line.image.size → ⊥
+IsRunFailure file line (CannotRead name) =
+    IsWindow line.image.base line.image.size × IsUnread file line.image.file.now (CannotRead name)
 IsRunFailure file line (Run refusal) = IsRefusedRun file line refusal
 IsRunFailure file line Memory = Unit {0}
 IsRunFailure file line _ = ⊥

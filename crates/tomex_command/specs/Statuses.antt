@@ -7,12 +7,18 @@ use Rattle.tomex_views.specs.declared.view_error.ViewError.{ViewError}
 use Rattle.tomex_views.specs.declared.view_error.ViewError.TheVariants as views
 use Rattle.tomex_animate.specs.declared.animation_error.AnimationError.{AnimationError}
 use Rattle.tomex_animate.specs.declared.animation_error.AnimationError.TheVariants as animations
+use Rattle.tomex_cut.specs.declared.error.CutError.{CutError}
+use Rattle.tomex_cut.specs.declared.error.CutError.TheVariants as cuts
+use Rattle.tomex_image.specs.declared.error.ImageError.{ImageError}
+use Rattle.tomex_image.specs.declared.error.ImageError.TheVariants as images
 use Rattle.tomex_front_views.specs.declared.finding.FindError.{FindError}
 use Rattle.tomex_front_views.specs.declared.finding.FindError.TheVariants as searches
 use Rattle.tomex_front_views.specs.declared.row_name.RowError.{RowError}
 use Rattle.tomex_front_views.specs.declared.row_name.RowError.TheVariants as rows
 use Rattle.tomex_functions.specs.declared.functions_error.FunctionsError.{FunctionsError}
 use Rattle.tomex_functions.specs.declared.functions_error.FunctionsError.TheVariants as functions
+use Rattle.tomex_parts.specs.declared.error.PartsError.{PartsError}
+use Rattle.tomex_parts.specs.declared.error.PartsError.TheVariants as parts
 use Rattle.tomex_refusals.specs.declared.explaining.ExplainError.{ExplainError}
 use Rattle.tomex_refusals.specs.declared.explaining.ExplainError.TheVariants as explanations
 use Rattle.tomex_run_views.specs.declared.excerpt_error.ExcerptError.{ExcerptError}
@@ -24,6 +30,7 @@ use Rattle.tomex_command.specs.declared.run.RunRefusal.TheVariants as refusals
 use Rattle.tomex_command.specs.declared.failure.Failure.{Failure}
 use Rattle.tomex_command.specs.declared.failure.Failure.TheVariants.{BadWindow, Run, Study, NoSuchRow}
 use Rattle.tomex_command.specs.declared.failure.Failure.TheVariants.{NoSuchProgram, NoSymbols, CyclePastEnd, NoSuchStep}
+use Rattle.tomex_command.specs.declared.failure.Failure.TheVariants.{NoEnd, CodeOverwritten, NoRoom, OnTerminal}
 use Rattle.tomex_command.specs.declared.failure.Failure.TheVariants.{PictureTooLarge, TableTooLarge, CannotRead}
 use Rattle.tomex_command.specs.declared.failure.Failure.TheVariants.{CannotWrite, NoSuchChoice, SeveralRows}
 use Rattle.tomex_command.specs.declared.failure.Failure.TheVariants.{NoSuchRefusal, Memory, Worker}
@@ -41,14 +48,40 @@ status_of_failure NoSuchProgram = 1
 status_of_failure NoSymbols = 1
 status_of_failure CyclePastEnd = 1
 status_of_failure NoSuchStep = 1
+status_of_failure NoEnd = 1
+status_of_failure CodeOverwritten = 1
+status_of_failure NoRoom = 1
 status_of_failure PictureTooLarge = 1
 status_of_failure TableTooLarge = 1
 status_of_failure (NoSuchChoice choice) = 1
 status_of_failure NoSuchRefusal = 1
 status_of_failure (CannotRead name) = 3
 status_of_failure CannotWrite = 3
+status_of_failure OnTerminal = 3
 status_of_failure Memory = 3
 status_of_failure Worker = 3
+
+-- the failure that a refused image becomes
+abbrev pub failure_of_image : ImageError → Failure
+failure_of_image images.Memory = Memory
+failure_of_image error = Run (refusals.Image error)
+
+-- the failure that a refused part of a run becomes
+abbrev pub failure_of_cut : CutError → Failure
+failure_of_cut (cuts.Fault fault) = Run (refusals.Fault fault)
+failure_of_cut cuts.NoSuchStep = NoSuchStep
+failure_of_cut cuts.NoEnd = NoEnd
+failure_of_cut cuts.Overwritten = CodeOverwritten
+failure_of_cut cuts.NoRoom = NoRoom
+failure_of_cut cuts.Memory = Memory
+
+-- the failure if no parts stand for a run
+abbrev pub failure_of_parts : PartsError → Failure
+failure_of_parts (parts.Fault fault) = Run (refusals.Fault fault)
+failure_of_parts parts.TooLong = Run refusals.TooLong
+failure_of_parts parts.NoSuchStep = NoSuchStep
+failure_of_parts parts.NoEnd = NoEnd
+failure_of_parts parts.Memory = Memory
 
 -- the failure that a refused answer becomes
 abbrev pub failure_of_answer : AnswerError → Failure

@@ -3,16 +3,19 @@
 //! Views of a study have one text (`view.rt`), and so have views of one run of it (`run_view.rt`); each other command's
 //! text has a file here. A further command is a further view or file, and a line in `text_of`.
 
-ghost use Rattle.std.specs.Prelude.{◌≡◌, ◌≤◌, ◌⊎◌, map, string_bytes, IfOk, IfErr, OnOk};
-ghost use Rattle.tomex_command.specs.Commands.{IsDone, IsFailure, IsCarriedOut, IsLeft, IsEnd};
+ghost use Rattle.std.specs.Prelude.{◌≡◌, ◌≤◌, ◌⊎◌, ◌&&◌, map, string_bytes, IfOk, IfErr, OnOk};
+ghost use Rattle.tomex_command.specs.Commands.{IsDone, IsFailure, IsCarriedOut, IsLeft, IsEnd, prints_image};
 
 pub mod all;
 pub mod animate;
 pub mod chosen;
+pub mod cut;
 pub mod explain;
 pub mod explore;
 pub mod find;
 pub mod functions;
+pub mod image;
+pub mod parts;
 pub mod path;
 pub mod pipeline;
 pub mod reading;
@@ -28,10 +31,12 @@ use crate::heaps::Heaps;
 use crate::reporting::{report_failure, report_line_fault};
 use all::text_of_all;
 use chosen::row_name;
+use cut::text_of_cut;
 use explain::text_of_explain;
 use explore::text_of_explore;
 use find::text_of_find;
 use functions::text_of_functions;
+use parts::text_of_parts;
 use run::text_of_run;
 use run_view::{RunView, text_of_run_view};
 use std::alloc::{Allocator, Global};
@@ -61,6 +66,8 @@ fn text_of<
 {
     match line {
         Line::Run(line) => text_of_run(alloc, heap, line, files),
+        Line::Parts(line) => text_of_parts(alloc, heap, line, files, meter),
+        Line::Cut(line) => text_of_cut(alloc, heap, line, files, meter),
         Line::Times(run) => text_of_run_view(alloc, heap, RunView::Times(run), files),
         Line::Stalls(line) => text_of_run_view(alloc, heap, RunView::Stalls(line), files),
         Line::Path(line) => text_of_run_view(alloc, heap, RunView::Path(line), files),
@@ -114,7 +121,15 @@ fn text_of<
     }
 }
 
-/// Writes the text that a line asks for; nothing is written before the whole text is made.
+/// True if a line's command prints an image, which isn't text, and the output is a terminal.
+fn is_unfit(terminal: bool, line: &Line<'_>) -> bool
+    ensures { result ≡ (terminal && prints_image line.now) }
+{
+    terminal && matches!(line, Line::Cut(_))
+}
+
+/// Writes the text that a line asks for; nothing is written before the whole text is made. An image isn't made for a
+/// terminal.
 fn carry_out<
     R: Threads + Wait + Sync,
     F: Files,
@@ -130,11 +145,14 @@ fn carry_out<
     meter: &M,
     out: &mut O,
 ) -> Result<(), Failure>
-    ensures done { OnOk result (IsCarriedOut (F.file files.now) line.entry
+    ensures done { OnOk result (IsCarriedOut (F.file files.now) (O.terminal out.old) line.entry
         (O.seen out.old) (O.seen out.new)) }
-    ensures left { IfErr result (λ failure. IsLeft (F.file files.now) line.entry failure
+    ensures left { IfErr result (λ failure. IsLeft (F.file files.now) (O.terminal out.old) line.entry failure
         (O.seen out.old) (O.seen out.new)) }
 {
+    if is_unfit(out.is_terminal(), &line) {
+        return Err(Failure::OnTerminal);
+    }
     let text = text_of(rt, alloc, heap, line, files, meter)?;
     match write_all_of(out, text.as_slice()) {
         Ok(()) => Ok(()),
@@ -156,7 +174,7 @@ pub fn command<
     A: Allocator + Clone + Send + Sync + Drop,
     M: Meter + Sync,
 >(rt: &R, heaps: Heaps<A>, words: &[String], files: &F, meter: &M, out: &mut O, err: &mut E) -> u8
-    ensures end { IsEnd (map string_bytes words.now) (F.file files.now) result
+    ensures end { IsEnd (map string_bytes words.now) (F.file files.now) (O.terminal out.old) result
         (O.seen out.old) (O.seen out.new)
         (E.seen err.old) (E.seen err.new) }
     ensures statuses { result ≤ 3 }

@@ -1,16 +1,20 @@
 //! Why a command was not done.
 ghost use Rattle.std.specs.Prelude.{◌≡◌};
 ghost use Rattle.tomex_command.specs.declared.failure.Failure.TheVariants as failures;
-ghost use Rattle.tomex_command.specs.Statuses.{failure_of_animation, failure_of_answer, failure_of_explanation};
-ghost use Rattle.tomex_command.specs.Statuses.{failure_of_excerpt, failure_of_functions, failure_of_picture};
+ghost use Rattle.tomex_command.specs.Statuses.{failure_of_animation, failure_of_answer, failure_of_cut};
+ghost use Rattle.tomex_command.specs.Statuses.{failure_of_excerpt, failure_of_explanation, failure_of_functions};
+ghost use Rattle.tomex_command.specs.Statuses.{failure_of_image, failure_of_parts, failure_of_picture};
 ghost use Rattle.tomex_command.specs.Statuses.{failure_of_row, failure_of_search, failure_of_view};
 ghost use Rattle.tomex_command.specs.Statuses.{status_of_failure};
 
 use crate::run::RunRefusal;
 use std::alloc::{AllocError, AllocFailed};
 use tomex_animate::AnimationError;
+use tomex_cut::CutError;
 use tomex_front_views::{FindError, RowError};
 use tomex_functions::FunctionsError;
+use tomex_image::ImageError;
+use tomex_parts::PartsError;
 use tomex_refusals::ExplainError;
 use tomex_report::{AnswerError, StudyError};
 use tomex_run_views::{ExcerptError, PictureError};
@@ -38,6 +42,12 @@ pub enum Failure {
     CyclePastEnd,
     /// The program's run on the configuration ends before that step.
     NoSuchStep,
+    /// The part of the run has no end.
+    NoEnd,
+    /// Code of the part was overwritten before it.
+    CodeOverwritten,
+    /// The part leaves no room for the instructions before it.
+    NoRoom,
     /// The picture would have too many characters.
     PictureTooLarge,
     /// The table would have too many intervals.
@@ -50,6 +60,8 @@ pub enum Failure {
     CannotRead(String),
     /// The standard output did not take the whole text.
     CannotWrite,
+    /// The command prints an image, and the standard output is a terminal.
+    OnTerminal,
     /// Memory was refused.
     Memory,
     /// The start of a thread was refused.
@@ -70,9 +82,11 @@ impl Failure {
             Failure::NoSuchRow | Failure::SeveralRows(_) => 1,
             Failure::NoSuchProgram | Failure::NoSymbols => 1,
             Failure::CyclePastEnd => 1,
-            Failure::NoSuchStep | Failure::PictureTooLarge | Failure::TableTooLarge => 1,
+            Failure::NoSuchStep | Failure::NoEnd | Failure::CodeOverwritten | Failure::NoRoom => 1,
+            Failure::PictureTooLarge | Failure::TableTooLarge => 1,
             Failure::NoSuchChoice(_) | Failure::NoSuchRefusal => 1,
-            Failure::CannotRead(_) | Failure::CannotWrite | Failure::Memory | Failure::Worker => 3,
+            Failure::CannotRead(_) | Failure::CannotWrite | Failure::OnTerminal => 3,
+            Failure::Memory | Failure::Worker => 3,
         }
     }
 }
@@ -90,6 +104,46 @@ impl<T: Drop> From<AllocFailed<T>> for Failure {
 
     fn from(_error: AllocFailed<T>) -> Failure {
         Failure::Memory
+    }
+}
+
+impl From<ImageError> for Failure {
+    ghost from_gives = { λ error failure. failure ≡ failure_of_image error };
+
+    fn from(error: ImageError) -> Failure {
+        match error {
+            ImageError::Memory => Failure::Memory,
+            other => Failure::Run(RunRefusal::Image(other)),
+        }
+    }
+}
+
+impl From<CutError> for Failure {
+    ghost from_gives = { λ error failure. failure ≡ failure_of_cut error };
+
+    fn from(error: CutError) -> Failure {
+        match error {
+            CutError::Fault(fault) => Failure::Run(RunRefusal::Fault(fault)),
+            CutError::NoSuchStep => Failure::NoSuchStep,
+            CutError::NoEnd => Failure::NoEnd,
+            CutError::Overwritten => Failure::CodeOverwritten,
+            CutError::NoRoom => Failure::NoRoom,
+            CutError::Memory => Failure::Memory,
+        }
+    }
+}
+
+impl From<PartsError> for Failure {
+    ghost from_gives = { λ error failure. failure ≡ failure_of_parts error };
+
+    fn from(error: PartsError) -> Failure {
+        match error {
+            PartsError::Fault(fault) => Failure::Run(RunRefusal::Fault(fault)),
+            PartsError::TooLong => Failure::Run(RunRefusal::TooLong),
+            PartsError::NoSuchStep => Failure::NoSuchStep,
+            PartsError::NoEnd => Failure::NoEnd,
+            PartsError::Memory => Failure::Memory,
+        }
     }
 }
 

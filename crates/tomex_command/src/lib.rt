@@ -9,6 +9,7 @@ mod metered;
 mod process;
 mod reporting;
 mod run;
+mod stepping;
 
 pub use commands::command;
 pub use failure::Failure;

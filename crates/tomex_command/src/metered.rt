@@ -3,7 +3,7 @@
 ghost use Rattle.std.specs.Prelude.{◌≡◌};
 
 use std::sync::atomic::{AtomicU64, Ordering};
-use tomex_streams::Meter;
+use tomex_streams::{Counted, Meter, Progress};
 use tomex_sweep::Gate;
 
 /// A count of the runs that have begun. As many configurations as there are workers may have begun and not be over yet.
@@ -38,6 +38,10 @@ impl<'a, M: Meter> Gate for Metered<'a, M> {
     fn before(&self, _worker: usize, _row: usize) {
         let begun = self.begun.fetch_add(1, Ordering::SeqCst).saturating_add(1);
         let over = begun.saturating_sub(self.workers);
-        self.meter.show(over, self.rows.load(Ordering::SeqCst));
+        self.meter.show(Progress {
+            done: over,
+            of: self.rows.load(Ordering::SeqCst),
+            counted: Counted::Configurations,
+        });
     }
 }

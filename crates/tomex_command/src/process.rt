@@ -11,7 +11,7 @@ use crate::commands::command;
 use crate::heaps::Heaps;
 use crate::reporting::report_line_fault;
 use std::alloc::{Allocator, Global};
-use std::io::{ErrorKind, Stderr, Stdout};
+use std::io::{ErrorKind, IsTerminal, Stderr, Stdout};
 use std::process::ExitCode;
 use std::sync::Wait;
 use std::thread::Threads;
@@ -44,8 +44,8 @@ pub fn run_words<
     out: &mut O,
     err: &mut E,
 ) -> ExitCode
-    ensures end { IfOk words (λ words. IsEnd (map string_bytes words.items) (F.file files.now) (exit_status result)
-        (O.seen out.old) (O.seen out.new) (E.seen err.old) (E.seen err.new)) }
+    ensures end { IfOk words (λ words. IsEnd (map string_bytes words.items) (F.file files.now) (O.terminal out.old)
+        (exit_status result) (O.seen out.old) (O.seen out.new) (E.seen err.old) (E.seen err.new)) }
     ensures reported { IfErr words (λ f. IsFaultReported f (exit_status result) (O.seen out.old) (O.seen out.new)) }
     ensures said { IfErr words (λ fault. IsSaid fault (exit_status result) (E.seen err.old) (E.seen err.new)) }
     ensures statuses { exit_status result ≤ 3 }
@@ -88,6 +88,7 @@ pub fn run_of<R: AllocGlobal + env::Env + std::rt::Files + Clock + Threads + Wai
         texts: alloc,
     };
     let (files, meter) = (HostFiles::new(rt), TerminalMeter::new(rt, err));
-    let (mut out, mut err) = (Stream::new(out), Stream::new(err));
+    let is_terminal = out.is_terminal();
+    let (mut out, mut err) = (Stream::new(out, is_terminal), Stream::new(err, false));
     run_words(rt, heaps, words_of(rt), &files, &meter, &mut out, &mut err)
 }

@@ -65,6 +65,9 @@ fn text_of(heap: Global, failure: &Failure) -> Result<String, AllocError>
         Failure::NoSymbols => String::from_str(heap, "no symbols"),
         Failure::CyclePastEnd => String::from_str(heap, "cycle past the end"),
         Failure::NoSuchStep => String::from_str(heap, "no such step"),
+        Failure::NoEnd => String::from_str(heap, "no end"),
+        Failure::CodeOverwritten => String::from_str(heap, "code overwritten"),
+        Failure::NoRoom => String::from_str(heap, "no room"),
         Failure::PictureTooLarge => String::from_str(heap, "picture too large"),
         Failure::TableTooLarge => String::from_str(heap, "table too large"),
         Failure::NoSuchChoice(choice) => {
@@ -77,6 +80,7 @@ fn text_of(heap: Global, failure: &Failure) -> Result<String, AllocError>
             format!(in heap; "cannot read {name}")
         }
         Failure::CannotWrite => String::from_str(heap, "cannot write"),
+        Failure::OnTerminal => String::from_str(heap, "output is a terminal"),
         Failure::Memory => String::from_str(heap, "out of memory"),
         Failure::Worker => String::from_str(heap, "thread refused"),
     }

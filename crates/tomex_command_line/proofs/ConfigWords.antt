@@ -44,7 +44,8 @@ without_equals word r searched is =
     other (get_or word k 0) (λ there.
     absurd (cc (is, (contains_char 61 word r searched (omega arith)).1 k within there)))))
 
-one_word : (rows : List Row) (word same : List ℕ) → IsWord rows (codes "CONFIG") word → IsWord rows (codes "CONFIG") same
+one_word : (rows : List Row) (word same : List ℕ) → IsWord rows (codes "CONFIG") word
+    → IsWord rows (codes "CONFIG") same
     → same ≡ word
 one_word rows word same is is_too = ap (λ o. unwrap_or o word) (sym is_too ∙ is)
 

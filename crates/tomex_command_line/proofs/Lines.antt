@@ -2,16 +2,19 @@
 use Rattle.std.proofs.Common.{◌≡◌, List, subst, sym}
 use Rattle.clap.specs.Words.{Row}
 use Rattle.tomex_command_line.specs.Asked.{HasNoLine}
-use Rattle.tomex_command_line.specs.Values.{IsNoRun, IsNoOneRun, IsNoStalls, IsNoPath, IsNoPipeline, IsNoTables}
-use Rattle.tomex_command_line.specs.Values.{IsNoAll, IsNoAnimate, IsNoExplore, IsNoFront, IsNoPlot, IsNoWorth}
-use Rattle.tomex_command_line.specs.Values.{IsNoCompare, IsNoFunctions, IsNoPage, IsNoFind, IsNoTable}
+use Rattle.tomex_command_line.specs.Values.{IsNoRun, IsNoParts, IsNoCut, IsNoOneRun, IsNoStalls, IsNoPath}
+use Rattle.tomex_command_line.specs.Values.{IsNoPipeline, IsNoTables, IsNoAll, IsNoAnimate, IsNoExplore, IsNoFront}
+use Rattle.tomex_command_line.specs.Values.{IsNoPlot, IsNoWorth, IsNoCompare, IsNoFunctions}
+use Rattle.tomex_command_line.specs.Values.{IsNoPage, IsNoFind, IsNoTable}
 use Rattle.tomex_command_line.specs.declared.line.Line.TheVariants as lines
 use Rattle.tomex_command_line.specs.declared.line.command_name.CommandName.{CommandName}
-use Rattle.tomex_command_line.specs.declared.line.command_name.CommandName.TheVariants.{Run, Times, Stalls, Path, Loops}
-use Rattle.tomex_command_line.specs.declared.line.command_name.CommandName.TheVariants.{Pipeline, Tables, Animate, All}
-use Rattle.tomex_command_line.specs.declared.line.command_name.CommandName.TheVariants.{Explore, Front, Plot, Rows}
-use Rattle.tomex_command_line.specs.declared.line.command_name.CommandName.TheVariants.{Worth, Choices, Prices, Weights}
-use Rattle.tomex_command_line.specs.declared.line.command_name.CommandName.TheVariants.{Compare, Functions, Page, Find}
+use Rattle.tomex_command_line.specs.declared.line.command_name.CommandName.TheVariants.{Run, Parts, Cut, Times, Stalls}
+use Rattle.tomex_command_line.specs.declared.line.command_name.CommandName.TheVariants.{Path, Loops, Pipeline, Tables}
+use Rattle.tomex_command_line.specs.declared.line.command_name.CommandName.TheVariants.{Animate, All, Explore, Front}
+use Rattle.tomex_command_line.specs.declared.line.command_name.CommandName.TheVariants.{Plot, Rows, Worth, Choices}
+use Rattle.tomex_command_line.specs.declared.line.command_name.CommandName.TheVariants.{Prices, Weights}
+use Rattle.tomex_command_line.specs.declared.line.command_name.CommandName.TheVariants.{Compare, Functions}
+use Rattle.tomex_command_line.specs.declared.line.command_name.CommandName.TheVariants.{Page, Find}
 
 -- the same, by another name of the command
 pub refused_as : {command known : CommandName} (rows : List Row) → command ≡ known → HasNoLine known rows
@@ -22,6 +25,14 @@ module _ (rows : List Row) where
   pub no_run : IsNoRun rows → HasNoLine Run rows
   no_run none (lines.Run line) asked = none _ _ _ _ asked
   no_run none line asked = absurd asked
+
+  pub no_parts : IsNoParts rows → HasNoLine Parts rows
+  no_parts none (lines.Parts line) asked = none _ _ _ _ asked
+  no_parts none line asked = absurd asked
+
+  pub no_cut : IsNoCut rows → HasNoLine Cut rows
+  no_cut none (lines.Cut line) asked = none _ _ _ _ _ _ asked
+  no_cut none line asked = absurd asked
 
   pub no_times : IsNoOneRun rows → HasNoLine Times rows
   no_times none (lines.Times line) asked = none _ _ _ asked

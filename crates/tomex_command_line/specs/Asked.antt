@@ -7,24 +7,29 @@ use Rattle.clap.specs.declared.error.kind.ErrorKind.TheVariants.{DisplayHelp, Di
 use Rattle.tomex_command_line.specs.declared.line.Line.{Line}
 use Rattle.tomex_command_line.specs.declared.line.Line.TheVariants as lines
 use Rattle.tomex_command_line.specs.declared.line.command_name.CommandName.{CommandName}
-use Rattle.tomex_command_line.specs.declared.line.command_name.CommandName.TheVariants.{Run, Times, Stalls, Path, Loops}
-use Rattle.tomex_command_line.specs.declared.line.command_name.CommandName.TheVariants.{Pipeline, Tables, Animate, All}
-use Rattle.tomex_command_line.specs.declared.line.command_name.CommandName.TheVariants.{Explore, Front, Plot, Rows}
-use Rattle.tomex_command_line.specs.declared.line.command_name.CommandName.TheVariants.{Worth, Choices, Prices, Weights}
-use Rattle.tomex_command_line.specs.declared.line.command_name.CommandName.TheVariants.{Compare, Functions, Page, Find}
-use Rattle.tomex_command_line.specs.declared.line.command_name.CommandName.TheVariants.{Explain}
+use Rattle.tomex_command_line.specs.declared.line.command_name.CommandName.TheVariants.{Run, Parts, Cut, Times, Stalls}
+use Rattle.tomex_command_line.specs.declared.line.command_name.CommandName.TheVariants.{Path, Loops, Pipeline, Tables}
+use Rattle.tomex_command_line.specs.declared.line.command_name.CommandName.TheVariants.{Animate, All, Explore, Front}
+use Rattle.tomex_command_line.specs.declared.line.command_name.CommandName.TheVariants.{Plot, Rows, Worth, Choices}
+use Rattle.tomex_command_line.specs.declared.line.command_name.CommandName.TheVariants.{Prices, Weights, Compare}
+use Rattle.tomex_command_line.specs.declared.line.command_name.CommandName.TheVariants.{Functions, Page, Find, Explain}
 use Rattle.tomex_arguments.specs.declared.fault.LineFault.{LineFault}
 use Rattle.tomex_arguments.specs.declared.fault.LineFault.TheVariants.{Help, Usage, Memory}
 use Rattle.tomex_command_line.specs.Grammar.{tomex_app}
 use Rattle.tomex_command_line.specs.Names.{name_of}
-use Rattle.tomex_command_line.specs.Values.{IsRunAsked, IsOneRunAsked, IsStallsAsked, IsPathAsked, IsPipelineAsked}
-use Rattle.tomex_command_line.specs.Values.{IsTablesAsked, IsAnimateAsked, IsAllAsked, IsExploreAsked, IsFrontAsked}
-use Rattle.tomex_command_line.specs.Values.{IsPlotAsked, IsWorthAsked, IsCompareAsked, IsFunctionsAsked, IsPageAsked}
-use Rattle.tomex_command_line.specs.Values.{IsFindAsked, IsTableAsked, IsExplainAsked}
+use Rattle.tomex_command_line.specs.Values.{IsRunAsked, IsPartsAsked, IsCutAsked, IsOneRunAsked, IsStallsAsked}
+use Rattle.tomex_command_line.specs.Values.{IsPathAsked, IsPipelineAsked, IsTablesAsked, IsAnimateAsked, IsAllAsked}
+use Rattle.tomex_command_line.specs.Values.{IsExploreAsked, IsFrontAsked, IsPlotAsked, IsWorthAsked, IsCompareAsked}
+use Rattle.tomex_command_line.specs.Values.{IsFunctionsAsked, IsPageAsked, IsFindAsked, IsTableAsked, IsExplainAsked}
 
 -- the line is one of this command, and its values are among the rows
 abbrev pub IsLineOf : CommandName → List Row → Line → Type 0
-IsLineOf Run rows (lines.Run line) = IsRunAsked rows line.image.now line.base line.size line.limit
+IsLineOf Run rows (lines.Run line) =
+    IsRunAsked rows line.image.file.now line.image.base line.image.size line.limit
+IsLineOf Parts rows (lines.Parts line) =
+    IsPartsAsked rows line.image.file.now line.image.base line.image.size line.steps
+IsLineOf Cut rows (lines.Cut line) =
+    IsCutAsked rows line.image.file.now line.image.base line.image.size line.from line.steps line.symbols
 IsLineOf Times rows (lines.Times line) = IsOneRunAsked rows line.study.now line.config line.program.now
 IsLineOf Stalls rows (lines.Stalls line) =
     IsStallsAsked rows line.run.study.now line.run.config line.run.program.now line.by_pc line.by_function

@@ -4,7 +4,7 @@ use Rattle.clap.specs.Words.{App, Rule, Shape, Text, new_app, new_rule, with_rul
 use Rattle.clap.specs.Simple.{new_shape, on_top}
 use Rattle.clap.specs.declared.builder.action.ArgAction.TheVariants.{Append, SetTrue}
 use Rattle.clap.specs.declared.builder.value_parser.ValueParser.TheVariants as parsers
-use Rattle.tomex_command_line.specs.Limits.{last_cycle, most_steps}
+use Rattle.tomex_command_line.specs.Limits.{last_cycle, last_from, most_part, most_steps}
 
 -- a word that a command needs, in its place
 abbrev pub word_rule : Text → Rule
@@ -18,6 +18,11 @@ words_rule name = record (new_rule name) { action = Some Append }
 abbrev pub numeral_rule : Text → ℕ → ℕ → Rule
 numeral_rule name least greatest =
     record (new_rule name) { required = true; parser = Some (parsers.Signed (pos least) (pos greatest)) }
+
+-- the same of a number that may need more than 32 bits
+abbrev pub long_numeral_rule : Text → ℕ → ℕ → Rule
+long_numeral_rule name least greatest =
+    record (new_rule name) { required = true; parser = Some (parsers.Unsigned least greatest) }
 
 -- an option `--name N`, and the number if it isn't given
 abbrev pub option_rule : Text → ℕ → ℕ → Text → Rule
@@ -35,6 +40,12 @@ flag_rule name = record (new_rule name) { long = Some name; action = Some SetTru
 -- a configuration, which a command needs, in its place: any word for the parser
 abbrev pub config_rule : Rule
 config_rule = word_rule (codes "CONFIG")
+
+-- a command on an image and its memory: `NAME IMAGE [--base N] [--size N] ..`
+abbrev pub image_app : Text → App
+image_app name =
+    with_rule (with_rule (with_rule (new_app name) (word_rule (codes "IMAGE")))
+    (option_rule (codes "base") 0 4294967292 (codes "0"))) (option_rule (codes "size") 4 1048576 (codes "65536"))
 
 -- a command on a study: `NAME STUDY ..`
 abbrev pub study_app : Text → App
@@ -60,6 +71,25 @@ run_shape = record (new_shape (codes "run")) {
       ∷ option_rule (codes "base") 0 4294967292 (codes "0")
       ∷ option_rule (codes "size") 4 1048576 (codes "65536")
       ∷ option_rule (codes "limit") 1 most_steps (codes "262144") ∷ [];
+}
+
+-- `parts IMAGE STEPS [--base N] [--size N]`
+abbrev pub parts_shape : Shape
+parts_shape = record (new_shape (codes "parts")) {
+  rules = word_rule (codes "IMAGE")
+      ∷ option_rule (codes "base") 0 4294967292 (codes "0")
+      ∷ option_rule (codes "size") 4 1048576 (codes "65536")
+      ∷ numeral_rule (codes "STEPS") 1 most_part ∷ [];
+}
+
+-- `cut IMAGE FROM STEPS [--base N] [--size N] [--symbols]`
+abbrev pub cut_shape : Shape
+cut_shape = record (new_shape (codes "cut")) {
+  rules = word_rule (codes "IMAGE")
+      ∷ option_rule (codes "base") 0 4294967292 (codes "0")
+      ∷ option_rule (codes "size") 4 1048576 (codes "65536")
+      ∷ long_numeral_rule (codes "FROM") 1 last_from
+      ∷ numeral_rule (codes "STEPS") 1 most_part ∷ flag_rule (codes "symbols") ∷ [];
 }
 
 -- `times STUDY CONFIG PROGRAM`
@@ -206,8 +236,8 @@ bare_app = on_top (λ s. record s { has_version = true; subcommand_required = tr
 abbrev pub tomex_app : App
 tomex_app = record {
   top = record (new_shape (codes "tomex")) { has_version = true; is_leaf = false; subcommand_required = true };
-  subs = run_shape ∷ times_shape ∷ pipeline_shape ∷ tables_shape ∷ animate_shape ∷ stalls_shape ∷ path_shape
-      ∷ loops_shape ∷ front_shape ∷ plot_shape ∷ rows_shape ∷ find_shape ∷ page_shape ∷ worth_shape
-      ∷ choices_shape ∷ prices_shape ∷ weights_shape ∷ compare_shape ∷ functions_shape ∷ explore_shape
+  subs = run_shape ∷ parts_shape ∷ cut_shape ∷ times_shape ∷ pipeline_shape ∷ tables_shape ∷ animate_shape
+      ∷ stalls_shape ∷ path_shape ∷ loops_shape ∷ front_shape ∷ plot_shape ∷ rows_shape ∷ find_shape ∷ page_shape
+      ∷ worth_shape ∷ choices_shape ∷ prices_shape ∷ weights_shape ∷ compare_shape ∷ functions_shape ∷ explore_shape
       ∷ all_shape ∷ explain_shape ∷ [];
 }

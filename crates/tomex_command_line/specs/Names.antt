@@ -2,16 +2,18 @@
 use Rattle.std.specs.Prelude.{codes}
 use Rattle.clap.specs.Words.{Text}
 use Rattle.tomex_command_line.specs.declared.line.command_name.CommandName.{CommandName}
-use Rattle.tomex_command_line.specs.declared.line.command_name.CommandName.TheVariants.{Run, Times, Stalls, Path, Loops}
-use Rattle.tomex_command_line.specs.declared.line.command_name.CommandName.TheVariants.{Pipeline, Tables, Animate, All}
-use Rattle.tomex_command_line.specs.declared.line.command_name.CommandName.TheVariants.{Explore, Front, Plot, Rows}
-use Rattle.tomex_command_line.specs.declared.line.command_name.CommandName.TheVariants.{Worth, Choices, Prices, Weights}
-use Rattle.tomex_command_line.specs.declared.line.command_name.CommandName.TheVariants.{Compare, Functions, Page, Find}
-use Rattle.tomex_command_line.specs.declared.line.command_name.CommandName.TheVariants.{Explain}
+use Rattle.tomex_command_line.specs.declared.line.command_name.CommandName.TheVariants.{Run, Parts, Cut, Times, Stalls}
+use Rattle.tomex_command_line.specs.declared.line.command_name.CommandName.TheVariants.{Path, Loops, Pipeline, Tables}
+use Rattle.tomex_command_line.specs.declared.line.command_name.CommandName.TheVariants.{Animate, All, Explore, Front}
+use Rattle.tomex_command_line.specs.declared.line.command_name.CommandName.TheVariants.{Plot, Rows, Worth, Choices}
+use Rattle.tomex_command_line.specs.declared.line.command_name.CommandName.TheVariants.{Prices, Weights, Compare}
+use Rattle.tomex_command_line.specs.declared.line.command_name.CommandName.TheVariants.{Functions, Page, Find, Explain}
 
 -- the command's name, as it is written
 abbrev pub name_of : CommandName → Text
 name_of Run = codes "run"
+name_of Parts = codes "parts"
+name_of Cut = codes "cut"
 name_of Times = codes "times"
 name_of Stalls = codes "stalls"
 name_of Path = codes "path"

@@ -6,19 +6,45 @@ use Rattle.std.specs.Str.Parse.{ParsesUnsigned}
 use Rattle.std.specs.declared.num.ParseIntError.{ParseIntError}
 use Rattle.clap.specs.Words.{Row}
 use Rattle.tomex_arguments.specs.Values.{AreEach, AreWords, IsFlag, IsNumber, IsWord}
-use Rattle.tomex_command_line.specs.Limits.{last_cycle, last_row, most_steps}
+use Rattle.tomex_command_line.specs.Limits.{last_cycle, last_from, last_row, most_part, most_steps}
 use Rattle.tomex_command_line.specs.declared.line.config.ConfigName.{ConfigName}
 use Rattle.tomex_command_line.specs.declared.line.config.ConfigName.TheVariants.{Number, Choices}
 
--- the values of `run`
-pub record IsRunAsked (rows : List Row) (image : List ℕ) (base size limit : ℕ) : Type 0 where
+-- the image of a command on one, and its memory
+pub record IsImageAsked (rows : List Row) (image : List ℕ) (base size : ℕ) : Type 0 where
   pub is_image : IsWord rows (codes "IMAGE") image
   pub is_base : IsNumber rows (codes "base") 0 4294967292 base
   pub is_size : IsNumber rows (codes "size") 4 1048576 size
+
+abbrev pub IsNoImage : List Row → Type 0
+IsNoImage rows = (image : List ℕ) (base size : ℕ) → IsImageAsked rows image base size → ⊥
+
+-- the values of `run`
+pub record IsRunAsked (rows : List Row) (image : List ℕ) (base size limit : ℕ) : Type 0 where
+  pub of_image : IsImageAsked rows image base size
   pub is_limit : IsNumber rows (codes "limit") 1 most_steps limit
 
 abbrev pub IsNoRun : List Row → Type 0
 IsNoRun rows = (image : List ℕ) (base size limit : ℕ) → IsRunAsked rows image base size limit → ⊥
+
+-- the values of `parts`
+pub record IsPartsAsked (rows : List Row) (image : List ℕ) (base size steps : ℕ) : Type 0 where
+  pub of_image : IsImageAsked rows image base size
+  pub is_steps : IsNumber rows (codes "STEPS") 1 most_part steps
+
+abbrev pub IsNoParts : List Row → Type 0
+IsNoParts rows = (image : List ℕ) (base size steps : ℕ) → IsPartsAsked rows image base size steps → ⊥
+
+-- the values of `cut`
+pub record IsCutAsked (rows : List Row) (image : List ℕ) (base size from steps : ℕ) (symbols : Bool) : Type 0 where
+  pub of_image : IsImageAsked rows image base size
+  pub is_from : IsNumber rows (codes "FROM") 1 last_from from
+  pub is_steps : IsNumber rows (codes "STEPS") 1 most_part steps
+  pub is_symbols : IsFlag rows (codes "symbols") symbols
+
+abbrev pub IsNoCut : List Row → Type 0
+IsNoCut rows = (image : List ℕ) (base size from steps : ℕ) (symbols : Bool)
+    → IsCutAsked rows image base size from steps symbols → ⊥
 
 -- the word of CONFIG is a number in decimal
 pub record IsConfigNumber (rows : List Row) (number : ℕ) : Type 0 where

@@ -18,14 +18,17 @@ mod choices;
 mod command_name;
 pub mod compare;
 pub mod config;
+pub mod cut;
 pub mod explain;
 pub mod explore;
 pub mod find;
 pub mod front;
 pub mod functions;
+pub mod image;
 mod loops;
 pub mod one_run;
 pub mod page;
+pub mod parts;
 pub mod path;
 pub mod pipeline;
 pub mod plot;
@@ -46,6 +49,7 @@ use animate::AnimateLine;
 use clap::{ArgMatches, Command};
 use command_name::{CommandName, command_named};
 use compare::CompareLine;
+use cut::CutLine;
 use explain::ExplainLine;
 use explore::ExploreLine;
 use find::FindLine;
@@ -53,6 +57,7 @@ use front::FrontLine;
 use functions::FunctionsLine;
 use one_run::{OneRun, one_run_of};
 use page::PageLine;
+use parts::PartsLine;
 use path::PathLine;
 use pipeline::PipelineLine;
 use plot::PlotLine;
@@ -69,6 +74,8 @@ use worth::WorthLine;
 #[derive(Drop)]
 pub enum Line<'a> {
     Run(RunLine<'a>),
+    Parts(PartsLine<'a>),
+    Cut(CutLine<'a>),
     Times(OneRun<'a>),
     Stalls(StallsLine<'a>),
     Path(PathLine<'a>),
@@ -97,9 +104,10 @@ const ABOUT: &str = "Runs RV32IM programs, and explores Tomasulo processors that
 const LONG_ABOUT: &str = "Runs RV32IM programs in order, and explores Tomasulo processors without
 speculation that run them.
 
-The commands come in this order: one run (`run` to `animate`), why it takes its
-cycles (`stalls`, `path`, `loops`), which machine (`front` to `page`), is it
-safe (`worth` to `weights`), two builds (`compare`, `functions`), for scripts
+The commands come in this order: a program and parts of it (`run`, `parts`,
+`cut`), one run on a machine (`times` to `animate`), why it takes its cycles
+(`stalls`, `path`, `loops`), which machine (`front` to `page`), is it safe
+(`worth` to `weights`), two builds (`compare`, `functions`), for scripts
 (`explore`, `all`), help (`explain`).
 
 A command writes nothing to standard output until its whole result is ready.
@@ -113,6 +121,8 @@ const AFTER_LONG_HELP: &str = "Exit status:
 
 Examples, in the folder `examples`:
   tomex run mul.bin --size 4096
+  tomex parts primes.elf 1000 --base 65536 --size 262144
+  tomex cut primes.elf 5001 1000 --base 65536 --size 262144 > part.elf
   tomex times study.toml 4 mul
   tomex pipeline study.toml 4 mul
   tomex tables study.toml 4 mul 3
@@ -155,6 +165,8 @@ fn grammar<'a>(alloc: Global) -> Result<Command<'a>, AllocError>
 {
     let program = Ok(without_commands(alloc));
     let program = with_command(program, run::grammar(alloc));
+    let program = with_command(program, parts::grammar(alloc));
+    let program = with_command(program, cut::grammar(alloc));
     let program = with_command(program, times::grammar(alloc));
     let program = with_command(program, pipeline::grammar(alloc));
     let program = with_command(program, tables::grammar(alloc));
@@ -189,6 +201,8 @@ fn line_with<'a>(
 {
     match command {
         CommandName::Run => Ok(Line::Run(run::line_of(alloc, args)?)),
+        CommandName::Parts => Ok(Line::Parts(parts::line_of(alloc, args)?)),
+        CommandName::Cut => Ok(Line::Cut(cut::line_of(alloc, args)?)),
         CommandName::Times => Ok(Line::Times(one_run_of(alloc, args)?)),
         CommandName::Stalls => Ok(Line::Stalls(stalls::line_of(alloc, args)?)),
         CommandName::Path => Ok(Line::Path(path::line_of(alloc, args)?)),

@@ -6,7 +6,7 @@ use std::sync::Wait;
 use std::sync::atomic::{AtomicU64, Ordering};
 use std::test::Fail;
 use std::thread::Threads;
-use tomex_streams::{Meter, WriteFault, write_all_of};
+use tomex_streams::{Meter, Progress, WriteFault, write_all_of};
 use tomex_tests_fixtures::front_report_of;
 use tomex_tests_fixtures::in_memory::Narrow;
 use tomex_tests_fixtures::programs::{LOOP, PRODUCT};
@@ -24,19 +24,21 @@ const PRICED_REPORT: &str = front_report_of!(
 /// The lines that run all rows and that explore them.
 static LINES: [&str; 2] = ["tomex all study", "tomex explore study"];
 
-/// Keeps what it showed last, and how often it was cleared and asked for a hint.
+/// Keeps what it showed last, and how often it showed something, was cleared and was asked for a hint.
 #[derive(Drop)]
-struct LastShown {
-    done: AtomicU64,
-    of: AtomicU64,
-    clears: AtomicU64,
-    hints: AtomicU64,
+pub struct LastShown {
+    pub done: AtomicU64,
+    pub of: AtomicU64,
+    pub shows: AtomicU64,
+    pub clears: AtomicU64,
+    pub hints: AtomicU64,
 }
 
 impl Meter for LastShown {
-    fn show(&self, done: u64, of: u64) {
-        self.done.store(done, Ordering::SeqCst);
-        self.of.store(of, Ordering::SeqCst);
+    fn show(&self, progress: Progress) {
+        self.done.store(progress.done, Ordering::SeqCst);
+        self.of.store(progress.of, Ordering::SeqCst);
+        self.shows.fetch_add(1, Ordering::SeqCst);
     }
 
     fn clear(&self) {
@@ -50,10 +52,11 @@ impl Meter for LastShown {
 
 impl LastShown {
     /// A meter that has shown nothing yet.
-    fn new() -> LastShown {
+    pub fn new() -> LastShown {
         LastShown {
             done: AtomicU64::new(9),
             of: AtomicU64::new(9),
+            shows: AtomicU64::new(0),
             clears: AtomicU64::new(0),
             hints: AtomicU64::new(0),
         }

@@ -93,13 +93,20 @@ fn is_done<R: AllocGlobal + Threads + Wait + Sync>(
 /// A line, with the beginning and the end of its output.
 type Done = (&'static str, &'static str, &'static str);
 
-static REPORTS: [Done; 2] = [
+static REPORTS: [Done; 4] = [
     (
         "tomex run long.bin",
         "x0=00000000\n",
         "ebreak at 00000014 after 262144\n",
     ),
     ("tomex times one 0 long", "step,", "\n"),
+    // As many stretches as a run may have, and the longest part in the largest memory.
+    ("tomex parts long.bin 16", "from,steps,", ",-\n"),
+    (
+        "tomex cut long.bin 66 262079 --size 1048576",
+        "\u{7f}ELF",
+        "\0",
+    ),
 ];
 
 static PATHS: [Done; 2] = [

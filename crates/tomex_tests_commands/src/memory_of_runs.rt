@@ -39,9 +39,15 @@ fn of_the_text_of_a_run(rt: HostRuntime) -> Result<(), Fail> {
 const CALLS_STUDY: &str = "[[program]]\nname = \"p\"\nfile = \"calls.elf\"\n";
 
 /// Lines on one program, and the least number of blocks that they need.
-static ON_ONE_PROGRAM: [(&str, u64); 18] = [
+static ON_ONE_PROGRAM: [(&str, u64); 21] = [
     // The file's bytes, the window's, those that the run changes, and the text.
     ("tomex run image --base 65536", 4),
+    // With the last uses of words, and lists of stretches, leaders and groups.
+    ("tomex parts image 1 --base 65536", 8),
+    // The same, with the memory before the part, its words, and the image's file in place of the text.
+    ("tomex cut image 2 1 --base 65536", 6),
+    // And the list of its symbols.
+    ("tomex cut calls.elf 2 1 --symbols", 7),
     // The study's bytes and its file's, names, the program, rows, costs, steps, times and the text.
     ("tomex times study 1 mul", 11),
     // Choices are small values.

@@ -1,29 +1,12 @@
 //! A row or a program that a study doesn't have is found before any row is evaluated.
 
-use crate::explorations::PRICED;
+use crate::explorations::{LastShown, PRICED};
 use crate::{Outcome, outcome_of, words_of};
 use std::sync::Wait;
-use std::sync::atomic::{AtomicU64, Ordering};
+use std::sync::atomic::Ordering;
 use std::test::Fail;
 use std::thread::Threads;
-use tomex_streams::Meter;
 use tomex_tests_fixtures::programs::PRODUCT;
-
-/// Counts the rows that are begun.
-#[derive(Drop)]
-struct Counting {
-    begun: AtomicU64,
-}
-
-impl Meter for Counting {
-    fn show(&self, _done: u64, _of: u64) {
-        self.begun.fetch_add(1, Ordering::SeqCst);
-    }
-
-    fn clear(&self) {}
-
-    fn hint(&self) {}
-}
 
 /// The outcome of a line over the study of two rows, and the number of rows that it begins.
 fn begun<R: AllocGlobal + Threads + Wait + Sync>(
@@ -34,12 +17,10 @@ fn begun<R: AllocGlobal + Threads + Wait + Sync>(
         ("study", PRICED.as_bytes()),
         ("mul.bin", PRODUCT.as_slice()),
     ];
-    let meter = Counting {
-        begun: AtomicU64::new(0),
-    };
+    let meter = LastShown::new();
     let words = words_of(rt.alloc(), line)?;
     let outcome = outcome_of(rt, rt.alloc(), &files, words.as_slice(), &meter, 10_000)?;
-    Ok((outcome, meter.begun.load(Ordering::SeqCst)))
+    Ok((outcome, meter.shows.load(Ordering::SeqCst)))
 }
 
 /// Lines that name no row, or several, and what is reported.

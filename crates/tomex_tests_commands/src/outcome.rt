@@ -28,11 +28,27 @@ pub fn outcome_of<
     meter: &M,
     room: usize,
 ) -> Result<Outcome, AllocError> {
+    let out = Narrow::new(rt.alloc(), room, 1000);
+    outcome_on(rt, heap, files, words, meter, out)
+}
+
+/// The same with this standard output.
+pub fn outcome_on<
+    R: AllocGlobal + Threads + Wait + Sync,
+    A: Allocator + Clone + Send + Sync + Drop,
+    M: Meter + Sync,
+>(
+    rt: &R,
+    heap: A,
+    files: &[(&str, &[u8])],
+    words: &[&str],
+    meter: &M,
+    mut out: Narrow,
+) -> Result<Outcome, AllocError> {
     let mut line = Vec::new(rt.alloc());
     for word in words {
         line.push(String::from_str(rt.alloc(), word)?)?;
     }
-    let mut out = Narrow::new(rt.alloc(), room, 1000);
     let mut err = Narrow::new(rt.alloc(), 10_000, 1000);
     let status = command(
         rt,

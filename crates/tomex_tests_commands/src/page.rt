@@ -27,8 +27,8 @@ fn page_of<R: AllocGlobal + Threads + Wait + Sync>(
     Ok(String::from_utf8(outcome.out)?)
 }
 
-/// Pieces of the page of the 65, and whether it has them: all of them are the same point, so all are on the hull. The 64
-/// places are spread over the front, and the second to last goes to the row before this one.
+/// Pieces of the page of the 65, and whether it has them: all of them are the same point, so all are on the hull. The
+/// 64 places are spread over the front, and the second to last goes to the row before this one.
 static PIECES: [(&str, bool); 8] = [
     ("<p>The picture has all 65 rows of the front.", true),
     ("<section id=\"r0\" class=\"h\">", true),

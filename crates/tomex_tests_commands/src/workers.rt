@@ -7,7 +7,7 @@ use std::sync::atomic::{AtomicU64, Ordering};
 use std::test::Fail;
 use std::thread;
 use std::thread::Threads;
-use tomex_streams::Meter;
+use tomex_streams::{Meter, Progress};
 use tomex_tests_fixtures::programs::PRODUCT;
 
 /// The most turns that a thread is held.
@@ -34,7 +34,7 @@ impl FirstWaits {
 }
 
 impl Meter for FirstWaits {
-    fn show(&self, _done: u64, _of: u64) {
+    fn show(&self, _progress: Progress) {
         let is_first = self.calls.fetch_add(1, Ordering::SeqCst) == 0;
         if is_first && self.is_second_seen() {
             self.met.fetch_add(1, Ordering::SeqCst);

@@ -10,10 +10,14 @@ several rows: N
 no such program
 no symbols
 no such step
+no end
+code overwritten
+no room
 picture too large
 table too large
 cycle past the end
 cannot write
+output is a terminal
 thread refused
 out of memory
 no such refusal

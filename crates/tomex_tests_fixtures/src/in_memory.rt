@@ -15,6 +15,7 @@ pub struct Narrow {
     pub step: usize,
     pub is_silent: bool,
     pub faults: u64,
+    pub is_terminal: bool,
 }
 
 impl Narrow {
@@ -25,12 +26,19 @@ impl Narrow {
             step,
             is_silent: false,
             faults: 0,
+            is_terminal: false,
         }
     }
 }
 
 impl Sink for Narrow {
     ghost seen = { λ sink. record { taken = Some sink.bytes.items; faults = sink.faults } };
+
+    ghost terminal = { λ sink. sink.is_terminal };
+
+    fn is_terminal(&self) -> bool {
+        self.is_terminal
+    }
 
     fn put(&mut self, piece: &[u8]) -> Result<usize, PutFault> {
         let count = piece.len().min(self.room).min(self.step);

@@ -1,6 +1,5 @@
-//! Tests of instructions, images, symbols of files, the in-order machine and the loops of runs. They test what no
-//! contract says, compare with results from other programs or from a slow search, and refuse each growth of each call
-//! in turn.
+//! Tests of instructions, images, symbols of files, the in-order machine and parts of runs. They test what no contract
+//! says, compare with results from other programs or from a slow search, and refuse each growth of each call in turn.
 #![tactic(auto)]
 
 #[cfg(test)]
@@ -8,13 +7,15 @@ mod arithmetic;
 #[cfg(test)]
 mod broken_images;
 #[cfg(test)]
+mod cut;
+#[cfg(test)]
 mod images;
 #[cfg(test)]
 mod instructions;
 #[cfg(test)]
-mod loops;
-#[cfg(test)]
 mod machines;
+#[cfg(test)]
+mod parts;
 #[cfg(test)]
 mod refused_memory;
 #[cfg(test)]

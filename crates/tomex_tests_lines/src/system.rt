@@ -7,7 +7,7 @@ use std::sync::atomic::{AtomicU64, Ordering};
 use std::test::Fail;
 use std::time::{Clock, Duration};
 use tomex_streams::{
-    Files, HINT, HostFiles, Meter, Progress, ReadFault, TerminalMeter, bytes_within,
+    Counted, Files, HINT, HostFiles, Meter, Progress, ReadFault, TerminalMeter, bytes_within,
 };
 use tomex_tests_fixtures::heap_of;
 
@@ -91,7 +91,11 @@ fn a_pipe_gets_no_line(rt: HostRuntime) -> Result<(), Fail> {
     };
     let meter = TerminalMeter::new(&clock, rt.stderr());
     let before = written(&rt)?;
-    meter.show(1, 2);
+    meter.show(Progress {
+        done: 1,
+        of: 2,
+        counted: Counted::Configurations,
+    });
     meter.clear();
     meter.hint();
     let after = written(&rt)?;
@@ -101,12 +105,19 @@ fn a_pipe_gets_no_line(rt: HostRuntime) -> Result<(), Fail> {
 
 #[test]
 fn a_terminal_gets_these_lines(rt: HostRuntime) -> Result<(), Fail> {
-    let progress = Progress {
-        done: 3,
-        of: 16_384,
-    };
-    let line = format!(in rt.alloc(); "{progress}")?;
-    assert!(rt; line.as_str() == "3 of 16384 configurations");
+    for (counted, text) in [
+        (Counted::Configurations, "3 of 16384 configurations"),
+        (Counted::Steps, "3 of 16384 steps"),
+        (Counted::AtMostSteps, "3 of at most 16384 steps"),
+    ] {
+        let progress = Progress {
+            done: 3,
+            of: 16_384,
+            counted,
+        };
+        let line = format!(in rt.alloc(); "{progress}")?;
+        assert!(rt; line.as_str() == text);
+    }
     assert!(rt; HINT == "tomex: `tomex explain` and these words say what it means\n");
     Ok(())
 }

@@ -15,22 +15,26 @@ const PRICED: &str = "[[program]]\nname = \"mul\"\nfile = \"mul.bin\"\n[prices]\
     [axes]\nalu = [2, 1]\n[[unit.mul]]\nlatency = 3\n";
 
 const HEADER: &str =
-    "row,cost,cycles,alu,mul,div,load,store,bru,alu_units,alu_latency,mul_units,mul_latency,div_units,div_latency,mem_units,mem_latency,bru_units,bru_latency,buses,program,steps,program_cycles,end,regs,watch\n";
+    "row,cost,cycles,alu,mul,div,load,store,bru,alu_units,alu_latency,mul_units,mul_latency,\
+        div_units,div_latency,mem_units,mem_latency,bru_units,bru_latency,buses,program,steps,program_cycles,end,regs,watch\n";
 
 /// A study of two programs on one row, which watches the loop's first word.
 const STUDY_OF_TWO: &str =
-    "[[program]]\nname = \"mul\"\nfile = \"mul.bin\"\n[[program]]\nname = \"loop\"\nfile = \"loop.bin\"\nwatch = [[0, 4]]\n";
+    "[[program]]\nname = \"mul\"\nfile = \"mul.bin\"\n[[program]]\nname = \"loop\"\nfile = \"loop.bin\"\n\
+        watch = [[0, 4]]\n";
 
 /// The study of two options for the alu units, with the first of them twice and the second as fast.
 const STUDY_OF_EQUALS: &str =
-    "[[program]]\nname = \"loop\"\nfile = \"loop.bin\"\n[[unit.alu]]\nlatency = 1\nprice = 5\n[[unit.alu]]\nlatency = 1\nprice = 5\n[[unit.alu]]\nlatency = 1\nprice = 9\n";
+    "[[program]]\nname = \"loop\"\nfile = \"loop.bin\"\n[[unit.alu]]\nlatency = 1\nprice = 5\n[[unit.alu]]\n\
+        latency = 1\nprice = 5\n[[unit.alu]]\nlatency = 1\nprice = 9\n";
 
 /// Each study with its files' words and the records of its report.
 static REPORTS: [(&str, &[[u32; 4]], &str); 4] = [
     (
         PRICED,
         &[PRODUCT_WORDS],
-        "1,10,10,1,1,1,1,1,1,1,1,1,3,1,1,1,1,1,1,1,mul,4,10,ebreak,x1=00000005 x2=00000007 x3=00000023,-\n0,20,8,2,1,1,1,1,1,1,1,1,3,1,1,1,1,1,1,1,mul,4,8,ebreak,x1=00000005 x2=00000007 x3=00000023,-\n",
+        "1,10,10,1,1,1,1,1,1,1,1,1,3,1,1,1,1,1,1,1,mul,4,10,ebreak,x1=00000005 x2=00000007 x3=00000023,-\n\
+            0,20,8,2,1,1,1,1,1,1,1,1,3,1,1,1,1,1,1,1,mul,4,8,ebreak,x1=00000005 x2=00000007 x3=00000023,-\n",
     ),
     (
         DROPPED,
@@ -40,12 +44,14 @@ static REPORTS: [(&str, &[[u32; 4]], &str); 4] = [
     (
         STUDY_OF_EQUALS,
         &[LOOP_WORDS],
-        "0,5,2000,1,1,1,1,1,1,1,1,1,1,1,1,1,1,1,1,1,loop,1000,2000,ebreak,x2=00010000,-\n1,5,2000,1,1,1,1,1,1,1,1,1,1,1,1,1,1,1,1,1,loop,1000,2000,ebreak,x2=00010000,-\n",
+        "0,5,2000,1,1,1,1,1,1,1,1,1,1,1,1,1,1,1,1,1,loop,1000,2000,ebreak,x2=00010000,-\n\
+            1,5,2000,1,1,1,1,1,1,1,1,1,1,1,1,1,1,1,1,1,loop,1000,2000,ebreak,x2=00010000,-\n",
     ),
     (
         STUDY_OF_TWO,
         &[PRODUCT_WORDS, LOOP_WORDS],
-        "0,0,2008,1,1,1,1,1,1,1,1,1,1,1,1,1,1,1,1,1,mul,4,8,ebreak,x1=00000005 x2=00000007 x3=00000023,-\n0,0,2008,1,1,1,1,1,1,1,1,1,1,1,1,1,1,1,1,1,loop,1000,2000,ebreak,x2=00010000,00000000:9300301f\n",
+        "0,0,2008,1,1,1,1,1,1,1,1,1,1,1,1,1,1,1,1,1,mul,4,8,ebreak,x1=00000005 x2=00000007 x3=00000023,-\n\
+            0,0,2008,1,1,1,1,1,1,1,1,1,1,1,1,1,1,1,1,1,loop,1000,2000,ebreak,x2=00010000,00000000:9300301f\n",
     ),
 ];
 

@@ -1,8 +1,10 @@
-//! Tests of the recurrence: times, waits and needs of worked examples, floors and paths.
+//! Tests of the recurrence: times, waits and needs of worked examples, floors and paths; and of the loops of runs.
 #![tactic(auto)]
 
 #[cfg(test)]
 mod floors;
+#[cfg(test)]
+mod loops;
 #[cfg(test)]
 mod needs;
 #[cfg(test)]

@@ -20,10 +20,10 @@ pub fn text_of_run<F: Files, A: Allocator + Clone>(
 ) -> Result<Vec<u8, A>, Failure>
     ensures text { IfOk result (λ text. IsRunOf (F.file files.now) line.entry text.items) }
     ensures failure { IfErr result (λ failure. IsRunFailure (F.file files.now) line.entry failure) }
-    ensures window { (IsWindow line.entry.base line.entry.size → ⊥)
+    ensures window { (IsWindow line.entry.image.base line.entry.image.size → ⊥)
         → IsErrOf result Failure.BadWindow }
 {
-    let window = Window::new(line.base, line.size).ok_or(Failure::BadWindow)?;
-    let image = read(alloc.clone()?, heap, files, line.image)?;
+    let window = Window::new(line.image.base, line.image.size).ok_or(Failure::BadWindow)?;
+    let image = read(alloc.clone()?, heap, files, line.image.file)?;
     Ok(run_text(alloc, image.as_slice(), window, line.limit)?)
 }

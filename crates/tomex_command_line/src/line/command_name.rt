@@ -9,6 +9,8 @@ ghost use Rattle.tomex_command_line.specs.Names.{name_of};
 #[derive(Clone, Copy)]
 pub enum CommandName {
     Run,
+    Parts,
+    Cut,
     Times,
     Stalls,
     Path,
@@ -39,6 +41,8 @@ pub(super) fn command_named(name: &str) -> Option<CommandName>
 {
     match name {
         "run" => Some(CommandName::Run),
+        "parts" => Some(CommandName::Parts),
+        "cut" => Some(CommandName::Cut),
         "times" => Some(CommandName::Times),
         "stalls" => Some(CommandName::Stalls),
         "path" => Some(CommandName::Path),

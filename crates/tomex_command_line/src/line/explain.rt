@@ -27,20 +27,20 @@ prints a list of all refusals, a line each.
 
 REFUSAL is what tomex reported, with `tomex: ` before it or without, as several
 words or as one; names and numbers in it may be left out. A part of a line of
-the list is enough: if several lines have it, these are printed, and a single
-one is explained. An exit status is explained too: `tomex explain 2`. Capitals
-are as small letters.";
+the list is enough, and if no line has all the words, the longest that one has:
+if several lines have it, these are printed, and a single one is explained. An
+exit status is explained too: `tomex explain 2`. Capitals are as small letters.";
 
 const AFTER_LONG_HELP: &str = "Exit status:
   0  the explanation or the list was written
-  1  the words are those of no refusal, and a part of no line of the list
+  1  the words are those of no refusal, and no line of the list has one of them
   2  the command line was refused
   3  memory or a device was refused
 
 Examples:
   tomex explain
   tomex explain image: segment
-  tomex explain segment
+  tomex explain illegal instruction
   tomex explain 'tomex: fault: illegal at 00000098'";
 
 const TEXTS: Texts = Texts {

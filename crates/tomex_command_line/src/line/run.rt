@@ -8,21 +8,12 @@ ghost use Rattle.clap.specs.Walk.{rows_of};
 ghost use Rattle.tomex_command_line.specs.Values.{IsRunAsked, IsNoRun};
 ghost use Rattle.tomex_command_line.specs.Limits.{most_steps};
 
-use super::texts::{Texts, command_with_texts, with_argument};
-use super::values::{number, word};
+use super::image::{ImageLine, image_of, on_image};
+use super::texts::{Texts, with_argument};
+use super::values::number;
 use clap::{ArgMatches, Command};
 use std::alloc::{AllocError, Global};
-use tomex_arguments::{Bounds, LineFault, number_of, word_of};
-
-const BASE: Bounds = Bounds {
-    least: 0,
-    greatest: 4_294_967_292,
-};
-
-const SIZE: Bounds = Bounds {
-    least: 4,
-    greatest: 1_048_576,
-};
+use tomex_arguments::{Bounds, LineFault, number_of};
 
 const LIMIT: Bounds = Bounds {
     least: 1,
@@ -32,17 +23,9 @@ const LIMIT: Bounds = Bounds {
 /// A request for a run.
 #[derive(Clone, Copy)]
 pub struct RunLine<'a> {
-    /// The name of the image's file, as written.
-    pub image: &'a str,
-    /// The address of memory's first byte.
-    pub base: u32,
-    /// The size of memory in bytes.
-    pub size: u32,
+    pub image: ImageLine<'a>,
     /// The greatest number of instructions.
     pub limit: u32,
-    pub ghost base_within: { base ≤ 4294967292 },
-    pub ghost size_from: { 4 ≤ size },
-    pub ghost size_to: { size ≤ 1048576 },
     pub ghost limit_from: { 1 ≤ limit },
     pub ghost limit_to: { limit ≤ most_steps },
 }
@@ -84,33 +67,23 @@ const TEXTS: Texts = Texts {
     after_long_help: AFTER_LONG_HELP,
 };
 
-const IMAGE_HELP: &str = "The file of the image";
-
-const BASE_HELP: &str = "First address, a multiple of 4 to 4294967292";
-
-const SIZE_HELP: &str = "Memory in bytes, a multiple of 4 to 1048576";
-
 const LIMIT_HELP: &str = "The most instructions to run, 1 to 262144";
 
 pub(super) fn grammar<'a>(alloc: Global) -> Result<Command<'a>, AllocError>
     ensures { IfOk result (λ c. shape_of c ≡ run_shape) }
 {
-    let command = Ok(command_with_texts(alloc, "run", TEXTS));
-    let command = with_argument(command, word(alloc, "IMAGE", IMAGE_HELP));
-    let command = with_argument(command, number(alloc, "base", BASE, "0", BASE_HELP));
-    let command = with_argument(command, number(alloc, "size", SIZE, "65536", SIZE_HELP));
+    let command = on_image(alloc, "run", TEXTS);
     with_argument(command, number(alloc, "limit", LIMIT, "262144", LIMIT_HELP))
 }
 
 pub(super) fn line_of<'a>(alloc: Global, matches: &ArgMatches<'a>) -> Result<RunLine<'a>, LineFault>
     ensures line { IfOk result
-        (λ line. IsRunAsked (rows_of (found_of matches.now)) line.image.now line.base line.size line.limit) }
+        (λ line. IsRunAsked (rows_of (found_of matches.now))
+        line.image.file.now line.image.base line.image.size line.limit) }
     ensures refused { IfErr result (IsRefusedIf (IsNoRun (rows_of (found_of matches.now)))) }
 {
     Ok(RunLine {
-        image: word_of(alloc, matches, "IMAGE")?,
-        base: number_of(alloc, matches, "base", BASE)?,
-        size: number_of(alloc, matches, "size", SIZE)?,
+        image: image_of(alloc, matches)?,
         limit: number_of(alloc, matches, "limit", LIMIT)?,
     })
 }

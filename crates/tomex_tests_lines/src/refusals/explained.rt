@@ -127,7 +127,7 @@ fn studies(rt: HostRuntime) -> Result<(), Fail> {
 }
 
 /// Refusals by commands themselves, as the definition of reports has them.
-static COMMANDS: [(&str, &str); 21] = [
+static COMMANDS: [(&str, &str); 25] = [
     ("tomex: no such choice: alu=3", "no such choice: CHOICE"),
     ("no such choice", "no such choice: CHOICE"),
     ("no such choice: too long", "no such choice: CHOICE"),
@@ -139,6 +139,9 @@ static COMMANDS: [(&str, &str); 21] = [
     ("tomex: no such program", "no such program"),
     ("tomex: no symbols", "no symbols"),
     ("tomex: no such step", "no such step"),
+    ("tomex: no end", "no end"),
+    ("tomex: code overwritten", "code overwritten"),
+    ("tomex: no room", "no room"),
     ("tomex: picture too large", "picture too large"),
     ("tomex: table too large", "table too large"),
     ("tomex: cycle past the end", "cycle past the end"),
@@ -147,6 +150,7 @@ static COMMANDS: [(&str, &str); 21] = [
     // A name may have the words of another refusal.
     ("tomex: cannot read image: segment", "cannot read NAME"),
     ("tomex: cannot write", "cannot write"),
+    ("tomex: output is a terminal", "output is a terminal"),
     ("tomex: thread refused", "thread refused"),
     ("tomex: out of memory", "out of memory"),
     ("tomex: no such refusal", "no such refusal"),
@@ -162,7 +166,7 @@ fn commands(rt: HostRuntime) -> Result<(), Fail> {
 
 /// Parts of lines of the list, and what is printed of the first lines that have them, and how many lines there are.
 static PARTS: [(&str, &str, usize); 8] = [
-    ("", "cannot read NAME\nno such choice: CHOICE\n", 41),
+    ("", "cannot read NAME\nno such choice: CHOICE\n", 45),
     ("segment", "image: too many segments\nimage: segment\n", 2),
     ("fault", "fault: fetch at PC\nfault: illegal at PC\n", 4),
     (" at PC", "fault: fetch at PC\nfault: illegal at PC\n", 4),
@@ -223,7 +227,37 @@ fn statuses(rt: HostRuntime) -> Result<(), Fail> {
     Ok(())
 }
 
-static NONE: [&str; 3] = ["tomex", "image:segment", "image:  segment"];
+/// Words of which no line has all: the longest that a line has counts, the first of several equally long ones.
+static SOME_WORDS: [(&str, &str, usize); 5] = [
+    ("illegal instruction", "fault: illegal at PC\nThe word", 0),
+    (
+        "why exit with 3",
+        "exit status 1\nexit status 2\nexit status 3\n",
+        3,
+    ),
+    (
+        "image:  segment",
+        "image: too many segments\nimage: segment\n",
+        2,
+    ),
+    ("entry write", "image: entry\n", 0),
+    ("write \t entry\n", "cannot write\n", 0),
+];
+
+#[test]
+fn the_longest_word_counts(rt: HostRuntime) -> Result<(), Fail> {
+    for (words, begins, lines) in &SOME_WORDS {
+        let Ok(text) = explain(rt.alloc(), rt.alloc(), *words) else {
+            return Err("no text".into());
+        };
+        assert!(rt; text.starts_with(begins.as_bytes()), "{words}");
+        let count = text.iter().filter(|byte| **byte == b'\n').count();
+        assert!(rt; *lines == 0 || count == *lines, "{words}: {count}");
+    }
+    Ok(())
+}
+
+static NONE: [&str; 4] = ["tomex", "image:segment", "overlaps", "xyz  of-no\tline"];
 
 #[test]
 fn what_is_no_refusal(rt: HostRuntime) -> Result<(), Fail> {

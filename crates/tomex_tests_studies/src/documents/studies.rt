@@ -2,15 +2,20 @@
 
 /// A study of one program, two numbers of alu stations and a mul unit of latency 3.
 pub const STUDY_M: &str =
-    "[[program]]\nname = \"mul\"\nfile = \"mul.bin\"\n[prices]\nalu = 10\n[axes]\nalu = [2, 1]\n[[unit.mul]]\nlatency = 3\n";
+    "[[program]]\nname = \"mul\"\nfile = \"mul.bin\"\n[prices]\nalu = 10\n[axes]\nalu = [2, 1]\n\
+        [[unit.mul]]\nlatency = 3\n";
 
 /// A study of one program and two options for the alu units.
 pub const STUDY_L: &str =
-    "[[program]]\nname = \"loop\"\nfile = \"loop.bin\"\n[[unit.alu]]\nlatency = 1\nprice = 5\n[[unit.alu]]\nlatency = 10\nprice = 9\n";
+    "[[program]]\nname = \"loop\"\nfile = \"loop.bin\"\n[[unit.alu]]\nlatency = 1\nprice = 5\n[[unit.alu]]\n\
+        latency = 10\nprice = 9\n";
 
 /// Studies at the ends of the limits, which are read.
 pub static LAWFUL: [&str; 23] = [
-    "[[program]]\nname = \"0\"\nfile = \"a\"\n[[program]]\nname = \"1\"\nfile = \"a\"\n[[program]]\nname = \"2\"\nfile = \"a\"\n[[program]]\nname = \"3\"\nfile = \"a\"\n[[program]]\nname = \"4\"\nfile = \"a\"\n[[program]]\nname = \"5\"\nfile = \"a\"\n[[program]]\nname = \"6\"\nfile = \"a\"\n[[program]]\nname = \"7\"\nfile = \"a\"\n",
+    "[[program]]\nname = \"0\"\nfile = \"a\"\n[[program]]\nname = \"1\"\nfile = \"a\"\n[[program]]\n\
+        name = \"2\"\nfile = \"a\"\n[[program]]\nname = \"3\"\nfile = \"a\"\n[[program]]\nname = \"4\"\n\
+        file = \"a\"\n[[program]]\nname = \"5\"\nfile = \"a\"\n[[program]]\nname = \"6\"\nfile = \"a\"\n\
+        [[program]]\nname = \"7\"\nfile = \"a\"\n",
     "prices = {}\n[[program]]\nname = \"a\"\nfile = \"a.bin\"\n",
     "axes = {}\n[[program]]\nname = \"a\"\nfile = \"a.bin\"\n",
     "unit = {}\n[[program]]\nname = \"a\"\nfile = \"a.bin\"\n",
@@ -24,11 +29,20 @@ pub static LAWFUL: [&str; 23] = [
     "[[program]]\nname = \"a\"\nfile = \"a.bin\"\nwatch = []\n",
     "[[program]]\nname = \"a\"\nfile = \"a.bin\"\nwatch = [[65532, 4]]\n",
     "[[program]]\nname = \"a\"\nfile = \"a.bin\"\nwatch = [[0, 2048], [0, 2048]]\n",
-    "[[program]]\nname = \"a\"\nfile = \"a.bin\"\nwatch = [[0, 1], [0, 1], [0, 1], [0, 1], [0, 1], [0, 1], [0, 1], [0, 1]]\n",
-    "[prices]\nalu = 1000000\nmul = 1000000\ndiv = 1000000\nload = 1000000\nstore = 1000000\nbru = 1000000\nbus = 1000000\n[[program]]\nname = \"a\"\nfile = \"a.bin\"\n",
-    "[axes]\nalu = [16]\nmul = [16]\ndiv = [16]\nload = [16]\nstore = [16]\nbru = [16]\nbuses = [8]\n[[program]]\nname = \"a\"\nfile = \"a.bin\"\n",
-    "[unit]\nalu = [{units = 8, latency = 64, price = 1000000}]\nmul = [{units = 8, latency = 64, price = 1000000}]\ndiv = [{units = 8, latency = 64, price = 1000000}]\nmem = [{units = 8, latency = 64, price = 1000000}]\nbru = [{units = 1, latency = 64, price = 1000000}]\n[[program]]\nname = \"a\"\nfile = \"a.bin\"\n",
-    "[axes]\nalu = [1, 1, 1, 1, 1, 1, 1, 1, 1, 1, 1, 1, 1, 1, 1, 1]\nmul = [1, 1, 1, 1, 1, 1, 1, 1, 1, 1, 1, 1, 1, 1, 1, 1]\ndiv = [1, 1, 1, 1, 1, 1, 1, 1, 1, 1, 1, 1, 1, 1, 1, 1]\nbuses = [1, 1, 1, 1]\n[[program]]\nname = \"a\"\nfile = \"a.bin\"\n",
+    "[[program]]\nname = \"a\"\nfile = \"a.bin\"\n\
+        watch = [[0, 1], [0, 1], [0, 1], [0, 1], [0, 1], [0, 1], [0, 1], [0, 1]]\n",
+    "[prices]\nalu = 1000000\nmul = 1000000\ndiv = 1000000\nload = 1000000\nstore = 1000000\nbru = 1000000\n\
+        bus = 1000000\n[[program]]\nname = \"a\"\nfile = \"a.bin\"\n",
+    "[axes]\nalu = [16]\nmul = [16]\ndiv = [16]\nload = [16]\nstore = [16]\nbru = [16]\nbuses = [8]\n\
+        [[program]]\nname = \"a\"\nfile = \"a.bin\"\n",
+    "[unit]\nalu = [{units = 8, latency = 64, price = 1000000}]\n\
+        mul = [{units = 8, latency = 64, price = 1000000}]\ndiv = [{units = 8, latency = 64, price = 1000000}]\n\
+        mem = [{units = 8, latency = 64, price = 1000000}]\nbru = [{units = 1, latency = 64, price = 1000000}]\n\
+        [[program]]\nname = \"a\"\nfile = \"a.bin\"\n",
+    "[axes]\nalu = [1, 1, 1, 1, 1, 1, 1, 1, 1, 1, 1, 1, 1, 1, 1, 1]\n\
+        mul = [1, 1, 1, 1, 1, 1, 1, 1, 1, 1, 1, 1, 1, 1, 1, 1]\n\
+        div = [1, 1, 1, 1, 1, 1, 1, 1, 1, 1, 1, 1, 1, 1, 1, 1]\nbuses = [1, 1, 1, 1]\n[[program]]\n\
+        name = \"a\"\nfile = \"a.bin\"\n",
     "[[program]]\nname = \"a\"\nfile = \"a.bin\"\nweight = 1\n",
     "[[program]]\nname = \"a\"\nfile = \"a.bin\"\nweight = 1000\n",
     "[prices]\nwidth = 1000000\n[[program]]\nname = \"a\"\nfile = \"a.bin\"\n",
@@ -50,7 +64,10 @@ pub static AT_TOP: [(&str, &str); 14] = [
         "study: top: program of wrong kind",
     ),
     (
-        "[[program]]\nname = \"0\"\nfile = \"a\"\n[[program]]\nname = \"1\"\nfile = \"a\"\n[[program]]\nname = \"2\"\nfile = \"a\"\n[[program]]\nname = \"3\"\nfile = \"a\"\n[[program]]\nname = \"4\"\nfile = \"a\"\n[[program]]\nname = \"5\"\nfile = \"a\"\n[[program]]\nname = \"6\"\nfile = \"a\"\n[[program]]\nname = \"7\"\nfile = \"a\"\n[[program]]\nname = \"8\"\nfile = \"a\"\n",
+        "[[program]]\nname = \"0\"\nfile = \"a\"\n[[program]]\nname = \"1\"\nfile = \"a\"\n[[program]]\n\
+            name = \"2\"\nfile = \"a\"\n[[program]]\nname = \"3\"\nfile = \"a\"\n[[program]]\nname = \"4\"\n\
+            file = \"a\"\n[[program]]\nname = \"5\"\nfile = \"a\"\n[[program]]\nname = \"6\"\nfile = \"a\"\n\
+            [[program]]\nname = \"7\"\nfile = \"a\"\n[[program]]\nname = \"8\"\nfile = \"a\"\n",
         "study: top: program out of range",
     ),
     (
@@ -236,7 +253,10 @@ pub static ORDERED: [(&str, &str); 13] = [
         "study: axes: alu out of range",
     ),
     (
-        "[axes]\nalu = [1, 1, 1, 1, 1, 1, 1, 1, 1, 1, 1, 1, 1, 1, 1, 1]\nmul = [1, 1, 1, 1, 1, 1, 1, 1, 1, 1, 1, 1, 1, 1, 1, 1]\ndiv = [1, 1, 1, 1, 1, 1, 1, 1, 1, 1, 1, 1, 1, 1, 1, 1]\nbuses = [1, 1, 1, 1, 1]\n[[program]]\nname = \"a\"\nfile = \"a.bin\"\n",
+        "[axes]\nalu = [1, 1, 1, 1, 1, 1, 1, 1, 1, 1, 1, 1, 1, 1, 1, 1]\n\
+            mul = [1, 1, 1, 1, 1, 1, 1, 1, 1, 1, 1, 1, 1, 1, 1, 1]\n\
+            div = [1, 1, 1, 1, 1, 1, 1, 1, 1, 1, 1, 1, 1, 1, 1, 1]\nbuses = [1, 1, 1, 1, 1]\n[[program]]\n\
+            name = \"a\"\nfile = \"a.bin\"\n",
         "study: too many configurations",
     ),
 ];
@@ -304,7 +324,8 @@ pub static WIDE: [(&str, &str); 16] = [
         "study: unit: unknown key",
     ),
     (
-        "[axes]\nwidth = [5]\n[[program]]\nname = \"a\"\nfile = \"a.bin\"\n[[program]]\nname = \"b\"\nfile = \"a.bin\"\nweight = 1001\n",
+        "[axes]\nwidth = [5]\n[[program]]\nname = \"a\"\nfile = \"a.bin\"\n[[program]]\nname = \"b\"\n\
+            file = \"a.bin\"\nweight = 1001\n",
         "study: program 2: weight out of range",
     ),
 ];

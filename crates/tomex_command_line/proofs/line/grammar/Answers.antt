@@ -2,8 +2,10 @@
 use Rattle.std.proofs.Common.{◌≡◌, ◌∙◌, ap₂, IfOk, IsOkAnd, Result, Ok, Err}
 use Rattle.clap.specs.Simple.{App, Shape, app_of, shape_of, with_subcommand}
 use Rattle.clap.specs.declared.builder.command.Command.{Command}
-use Rattle.tomex_command_line.specs.Grammar.{bare_app, run_shape, times_shape, stalls_shape, path_shape, pipeline_shape}
-use Rattle.tomex_command_line.specs.Grammar.{loops_shape, tables_shape, animate_shape, all_shape, explore_shape}
+use Rattle.tomex_command_line.specs.Grammar.{bare_app, run_shape, parts_shape, cut_shape}
+use Rattle.tomex_command_line.specs.Grammar.{times_shape, stalls_shape, path_shape}
+use Rattle.tomex_command_line.specs.Grammar.{pipeline_shape, loops_shape, tables_shape}
+use Rattle.tomex_command_line.specs.Grammar.{animate_shape, all_shape, explore_shape}
 use Rattle.tomex_command_line.specs.Grammar.{front_shape, plot_shape, rows_shape}
 use Rattle.tomex_command_line.specs.Grammar.{worth_shape, choices_shape, prices_shape, weights_shape}
 use Rattle.tomex_command_line.specs.Grammar.{compare_shape, functions_shape, page_shape, find_shape, explain_shape}
@@ -22,44 +24,48 @@ pub returns : goal.returns
 returns c =
     let one = offered c.with_command-program.result (Ok c.without_commands.result) c.grammar.result bare_app run_shape
     c.with_command-program.ensures c.without_commands.ensures c.grammar.ensures in
-    let two = offered c.with_command-program-2.result _ _ _ times_shape c.with_command-program-2.ensures
+    let two = offered c.with_command-program-2.result _ _ _ parts_shape c.with_command-program-2.ensures
     one c.grammar-2.ensures in
-    let three = offered c.with_command-program-3.result _ _ _ pipeline_shape c.with_command-program-3.ensures
+    let three = offered c.with_command-program-3.result _ _ _ cut_shape c.with_command-program-3.ensures
     two c.grammar-3.ensures in
-    let four = offered c.with_command-program-4.result _ _ _ tables_shape c.with_command-program-4.ensures
+    let four = offered c.with_command-program-4.result _ _ _ times_shape c.with_command-program-4.ensures
     three c.grammar-4.ensures in
-    let five = offered c.with_command-program-5.result _ _ _ animate_shape c.with_command-program-5.ensures
+    let five = offered c.with_command-program-5.result _ _ _ pipeline_shape c.with_command-program-5.ensures
     four c.grammar-5.ensures in
-    let six = offered c.with_command-program-6.result _ _ _ stalls_shape c.with_command-program-6.ensures
+    let six = offered c.with_command-program-6.result _ _ _ tables_shape c.with_command-program-6.ensures
     five c.grammar-6.ensures in
-    let seven = offered c.with_command-program-7.result _ _ _ path_shape c.with_command-program-7.ensures
+    let seven = offered c.with_command-program-7.result _ _ _ animate_shape c.with_command-program-7.ensures
     six c.grammar-7.ensures in
-    let eight = offered c.with_command-program-8.result _ _ _ loops_shape c.with_command-program-8.ensures
+    let eight = offered c.with_command-program-8.result _ _ _ stalls_shape c.with_command-program-8.ensures
     seven c.grammar-8.ensures in
-    let nine = offered c.with_command-program-9.result _ _ _ front_shape c.with_command-program-9.ensures
+    let nine = offered c.with_command-program-9.result _ _ _ path_shape c.with_command-program-9.ensures
     eight c.grammar-9.ensures in
-    let ten = offered c.with_command-program-10.result _ _ _ plot_shape c.with_command-program-10.ensures
+    let ten = offered c.with_command-program-10.result _ _ _ loops_shape c.with_command-program-10.ensures
     nine c.grammar-10.ensures in
-    let eleven = offered c.with_command-program-11.result _ _ _ rows_shape c.with_command-program-11.ensures
+    let eleven = offered c.with_command-program-11.result _ _ _ front_shape c.with_command-program-11.ensures
     ten c.grammar-11.ensures in
-    let twelve = offered c.with_command-program-12.result _ _ _ find_shape c.with_command-program-12.ensures
+    let twelve = offered c.with_command-program-12.result _ _ _ plot_shape c.with_command-program-12.ensures
     eleven c.grammar-12.ensures in
-    let thirteen = offered c.with_command-program-13.result _ _ _ page_shape c.with_command-program-13.ensures
+    let thirteen = offered c.with_command-program-13.result _ _ _ rows_shape c.with_command-program-13.ensures
     twelve c.grammar-13.ensures in
-    let fourteen = offered c.with_command-program-14.result _ _ _ worth_shape c.with_command-program-14.ensures
+    let fourteen = offered c.with_command-program-14.result _ _ _ find_shape c.with_command-program-14.ensures
     thirteen c.grammar-14.ensures in
-    let fifteen = offered c.with_command-program-15.result _ _ _ choices_shape c.with_command-program-15.ensures
+    let fifteen = offered c.with_command-program-15.result _ _ _ page_shape c.with_command-program-15.ensures
     fourteen c.grammar-15.ensures in
-    let sixteen = offered c.with_command-program-16.result _ _ _ prices_shape c.with_command-program-16.ensures
+    let sixteen = offered c.with_command-program-16.result _ _ _ worth_shape c.with_command-program-16.ensures
     fifteen c.grammar-16.ensures in
-    let seventeen = offered c.with_command-program-17.result _ _ _ weights_shape c.with_command-program-17.ensures
+    let seventeen = offered c.with_command-program-17.result _ _ _ choices_shape c.with_command-program-17.ensures
     sixteen c.grammar-17.ensures in
-    let eighteen = offered c.with_command-program-18.result _ _ _ compare_shape c.with_command-program-18.ensures
+    let eighteen = offered c.with_command-program-18.result _ _ _ prices_shape c.with_command-program-18.ensures
     seventeen c.grammar-18.ensures in
-    let nineteen = offered c.with_command-program-19.result _ _ _ functions_shape c.with_command-program-19.ensures
+    let nineteen = offered c.with_command-program-19.result _ _ _ weights_shape c.with_command-program-19.ensures
     eighteen c.grammar-19.ensures in
-    let twenty = offered c.with_command-program-20.result _ _ _ explore_shape c.with_command-program-20.ensures
+    let twenty = offered c.with_command-program-20.result _ _ _ compare_shape c.with_command-program-20.ensures
     nineteen c.grammar-20.ensures in
-    let twenty_one = offered c.with_command-program-21.result _ _ _ all_shape c.with_command-program-21.ensures
+    let twenty_one = offered c.with_command-program-21.result _ _ _ functions_shape c.with_command-program-21.ensures
     twenty c.grammar-21.ensures in
-    offered c.with_command.result _ _ _ explain_shape c.with_command.ensures twenty_one c.grammar-22.ensures
+    let twenty_two = offered c.with_command-program-22.result _ _ _ explore_shape c.with_command-program-22.ensures
+    twenty_one c.grammar-22.ensures in
+    let twenty_three = offered c.with_command-program-23.result _ _ _ all_shape c.with_command-program-23.ensures
+    twenty_two c.grammar-23.ensures in
+    offered c.with_command.result _ _ _ explain_shape c.with_command.ensures twenty_three c.grammar-24.ensures

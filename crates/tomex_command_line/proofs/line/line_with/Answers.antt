@@ -1,9 +1,9 @@
 -- A command whose values are refused asks for no line.
 use Rattle.clap.specs.Walk.{rows_of}
 use Rattle.clap.specs.Words.{found_of}
-use Rattle.tomex_command_line.proofs.Lines.{no_all, no_animate, no_choices, no_compare, no_explore, no_find, no_front}
-use Rattle.tomex_command_line.proofs.Lines.{no_functions, no_loops, no_page, no_path, no_pipeline, no_plot, no_prices}
-use Rattle.tomex_command_line.proofs.Lines.{no_rows}
+use Rattle.tomex_command_line.proofs.Lines.{no_all, no_animate, no_choices, no_compare, no_cut, no_explore, no_find}
+use Rattle.tomex_command_line.proofs.Lines.{no_front, no_functions, no_loops, no_page, no_parts, no_path, no_pipeline}
+use Rattle.tomex_command_line.proofs.Lines.{no_plot, no_prices, no_rows}
 use Rattle.tomex_command_line.proofs.Lines.{no_run, no_stalls, no_tables, no_times, no_weights, no_worth, refused_as}
 use Rattle.tomex_command_line.proofs.PassedOn.{passed_on}
 use Rattle.tomex_command_line.proofs.line.line_with.Goals as goal
@@ -12,6 +12,16 @@ pub returns-in_err-line_of-in-Run-clause-refused : goal.returns-in_err-line_of-i
 returns-in_err-line_of-in-Run-clause-refused c =
     passed_on _ _ _ c.from_residual.result c.from_residual.ensures.1
     c.in_err-line_of-in-Run.ensures.refused (λ none. refused_as _ c.in-Run.is (no_run _ none))
+
+pub returns-in_err-line_of-in-Parts-clause-refused : goal.returns-in_err-line_of-in-Parts-clause-refused
+returns-in_err-line_of-in-Parts-clause-refused c =
+    passed_on _ _ _ c.from_residual-in_err-line_of-in-Parts.result c.from_residual-in_err-line_of-in-Parts.ensures.1
+    c.in_err-line_of-in-Parts.ensures.refused (λ none. refused_as _ c.in-Parts.is (no_parts _ none))
+
+pub returns-in_err-line_of-in-Cut-clause-refused : goal.returns-in_err-line_of-in-Cut-clause-refused
+returns-in_err-line_of-in-Cut-clause-refused c =
+    passed_on _ _ _ c.from_residual-in_err-line_of-in-Cut.result c.from_residual-in_err-line_of-in-Cut.ensures.1
+    c.in_err-line_of-in-Cut.ensures.refused (λ none. refused_as _ c.in-Cut.is (no_cut _ none))
 
 pub returns-in_err-one_run_of-in-Times-clause-refused : goal.returns-in_err-one_run_of-in-Times-clause-refused
 returns-in_err-one_run_of-in-Times-clause-refused c =

@@ -6,20 +6,13 @@ use Rattle.tomex_command_line.proofs.line.run.line_of.Goals as goal
 pub invariant_of-result : goal.invariant_of-result
 invariant_of-result c = search rules fits 100
 
+pub returns-in_err-image_of-clause-refused : goal.returns-in_err-image_of-clause-refused
+returns-in_err-image_of-clause-refused c =
+    passed_on _ _ _ c.from_residual.result c.from_residual.ensures.1 c.in_err-image_of.ensures.refused
+    (λ none image base size limit asked. none image base size asked.of_image)
+
 pub returns-in_err-number_of-clause-refused : goal.returns-in_err-number_of-clause-refused
 returns-in_err-number_of-clause-refused c =
     passed_on _ _ _ c.from_residual-in_err-number_of.result c.from_residual-in_err-number_of.ensures.1
     c.in_err-number_of.ensures.refused
-    (λ none image base size limit asked. none base asked.is_base)
-
-pub returns-in_err-number_of-2-clause-refused : goal.returns-in_err-number_of-2-clause-refused
-returns-in_err-number_of-2-clause-refused c =
-    passed_on _ _ _ c.from_residual-in_err-number_of-2.result c.from_residual-in_err-number_of-2.ensures.1
-    c.in_err-number_of-2.ensures.refused
-    (λ none image base size limit asked. none size asked.is_size)
-
-pub returns-in_err-number_of-3-clause-refused : goal.returns-in_err-number_of-3-clause-refused
-returns-in_err-number_of-3-clause-refused c =
-    passed_on _ _ _ c.from_residual-in_err-number_of-3.result c.from_residual-in_err-number_of-3.ensures.1
-    c.in_err-number_of-3.ensures.refused
     (λ none image base size limit asked. none limit asked.is_limit)

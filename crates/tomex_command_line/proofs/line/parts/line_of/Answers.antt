@@ -1,0 +1,18 @@
+-- If a value is missing or out of bounds, no line has it.
+use Rattle.std.proofs.Common.{rules}
+use Rattle.tomex_command_line.proofs.PassedOn.{passed_on}
+use Rattle.tomex_command_line.proofs.line.parts.line_of.Goals as goal
+
+pub invariant_of-result : goal.invariant_of-result
+invariant_of-result c = search rules fits 100
+
+pub returns-in_err-image_of-clause-refused : goal.returns-in_err-image_of-clause-refused
+returns-in_err-image_of-clause-refused c =
+    passed_on _ _ _ c.from_residual.result c.from_residual.ensures.1 c.in_err-image_of.ensures.refused
+    (λ none image base size steps asked. none image base size asked.of_image)
+
+pub returns-in_err-number_of-clause-refused : goal.returns-in_err-number_of-clause-refused
+returns-in_err-number_of-clause-refused c =
+    passed_on _ _ _ c.from_residual-in_err-number_of.result c.from_residual-in_err-number_of.ensures.1
+    c.in_err-number_of.ensures.refused
+    (λ none image base size steps asked. none steps asked.is_steps)
