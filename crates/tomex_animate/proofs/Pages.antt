@@ -39,7 +39,8 @@ stretch_is page all rest some behind count past rest_is later some_is = record {
 
 -- the page's text
 pub page_is : (cells : Cells) (study program : List ℕ) (number : ℕ) (config : Configuration) (page : Span) (total : ℕ)
-    (steps : List Step) (end : List ℕ) (path : List Link) (es : List Entry) {none head views foot bytes : List ℕ} → none ≡ []
+    (steps : List Step) (end : List ℕ) (path : List Link) (es : List Entry)
+    {none head views foot bytes : List ℕ} → none ≡ []
     → head ≡ none ++ page_head cells study program number page
     → views ≡ head ++ flat_map (view_of cells config page total steps end path es) (cycles_of page)
     → foot ≡ views ++ page_foot cells config page → bytes ≡ foot
@@ -48,8 +49,9 @@ page_is cells study program number config page total steps end path es empty beg
     made ∙ ((begun ▸ shown ▸ last_piece ended).is
     ∙ ap (λ (z : List ℕ). z ++ animate_page cells study program number config page total steps end path es) empty)
 
-pub animated : {cells : Cells} {study program : List ℕ} {number : ℕ} {config : Configuration} {run made walked : List Step}
-    {end : List ℕ} {kept slice : List Times} {links path : List Link} {first count total : ℕ} {page : Span}
+pub animated : {cells : Cells} {study program : List ℕ} {number : ℕ} {config : Configuration}
+    {run made walked : List Step} {end : List ℕ} {kept slice : List Times} {links path : List Link}
+    {first count total : ℕ} {page : Span}
     {entries all some : List Entry} {text : List ℕ}
     → made ≡ run → walked ≡ run → kept ≡ times_in config walked → slice ≡ kept → total ≡ total_of slice
     → links ≡ path_of config (history config walked) → path ≡ links
@@ -57,8 +59,9 @@ pub animated : {cells : Cells} {study program : List ℕ} {number : ℕ} {config
     → entries ≡ entries_of config made → all ≡ entries → IsStretch page all some
     → text ≡ animate_page cells study program number config page total made end path some
     → IsAnimationOf cells study program number config run end first count text
-animated {cells = cells} {study = study} {program = program} {number = number} {config = config} {run = run} {made = made} {end = end}
-    {path = path} {first = first} {count = count} {total = total} {page = page} {all = all} {some = some} {text = text}
+animated {cells = cells} {study = study} {program = program} {number = number} {config = config} {run = run}
+    {made = made} {end = end} {path = path} {first = first} {count = count} {total = total} {page = page}
+    {all = all} {some = some} {text = text}
     run_is walked_is kept_is same total_is links_are path_is page_is some_first some_count entries_are all_is stretch
     text_is =
     let low : first ≤ total = page_is.0 in
@@ -71,13 +74,15 @@ animated {cells = cells} {study = study} {program = program} {number = number} {
     path_is ∙ (links_are ∙ ap (λ (xs : List Step). path_of config (history config xs)) walked_is) in
     let frames : flat_map (view_of cells config page total made end path all) (cycles_of page)
     ≡ flat_map (view_of cells config page total made end path some) (cycles_of page) =
-    views_same cells config page total made end path all some (omega (arith, low, from, to, some_first, some_count)) stretch in
+    views_same cells config page total made end path all some
+    (omega (arith, low, from, to, some_first, some_count)) stretch in
     let of_all : text ≡ animate_page cells study program number config page total made end path all =
-    text_is ∙ ap (λ (z : List ℕ). page_head cells study program number page ++ (z ++ page_foot cells config page)) (sym frames) in
+    text_is ∙ ap (λ (z : List ℕ). page_head cells study program number page
+    ++ (z ++ page_foot cells config page)) (sym frames) in
     let of_run : text
     ≡ animate_page cells study program number config page total run end (path_of config (history config run)) all =
-    of_all ∙ ap₂ (λ (xs : List Step) (ls : List Link). animate_page cells study program number config page total xs end ls all)
-    run_is path_of_run in
+    of_all ∙ ap₂ (λ (xs : List Step) (ls : List Link).
+    animate_page cells study program number config page total xs end ls all) run_is path_of_run in
     let page_same : page ≡ page_of first count (total_of (times_in config run)) =
     page_is.1 ∙ ap (page_of first count) total_of_run in
     record {

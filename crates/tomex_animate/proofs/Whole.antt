@@ -176,8 +176,8 @@ takers_same : (t : ℕ) (all some : List Entry) (e : Entry) → ShowSame t (hist
 unfolding takers
 takers_same t all some e same = takers_from_same t (history_of all) (history_of some) _ _ same
 
-item_same : (steps : List Step) (last : List ℕ) (t : ℕ) (all some : List Entry) (event : Event) (e : Entry) → ShowSame t (history_of all) (history_of some)
-    → item steps last t all event e ≡ item steps last t some event e
+item_same : (steps : List Step) (last : List ℕ) (t : ℕ) (all some : List Entry) (event : Event) (e : Entry)
+    → ShowSame t (history_of all) (history_of some) → item steps last t all event e ≡ item steps last t some event e
 unfolding item sent_text
 item_same steps last t all some Issue e same = refl
 item_same steps last t all some Address e same = refl
@@ -186,7 +186,8 @@ item_same steps last t all some Finish e same = refl
 item_same steps last t all some Write e same = rw (takers_same t all some e same) refl
 
 item_if_same : (steps : List Step) (last : List ℕ) (t : ℕ) (all some : List Entry) (event : Event) (e : Entry)
-    → ShowSame t (history_of all) (history_of some) → item_if steps last t all event e ≡ item_if steps last t some event e
+    → ShowSame t (history_of all) (history_of some)
+    → item_if steps last t all event e ≡ item_if steps last t some event e
 unfolding item_if
 item_if_same steps last t all some event e same = rw (item_same steps last t all some event e same) refl
 
@@ -218,9 +219,11 @@ module _ (first last t : ℕ) (front some rest : List Entry) (low : first ≤ t)
       ap₂ (λ (b : Bool) (x : List ℕ). if b then x else codes "<dd>-</dd>")
       (any_mid (happens event t) (Past first) (Later last) (quiet_past event) (quiet_later event) front some rest
       past later)
-      (flat_map_same (item_if steps end t all event) (item_if steps end t some event) (λ e. item_if_same steps end t all some event e same_here) all
+      (flat_map_same (item_if steps end t all event) (item_if steps end t some event)
+      (λ e. item_if_same steps end t all some event e same_here) all
       ∙ flat_mid (item_if steps end t some event) (Past first) (Later last)
-      (λ e p. no_item steps end t some event e (quiet_past event e p)) (λ e q. no_item steps end t some event e (quiet_later event e q))
+      (λ e p. no_item steps end t some event e (quiet_past event e p))
+      (λ e q. no_item steps end t some event e (quiet_later event e q))
       front some rest past later)
 
   event_same : (steps : List Step) (end : List ℕ) (event : Event)
@@ -359,6 +362,6 @@ unfolding cycles_of
 views_same cells config page total steps end path all some low stretch =
     ap (λ (es : List Entry). flat_map (view_of cells config page total steps end path es)
     (range_with_len page.from (page.to + 1 - page.from))) stretch.is
-    ∙ views_from cells config page total steps end path page.from (page.to + 1 - page.from) stretch.front some stretch.rest
-    (omega arith) (omega (arith, low)) (recursion_from_All _ stretch.front stretch.past)
+    ∙ views_from cells config page total steps end path page.from (page.to + 1 - page.from) stretch.front some
+    stretch.rest (omega arith) (omega (arith, low)) (recursion_from_All _ stretch.front stretch.past)
     (recursion_from_All _ stretch.rest stretch.later)

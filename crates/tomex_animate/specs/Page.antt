@@ -115,8 +115,9 @@ LeavesRegisters i limit last =
 pub record IsAnimationOf (cells : Cells) (study program : List ℕ) (number : ℕ) (config : Configuration)
     (steps : List Step) (last : List ℕ) (first count : ℕ) (text : List ℕ) : Type 0 where
   pub reached : first ≤ total_of (times_in config steps)
-  pub is : text ≡ animate_page cells study program number config (page_of first count (total_of (times_in config steps)))
-      (total_of (times_in config steps)) steps last (path_of config (history config steps)) (entries_of config steps)
+  pub is : text ≡ animate_page cells study program number config
+      (page_of first count (total_of (times_in config steps))) (total_of (times_in config steps)) steps last
+      (path_of config (history config steps)) (entries_of config steps)
 
 -- of a program's run
 abbrev pub IsAnimation : Cells → List ℕ → Workload → ℕ → Configuration → ℕ → ℕ → List ℕ → Type 0

@@ -9,8 +9,8 @@ ghost use Rattle.tomex_layout.specs.Growth.{Appends};
 ghost use Rattle.tomex_snapshots.specs.Entries.{entries_of};
 ghost use Rattle.tomex_frames.specs.OnPath.{IsOfRun};
 ghost use Rattle.tomex_animate.specs.declared.animation_error.AnimationError.TheVariants.{Memory, PastEnd};
-ghost use Rattle.tomex_animate.specs.Page.{IsAnimation, IsUnanimated, LeavesRegisters, animate_page, page_foot, page_head};
-ghost use Rattle.tomex_animate.specs.Page.{page_of, run_named, title_of};
+ghost use Rattle.tomex_animate.specs.Page.{IsAnimation, IsUnanimated, LeavesRegisters, animate_page, page_foot};
+ghost use Rattle.tomex_animate.specs.Page.{page_head, page_of, run_named, title_of};
 
 use crate::animation_error::AnimationError;
 use crate::cells::{Cells, help_of, style_of};
@@ -178,8 +178,8 @@ fn page_in(first: u32, count: u32, total: u64) -> Result<Span, AnimationError>
 
 /// The page of at most `count` cycles of a program's run on a configuration, from cycle `first` on: for each cycle what
 /// happens in it, the step that has it on the run's critical path, the instruction status, the reservation stations and
-/// the register status, with what has changed; or these with empty `cells`, without what would tell their contents. The study's name may be any text; `number` is the configuration's number
-/// in the study.
+/// the register status, with what has changed; or these with empty `cells`, without what would give them away. The
+/// study's name may be any text; `number` is the configuration's number in the study.
 ///
 /// A page has 4 to 6.5 KB a cycle on usual machines. Small temporary data is allocated from `heap`.
 pub fn animation<A: Allocator + Clone>(

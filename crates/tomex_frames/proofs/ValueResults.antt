@@ -1,5 +1,6 @@
 -- The value of a result that is shown is what its step wrote.
-use Rattle.std.proofs.Common.{◌≡◌, ◌∙◌, ◌++◌, ℕ, true, ap, subst, sym, refl, inl, inr, append_assoc, List, [], ◌∷◌, reverse}
+use Rattle.std.proofs.Common.{◌≡◌, ◌∙◌, ◌++◌, ℕ, true, ap, subst, sym, refl, inl, inr, append_assoc}
+use Rattle.std.proofs.Common.{List, [], ◌∷◌, reverse}
 use Rattle.std.proofs.Common.{Some, None}
 use Rattle.std.specs.Prelude.{option_map, slice_index_or}
 use Rattle.std.proofs.lemmas.Bool.{cases_Bool, eq-eqb, eqb-true}

@@ -37,7 +37,7 @@ abbrev pub value_text : Option ℕ → List ℕ
 value_text None = []
 value_text (Some v) = codes "=" ++ hex8 v
 
--- In a run each such value is what the step wrote: x comes after the steps `older`, the youngest first, and before those
+-- In a run each such value is what the step wrote: x comes after the steps `older`, youngest first, and before those
 -- that are `later`, and `last` are the registers after all of them.
 abbrev pub ValuesAreResults : Type 0
 ValuesAreResults = (i : Loaded) (older later : List Step) (x : Step) (r v : ℕ) (last : List ℕ)

@@ -168,8 +168,8 @@ fn picture_of_rows<A: Allocator>(
 }
 
 /// The front of a study as a picture in SVG, 720 by 440 points: cost from left to right, cycles
-/// from bottom to top, a circle for each row, filled if the row is on the hull, and a staircase through them. It uses no external
-/// script, style sheet or font.
+/// from bottom to top, a circle for each row, filled if the row is on the hull, and a staircase
+/// through them. It uses no external script, style sheet or font.
 ///
 /// Small values are allocated in `heap`.
 pub fn front_picture<A: Allocator>(

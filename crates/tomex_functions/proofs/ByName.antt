@@ -2,7 +2,7 @@
 use Rattle.std.proofs.Common.{◌≡◌, ◌∙◌, refl, sym, ℕ, List, Option, cond}
 use Rattle.std.specs.Prelude.{filter, sum_by}
 use Rattle.tomex_symbols.specs.Symbols.{symbols_of}
-use Rattle.tomex_symbols.proofs.Tables.{symbols_numbered}
+use Rattle.tomex_symbols.proofs.Entries.{symbols_numbered}
 use Rattle.tomex_run_views.specs.ByPlace.{visits_in}
 use Rattle.tomex_run_views.specs.declared.tally.Sum.{Sum}
 use Rattle.tomex_run_views.proofs.SumsOfPlaces.{ones}

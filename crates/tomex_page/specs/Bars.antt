@@ -11,7 +11,8 @@ share n total = min 100 (n * 100 / total)
 -- an element with this percentage of its cell's width
 unfoldable pub stretch : List ℕ → ℕ → List ℕ
 stretch element percent =
-    codes "<" ++ (element ++ (codes " style=\"width:" ++ (decimal percent ++ (codes "%\"></" ++ (element ++ codes ">")))))
+    codes "<"
+    ++ (element ++ (codes " style=\"width:" ++ (decimal percent ++ (codes "%\"></" ++ (element ++ codes ">")))))
 
 -- no element for 0 cycles
 unfoldable pub bar_part : List ℕ → ℕ → ℕ → List ℕ

@@ -62,8 +62,8 @@ pub record Blocks : Type 0 where
   pub blocks : List Block
   pub different : ℕ
 
--- They cover a run's steps, each ends as early as it has to, their numbers are those below the number of different ones, and blocks of one number are
--- the same.
+-- They cover a run's steps, each ends as early as it has to, their numbers are those below the number of different
+-- ones, and blocks of one number are the same.
 pub record AreBlocks (facts : List Facts) (run : Blocks) : Type 0 where
   pub row : AreInARow 0 run.blocks (length facts)
   pub ends : All (λ b. EndsABlock facts b.first b.end) run.blocks

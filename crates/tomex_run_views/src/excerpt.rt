@@ -89,7 +89,8 @@ impl<'a, A: Allocator + Clone> Excerpt<'a, A> {
 }
 
 impl<'a, A: Allocator> Excerpt<'a, A> {
-    /// The first steps of a program's run, at most `count` of them, given the times of all its steps. Allocates nothing.
+    /// The first steps of a program's run, at most `count` of them, given the times of all its steps. Allocates
+    /// nothing.
     pub fn of_first(program: &'a Program<A>, run_times: Vec<Times, A>, count: u32) -> Excerpt<'a, A>
         requires { AreTimesOf (steps_from program.now.limit (start_of program.now.image)) run_times.items }
         ensures { result ≡ excerpt_with

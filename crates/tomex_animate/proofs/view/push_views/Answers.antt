@@ -9,8 +9,9 @@ pub loop-cycle-preserved : goal.loop-cycle-preserved
 loop-cycle-preserved g c =
     let views = c.args.views.now in
     record {
-      text = number_more (view_of views.cells views.config.now views.page views.total views.steps.now views.last.now views.path.now
-          views.entries.now) c.loop-cycle.cycle (views.page.to + 1) _ _ _ (omega (arith, c.loop-cycle-test.true))
+      text = number_more (view_of views.cells views.config.now views.page views.total views.steps.now views.last.now
+          views.path.now views.entries.now) c.loop-cycle.cycle (views.page.to + 1) _ _ _
+          (omega (arith, c.loop-cycle-test.true))
           c.in_ok-push_view.ensures c.loop-cycle.invariant.text;
       few = c.place_of-place.ensures.few;
       passed = passed_on views.path.now c.place_of-place.result c.loop-cycle.cycle c.place_of-place.ensures.passed;

@@ -8,11 +8,11 @@ use Rattle.tomex_animate.proofs.view.push_views.Given as goal
 abbrev pub invariant-loop-cycle : goal.invariant-loop-cycle
 invariant-loop-cycle g l = record {
   text : string_bytes l.text
-      ++ flat_map (view_of l.views.cells l.views.config.now l.views.page l.views.total l.views.steps.now l.views.last.now l.views.path.now
-      l.views.entries.now) (range_with_len l.cycle (l.to + 1 - l.cycle))
+      ++ flat_map (view_of l.views.cells l.views.config.now l.views.page l.views.total l.views.steps.now
+      l.views.last.now l.views.path.now l.views.entries.now) (range_with_len l.cycle (l.to + 1 - l.cycle))
       ≡ string_bytes l.fn.text
-      ++ flat_map (view_of l.views.cells l.views.config.now l.views.page l.views.total l.views.steps.now l.views.last.now l.views.path.now
-      l.views.entries.now) (range_with_len l.from (l.to + 1 - l.from));
+      ++ flat_map (view_of l.views.cells l.views.config.now l.views.page l.views.total l.views.steps.now
+      l.views.last.now l.views.path.now l.views.entries.now) (range_with_len l.from (l.to + 1 - l.from));
   few : l.place ≤ length l.views.path.now;
   passed : All (λ k. nat_lt k.to l.cycle ≡ true) (take l.place l.views.path.now);
 }

@@ -9,5 +9,6 @@ abbrev pub invariant-loop-event : goal.invariant-loop-event
 invariant-loop-event g l =
     let cycle = l.view.cycle in
     let entries = l.view.entries.now in
-    string_bytes l.text ++ flat_map (event_text l.values.steps.now l.values.last.now cycle entries) (drop l.event-index l.events)
+    string_bytes l.text
+    ++ flat_map (event_text l.values.steps.now l.values.last.now cycle entries) (drop l.event-index l.events)
     ≡ string_bytes l.fn.text ++ flat_map (event_text l.values.steps.now l.values.last.now cycle entries) l.events

@@ -9,5 +9,6 @@ abbrev pub invariant-loop-entry : goal.invariant-loop-entry
 invariant-loop-entry g l =
     let cycle = l.view.cycle in
     let entries = l.view.entries.now in
-    string_bytes l.text ++ flat_map (item_if l.values.steps.now l.values.last.now cycle entries l.event) (drop l.entry-index entries)
+    string_bytes l.text
+    ++ flat_map (item_if l.values.steps.now l.values.last.now cycle entries l.event) (drop l.entry-index entries)
     ≡ string_bytes l.fn.text ++ flat_map (item_if l.values.steps.now l.values.last.now cycle entries l.event) entries
