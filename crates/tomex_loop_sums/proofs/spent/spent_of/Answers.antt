@@ -1,5 +1,5 @@
 -- Each list has what it is the sums of.
-use Rattle.std.proofs.Common.{◌∙◌, ap, arith, length, List, map}
+use Rattle.std.proofs.Common.{ℕ, ◌∙◌, ap, arith, length, List, map}
 use Rattle.std.proofs.lemmas.List.{length-map}
 use Rattle.tomex_rvexec.specs.declared.step.Step.{Step}
 use Rattle.tomex_stretches.specs.Accounts.{own_in}
@@ -10,6 +10,37 @@ use Rattle.tomex_loop_sums.proofs.spent.spent_of.Goals as goal
 pub sums_in_visits-requires-clause-few : goal.sums_in_visits-requires-clause-few
 sums_in_visits-requires-clause-few g c = rw (c.deref.ensures.value, c.in_ok-ones.ensures, c.steps.ensures)
     (let few = sum_ones c.args.run.now in omega (arith, few, c.requires.few))
+
+pub sums_in_visits-requires-clause-steps : goal.sums_in_visits-requires-clause-steps
+sums_in_visits-requires-clause-steps g c =
+    rw (c.deref.ensures.value, c.in_ok-ones.ensures, c.steps.ensures, length-map {B = ℕ} c.args.run.now (λ x. 1))
+    (omega (arith, c.requires.few))
+
+pub sums_in_visits-requires-clause-first : goal.sums_in_visits-requires-clause-first
+sums_in_visits-requires-clause-first g c =
+    rw (c.deref.ensures.value, c.in_ok-ones.ensures, c.steps.ensures, length-map {B = ℕ} c.args.run.now (λ x. 1))
+    c.requires.first
+
+pub sums_in_visits-requires-clause-ends : goal.sums_in_visits-requires-clause-ends
+sums_in_visits-requires-clause-ends g c =
+    rw (c.deref.ensures.value, c.in_ok-ones.ensures, c.steps.ensures, length-map {B = ℕ} c.args.run.now (λ x. 1))
+    c.requires.ends
+
+pub sums_in_visits-requires-2-clause-steps : goal.sums_in_visits-requires-2-clause-steps
+sums_in_visits-requires-2-clause-steps g c =
+    rw (c.deref-2.ensures.value, c.in_ok-own.ensures.many) (omega (arith, c.requires.few))
+
+pub sums_in_visits-requires-2-clause-few : goal.sums_in_visits-requires-2-clause-few
+sums_in_visits-requires-2-clause-few g c =
+    rw c.deref-2.ensures.value (omega (arith, c.in_ok-own.ensures.most, c.requires.few))
+
+pub sums_in_visits-requires-2-clause-first : goal.sums_in_visits-requires-2-clause-first
+sums_in_visits-requires-2-clause-first g c =
+    rw (c.deref-2.ensures.value, c.in_ok-own.ensures.many) c.requires.first
+
+pub sums_in_visits-requires-2-clause-ends : goal.sums_in_visits-requires-2-clause-ends
+sums_in_visits-requires-2-clause-ends g c =
+    rw (c.deref-2.ensures.value, c.in_ok-own.ensures.many) c.requires.ends
 
 pub accounts_of-requires-clause-keys : goal.accounts_of-requires-clause-keys
 accounts_of-requires-clause-keys g c = rw c.requires.keys

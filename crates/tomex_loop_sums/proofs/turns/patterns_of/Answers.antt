@@ -1,5 +1,5 @@
 -- The longest visit of a loop is one of those that have groups.
-use Rattle.std.proofs.Common.{ℕ, ◌<◌, ◌^◌, ◌∙◌, None, arith, get_or, length, map, sym}
+use Rattle.std.proofs.Common.{ℕ, ◌≡◌, ◌<◌, ◌^◌, ◌∙◌, None, arith, get_or, length, map, sym}
 use Rattle.std.specs.Option.{option_map}
 use Rattle.std.proofs.lemmas.List.{get_or_default, length-map}
 use Rattle.std.proofs.lemmas.List.Elements.{All-map}
@@ -13,6 +13,10 @@ use Rattle.tomex_loop_sums.proofs.turns.patterns_of.Goals as goal
 pub cycles_by-requires-clause-keys : goal.cycles_by-requires-clause-keys
 cycles_by-requires-clause-keys g c = rw (c.deref.ensures.value, c.in_ok-visits.ensures)
     (All-map (λ key. key < length c.args.loops.now) (λ r. r.visit) c.args.rounds.now c.requires.visits)
+
+pub cycles_by-requires-clause-pairs : goal.cycles_by-requires-clause-pairs
+cycles_by-requires-clause-pairs g c = rw (c.deref.ensures.value, c.in_ok-visits.ensures)
+    (length-map c.args.rounds.now _ ∙ sym c.requires.pairs)
 
 pub lengths_of-requires : goal.lengths_of-requires
 lengths_of-requires g c = rw (c.deref-2.ensures.value, c.in_ok-groups.ensures)
@@ -32,6 +36,11 @@ patterns_in-requires g c = rw (c.deref-4.ensures.value, c.deref-5.ensures.value)
     let is = c.in_ok-longest.ensures.longest n (omega (arith, l, c.in_ok-longest.ensures.count)) in
     rw (many, get_or_default c.in_ok-longest.longest.items n d None l) (longest_low c.args.loops.now
     c.deref-3.result.now n (get_or c.in_ok-longest.longest.items n None) is))
+
+pub returns-clause-count : goal.returns-clause-count
+returns-clause-count g c = IfOk-weaker c.patterns_in.result
+    (λ v. length v.items ≡ length c.deref-5.result.now) (λ v. length v.items ≡ c.args.count)
+    (λ v many. rw c.deref-5.ensures.value at many ∙ c.in_ok-longest.ensures.count) c.patterns_in.ensures.count
 
 pub returns-clause-patterns : goal.returns-clause-patterns
 returns-clause-patterns g c = IfOk-weaker c.patterns_in.result

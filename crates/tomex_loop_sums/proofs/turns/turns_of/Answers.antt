@@ -1,5 +1,5 @@
 -- The groups of the loops and of the visits say what is known of the rounds.
-use Rattle.std.proofs.Common.{ℕ, ◌≡◌, ◌<◌, ◌^◌, ◌∙◌, [], List, ap, arith, get_or, length, map}
+use Rattle.std.proofs.Common.{ℕ, ◌≡◌, ◌<◌, ◌^◌, ◌∙◌, [], List, ap, arith, get_or, length, map, sym}
 use Rattle.std.proofs.lemmas.List.{get_or-map, length-map}
 use Rattle.std.proofs.lemmas.List.Elements.{All-map}
 use Rattle.tomex_loop_sums.specs.ByLoop.{loops_of, round_cycles}
@@ -11,6 +11,30 @@ use Rattle.tomex_loop_sums.proofs.turns.turns_of.Goals as goal
 pub patterns_of-requires-clause-loops : goal.patterns_of-requires-clause-loops
 patterns_of-requires-clause-loops g c = rw (c.deref.ensures.value, c.in_ok-loops.ensures)
     (All-map (λ n. n < c.args.count) (λ v. v.number) c.args.visits.now c.requires.loops)
+
+pub patterns_of-requires-clause-visits : goal.patterns_of-requires-clause-visits
+patterns_of-requires-clause-visits g c =
+    rw (c.deref.ensures.value, c.in_ok-loops.ensures, length-map c.args.visits.now (λ v. v.number))
+    (λ k d l. (c.requires.rounds k d l).0)
+
+pub patterns_of-requires-clause-pairs : goal.patterns_of-requires-clause-pairs
+patterns_of-requires-clause-pairs g c =
+    rw (c.deref-2.ensures.value, c.in_ok-cycles.ensures) (length-map c.args.rounds.now _)
+
+pub patterns_of-requires-clause-few_visits : goal.patterns_of-requires-clause-few_visits
+patterns_of-requires-clause-few_visits g c =
+    rw (c.deref.ensures.value, c.in_ok-loops.ensures, length-map c.args.visits.now (λ v. v.number))
+    c.requires.few_visits
+
+pub round_loops-requires : goal.round_loops-requires
+round_loops-requires g c =
+    rw (c.deref-3.ensures.value, c.in_ok-loops.ensures, length-map c.args.visits.now (λ v. v.number))
+    (λ k d l. (c.requires.rounds k d l).0)
+
+pub cycles_by-requires-clause-pairs : goal.cycles_by-requires-clause-pairs
+cycles_by-requires-clause-pairs g c =
+    rw (c.deref-4.ensures.value, c.in_ok-keys.ensures, c.deref-5.ensures.value, c.in_ok-cycles.ensures)
+    (length-map c.args.rounds.now _ ∙ sym (length-map c.args.rounds.now _))
 
 pub cycles_by-requires-clause-keys : goal.cycles_by-requires-clause-keys
 cycles_by-requires-clause-keys g c =
