@@ -58,9 +58,11 @@ abbrev pub address_field : Option Symbol → List ℕ
 address_field None = codes "-"
 address_field (Some f) = hex8 f.address
 
+abbrev pub call_fields : Row → List (List ℕ)
+call_fields row = decimal row.calls ∷ fields_of_sum row.sum
+
 abbrev pub row_fields : List ℕ → Row → List (List ℕ)
-row_fields file row =
-    address_field row.function ∷ name_field file row.function ∷ decimal row.calls ∷ fields_of_sum row.sum
+row_fields file row = address_field row.function ∷ name_field file row.function ∷ call_fields row
 
 abbrev pub report_at : List ℕ → List Row → List Step → ℕ → List Visit → List ℕ
 report_at file rows calls drain visits =

@@ -21,10 +21,11 @@ use Rattle.tomex_functions.specs.declared.index.Index.{Index}
 use Rattle.tomex_functions.specs.declared.calls.Calls.{Calls}
 use Rattle.tomex_functions.specs.declared.rows.Listing.{Listing}
 use Rattle.tomex_functions.specs.declared.rows.Row.{Row}
-use Rattle.tomex_functions.specs.ByFunction.{AreRows, row_fields}
+use Rattle.tomex_functions.specs.ByFunction.{AreRows, address_field, row_fields}
 use Rattle.tomex_functions.specs.ByPlace.{function_fields}
 use Rattle.tomex_functions.specs.Calls.{calls_in, calls_of}
 use Rattle.tomex_functions.specs.Functions.{function_key, function_of}
+use Rattle.tomex_functions.specs.ShownNames.{name_field}
 
 -- the addresses of a run's steps, in order, and their functions
 pub record IsIndexOf {A : Type 0} (symbols : List Symbol) (steps : List Step) (index : Index A) : Type 0 where
@@ -62,6 +63,10 @@ pub record IsListing {A : Type 0} (symbols : List Symbol) (config : Configuratio
   pub last : listing.drain ≡ only_drain (drain (history config steps))
   pub all : listing.total ≡ with_drain (drain (history config steps)) (sum_of (visits_in config steps))
   pub calls : listing.calls ≡ length (calls_in symbols steps)
+
+-- the fields of a row, the last ones by what shows it
+abbrev pub fields_by : (Row → List (List ℕ)) → List ℕ → Row → List (List ℕ)
+fields_by shown file row = address_field row.function ∷ name_field file row.function ∷ shown row
 
 -- the fields of all steps
 abbrev pub total_fields : {A : Type 0} → Listing A → List (List ℕ)

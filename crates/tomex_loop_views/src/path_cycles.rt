@@ -8,7 +8,7 @@ ghost use Rattle.tomex_loop_views.specs.PathCycles.{PathCyclesAddUp, cycles_for,
 
 use std::alloc::{AllocError, Allocator};
 use tomex_path::{Link, Reason};
-use tomex_path_views::share_of;
+use tomex_path_views::{cycles_of, is_reason};
 use tomex_stretches::{Sums, sums_by_key};
 
 /// The cycles of a link, if it begins no earlier for this reason, and else 0.
@@ -16,11 +16,15 @@ fn cycles_if(link: &Link, reason: Reason) -> u64
     requires { IsShort link.now }
     ensures { result ≡ had_for reason cycles_of link.now }
 {
-    share_of(&[*link], reason).cycles
+    if is_reason(reason, link.reason) {
+        cycles_of(link)
+    } else {
+        0
+    }
 }
 
 /// The keys of the steps of a path's links, given those of all steps.
-fn keys_of_links<A: Allocator>(
+pub(crate) fn keys_of_links<A: Allocator>(
     alloc: A,
     keys: &[Option<u32>],
     links: &[Link],
@@ -51,8 +55,8 @@ fn link_cycles<A: Allocator>(
     Ok(cycles)
 }
 
-/// The cycles of a path's links that begin no earlier for a reason, by one of `count` keys or none of their steps.
-pub fn path_cycles_of<A: Allocator + Clone>(
+/// The cycles of a path's links that begin no earlier for a reason, by their keys: one of `count`, or none.
+pub(crate) fn path_cycles_of<A: Allocator + Clone>(
     alloc: A,
     keys: &[Option<u32>],
     count: usize,
@@ -60,13 +64,12 @@ pub fn path_cycles_of<A: Allocator + Clone>(
     reason: Reason,
 ) -> Result<Sums<A>, AllocError>
     requires short { AreShort links.now }
-    requires steps { All (λ l. (1 ≤ l.step) × (l.step ≤ length keys.now)) links.now }
+    requires pairs { length keys.now ≡ length links.now }
     requires keys { All (λ key. IfSome key (λ n. n < count)) keys.now }
-    ensures { IfOk result (λ s. AreSums count (map (key_of_link keys.now) links.now) (cycles_for reason links.now) s) }
+    ensures { IfOk result (λ s. AreSums count keys.now (cycles_for reason links.now) s) }
 {
-    let of_links = keys_of_links(alloc.clone()?, keys, links)?;
     let cycles = link_cycles(alloc.clone()?, links, reason)?;
-    sums_by_key(alloc, count, &of_links, &cycles)
+    sums_by_key(alloc, count, keys, &cycles)
 }
 
 /// For all reasons and keys together, these cycles are the path's.

@@ -6,12 +6,12 @@ ghost use Rattle.tomex_path.specs.declared.link.Link.{Link};
 ghost use Rattle.tomex_path.specs.declared.reason.Reason.{Reason};
 ghost use Rattle.tomex_path_views.specs.ByReason.{links_with};
 ghost use Rattle.tomex_path_views.specs.Shares.{AreShort, share_of};
-ghost use Rattle.tomex_stretches.specs.Cycles.{is_key};
+ghost use Rattle.tomex_stretches.specs.Cycles.{is_key, sum_where};
 ghost use Rattle.tomex_loop_views.specs.Charges.{charges_by, with_reason};
-ghost use Rattle.tomex_loop_views.specs.PathCycles.{sum_for};
+ghost use Rattle.tomex_loop_views.specs.PathCycles.{cycles_for, sum_for};
 
 use crate::charges::{Charge, add_reason};
-use crate::path_cycles::path_cycles_of;
+use crate::path_cycles::{keys_of_links, path_cycles_of};
 use std::alloc::{AllocError, Allocator};
 use tomex_loop_sums::no_groups;
 use tomex_path::{Link, Reason};
@@ -59,7 +59,7 @@ impl<A: Allocator + Clone> Paths<A> {
         })
     }
 
-    /// Adds the cycles of links that begin no earlier for a reason.
+    /// Adds the cycles of links that begin no earlier for a reason, given their keys.
     fn add(
         &mut self,
         alloc: A,
@@ -68,15 +68,15 @@ impl<A: Allocator + Clone> Paths<A> {
         reason: Reason,
     ) -> Result<(), AllocError>
         requires short { AreShort links.now }
-        requires steps { All (λ l. (1 ≤ l.step) × (l.step ≤ length keys.now)) links.now }
+        requires pairs { length keys.now ≡ length links.now }
         requires keys { All (λ key. IfSome key (λ n. n < length self.old.by_loop.items)) keys.now }
         ensures count { OnOk result (length self.new.by_loop.items ≡ length self.old.by_loop.items) }
         ensures by_loop { OnOk result ((n : ℕ) → n < length self.old.by_loop.items
             → slice_index_or (map (λ charges. charges.items) self.new.by_loop.items) n []
-            ≡ with_reason reason (sum_for reason (is_key n) keys.now links.now)
+            ≡ with_reason reason (sum_where (is_key n) keys.now (cycles_for reason links.now))
             (slice_index_or (map (λ charges. charges.items) self.old.by_loop.items) n [])) }
         ensures outside { OnOk result (self.new.outside.items
-            ≡ with_reason reason (sum_for reason is_none keys.now links.now) self.old.outside.items) }
+            ≡ with_reason reason (sum_where is_none keys.now (cycles_for reason links.now)) self.old.outside.items) }
         ensures total { OnOk result (self.new.total.items
             ≡ with_reason reason (share_of (links_with reason links.now)).cycles self.old.total.items) }
     {
@@ -106,6 +106,8 @@ pub(crate) fn paths_of<A: Allocator + Clone>(
     ensures total { IfOk result (λ p. p.total.items
         ≡ charges_by (λ reason. (share_of (links_with reason links.now)).cycles)) }
 {
+    let of_links = keys_of_links(alloc.clone()?, keys, links)?;
+    let keys = of_links.as_slice();
     let mut paths = Paths::none(alloc.clone()?, count)?;
     for reason in REASONS {
         paths.add(alloc.clone()?, keys, links, reason)?;

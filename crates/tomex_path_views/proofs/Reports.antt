@@ -20,11 +20,11 @@ use Rattle.tomex_path.specs.declared.link.Link.{Link}
 use Rattle.tomex_path.specs.Path.{path_of}
 use Rattle.tomex_path_views.specs.ByFunction.{IsPathByFunction, IsPathByPlace, IsPathLinks, report_of_sums}
 use Rattle.tomex_path_views.specs.ByLink.{report_by_link}
-use Rattle.tomex_path_views.specs.ByPlace.{IsPlacesWith, group_fields, place_record, report_at, report_of_tally}
+use Rattle.tomex_path_views.specs.ByPlace.{IsPlacesWith, place_record, report_at, report_of_tally}
 use Rattle.tomex_path_views.specs.Charges.{charge_columns, charge_fields, path_visits, visits_along}
 use Rattle.tomex_path_views.proofs.Visits.{visits_have}
 use Rattle.tomex_run_views.specs.ByPlace.{Visit, dashes, pc_of}
-use Rattle.tomex_run_views.specs.Tally.{IsTally, group_of}
+use Rattle.tomex_run_views.specs.Tally.{IsTally, group_of, place_fields}
 use Rattle.tomex_run_views.specs.declared.tally.Group.{Group}
 use Rattle.tomex_run_views.specs.declared.tally.Sum.{Sum}
 use Rattle.tomex_run_views.specs.declared.tally.Tally.{Tally}
@@ -34,16 +34,16 @@ use Rattle.tomex_symbols.specs.declared.symbol.Symbol.{Symbol}
 
 -- a place's record is that of its visits
 record_is : (own : Step → List (List ℕ)) (vs : List Visit) (place : Group) → group_of vs ≡ Some place
-    → record_text (group_fields own place) ≡ place_record own vs
+    → record_text (place_fields own charge_fields place) ≡ place_record own vs
 record_is own [] place is = absurd (cc)
 record_is own (v ∷ vs) place is =
-    ap (λ (o : Option Group). option_map_or (λ p. record_text (group_fields own p)) o []) (sym is)
+    ap (λ (o : Option Group). option_map_or (λ p. record_text (place_fields own charge_fields p)) o []) (sym is)
 
 module _ {A : Type 0} (names : List (List ℕ)) (own : Step → List (List ℕ)) (visits : List Visit) (tally : Tally A)
     (is : IsTally pc_of visits tally) (ordered : IsOrdered nat_cmp tally.groups) where
   report_is : report_of_tally names own tally ≡ report_at names own (keys tally.groups) visits
   report_is =
-      let places = shown_are pc_of visits tally is ordered (λ place. record_text (group_fields own place))
+      let places = shown_are pc_of visits tally is ordered (λ place. record_text (place_fields own charge_fields place))
       (place_record own) tally.groups.entries (entry_is pc_of visits tally is ordered) (record_is own) in
       ap₂ (λ (a : List ℕ) (s : Sum). record_text (codes "pc" ∷ codes "instr" ∷ names ++ charge_columns)
       ++ (a ++ record_text (codes "total" ∷ codes "-" ∷ dashes names ++ charge_fields s))) places is.all

@@ -10,8 +10,7 @@ use Rattle.tomex_config.specs.Configuration.{Configuration}
 use Rattle.tomex_layout.specs.Csv.{record_text}
 use Rattle.tomex_path_views.specs.Charges.{charge_columns, charge_fields, path_visits}
 use Rattle.tomex_run_views.specs.ByPlace.{ArePlaces, Visit, dashes, visits_at}
-use Rattle.tomex_run_views.specs.Tally.{sum_of}
-use Rattle.tomex_run_views.specs.declared.tally.Group.{Group}
+use Rattle.tomex_run_views.specs.Tally.{place_fields, sum_of}
 use Rattle.tomex_run_views.specs.declared.tally.Tally.{Tally}
 
 -- the record of the links at one address, which all have one instruction
@@ -37,14 +36,9 @@ IsPlacesWith names own config steps text =
 abbrev pub IsPathByPlace : Configuration → List Step → List ℕ → Type 0
 IsPathByPlace config steps text = IsPlacesWith [] (λ step. []) config steps text
 
--- the fields of an address, of which some links were counted
-abbrev pub group_fields : (Step → List (List ℕ)) → Group → List (List ℕ)
-group_fields own place =
-    hex8 place.first.pc ∷ instr_text place.first.instr ∷ own place.first ++ charge_fields place.sum
-
 -- the report of what was counted by address
 abbrev pub report_of_tally : {A : Type 0} → List (List ℕ) → (Step → List (List ℕ)) → Tally A → List ℕ
 report_of_tally names own tally =
     record_text (codes "pc" ∷ codes "instr" ∷ names ++ charge_columns)
-    ++ (flat_map (λ place. record_text (group_fields own place)) (values tally.groups)
+    ++ (flat_map (λ place. record_text (place_fields own charge_fields place)) (values tally.groups)
     ++ record_text (codes "total" ∷ codes "-" ∷ dashes names ++ charge_fields tally.all))

@@ -1,31 +1,26 @@
 //! A run's path by function.
 
-ghost use Rattle.std.specs.Prelude.{◌≡◌, ◌++◌, ◌∷◌, [], All, IfOk, List, OnOk, codes, map};
+ghost use Rattle.std.specs.Prelude.{◌≡◌, [], All, IfOk, List, OnOk, map};
 ghost use Rattle.std.specs.BTreeMap.{IsOrdered, values};
-ghost use Rattle.std.specs.List.{flat_map};
 ghost use Rattle.std.specs.Ordering.{nat_cmp};
-ghost use Rattle.csv.specs.Records.{fields_of};
 ghost use Rattle.tomex_rvexec.specs.Run.{start_of};
 ghost use Rattle.tomex_rvexec.specs.Trace.{steps_from};
 ghost use Rattle.tomex_rvexec.specs.declared.step.Step.{Step};
-ghost use Rattle.tomex_layout.specs.Csv.{IsReady, record_text};
+ghost use Rattle.tomex_layout.specs.Csv.{IsReady};
 ghost use Rattle.tomex_layout.specs.Growth.{Writes};
 ghost use Rattle.tomex_functions.specs.Kept.{HasAddress, IsIndexOf, row_of_group};
 ghost use Rattle.tomex_functions.specs.WithFunctions.{IsWithFunctions};
-ghost use Rattle.tomex_path_views.specs.ByFunction.{IsPathByFunction, report_of_sums, row_fields};
-ghost use Rattle.tomex_path_views.specs.Charges.{charge_columns, charge_fields};
+ghost use Rattle.tomex_path_views.specs.ByFunction.{IsPathByFunction, report_of_sums};
 ghost use Rattle.tomex_symbols.specs.declared.symbol.Symbol.{Symbol};
 
-use crate::charges::{CHARGE_COLUMNS, count_links, push_charges};
-use csv::{ByteRecord, Writer};
+use crate::charges::{ChargeColumns, count_links};
+use csv::Writer;
 use std::alloc::{AllocError, Allocator, Global};
 use tomex_config::Config;
-use tomex_functions::{
-    FunctionsError, Index, Row, keys_of, push_address, push_function, sort_rows,
-};
-use tomex_layout::{into_text, push_names, put_record};
+use tomex_functions::{FunctionsError, Index, Row, keys_of, put_rows, sort_rows};
+use tomex_layout::into_text;
 use tomex_path::path;
-use tomex_run_views::{Sum, Tally};
+use tomex_run_views::{Sum, Tally, put_columns, put_sum};
 use tomex_study::Program;
 use tomex_symbols::{has_symbols, symbols};
 
@@ -51,88 +46,6 @@ fn rows_of<A: Allocator + Clone>(
     Ok(rows)
 }
 
-/// Makes a record the one of a function.
-fn fill_row(
-    fields: &mut ByteRecord,
-    scratch: &mut String,
-    heap: Global,
-    file: &[u8],
-    row: &Row,
-) -> Result<(), AllocError>
-    ensures { OnOk result (fields_of fields.new ≡ row_fields file.now row.now) }
-{
-    fields.clear();
-    push_address(fields, scratch, &row.function)?;
-    push_function(fields, heap, file, &row.function)?;
-    push_charges(fields, scratch, &row.sum)
-}
-
-/// Writes the record of a function.
-fn put_row<A: Allocator>(
-    writer: &mut Writer<Vec<u8, A>>,
-    record: &mut ByteRecord,
-    scratch: &mut String,
-    heap: Global,
-    file: &[u8],
-    row: &Row,
-) -> Result<(), AllocError>
-    requires ready { IsReady writer.old }
-    ensures ready { OnOk result (IsReady writer.new) }
-    ensures text { OnOk result (Writes (record_text (row_fields file.now row.now)) writer.old writer.new) }
-{
-    fill_row(record, scratch, heap, file, row)?;
-    put_record(writer, record)
-}
-
-/// Writes the records of the functions.
-fn put_rows<A: Allocator>(
-    writer: &mut Writer<Vec<u8, A>>,
-    heap: Global,
-    file: &[u8],
-    rows: &[Row],
-) -> Result<(), AllocError>
-    requires ready { IsReady writer.old }
-    ensures ready { OnOk result (IsReady writer.new) }
-    ensures text { OnOk result (
-        Writes (flat_map (λ row. record_text (row_fields file.now row)) rows.now) writer.old writer.new) }
-{
-    let mut record = ByteRecord::new(heap);
-    let mut scratch = String::new(heap);
-    for row in rows {
-        put_row(writer, &mut record, &mut scratch, heap, file, row)?;
-    }
-    Ok(())
-}
-
-/// Writes the names of the columns.
-fn put_header<A: Allocator>(writer: &mut Writer<Vec<u8, A>>, heap: Global) -> Result<(), AllocError>
-    requires ready { IsReady writer.old }
-    ensures ready { OnOk result (IsReady writer.new) }
-    ensures text { OnOk result (Writes
-        (record_text (codes "pc" ∷ codes "function" ∷ charge_columns)) writer.old writer.new) }
-{
-    let mut record = ByteRecord::new(heap);
-    push_names(&mut record, &["pc", "function"])?;
-    push_names(&mut record, &CHARGE_COLUMNS)?;
-    put_record(writer, &record)
-}
-
-/// Writes the record of all links.
-fn put_total<A: Allocator>(
-    writer: &mut Writer<Vec<u8, A>>,
-    heap: Global,
-    all: &Sum,
-) -> Result<(), AllocError>
-    requires { IsReady writer.old }
-    ensures { OnOk result (Writes
-        (record_text (codes "total" ∷ codes "-" ∷ charge_fields all.now)) writer.old writer.new) }
-{
-    let mut record = ByteRecord::new(heap);
-    push_names(&mut record, &["total", "-"])?;
-    push_charges(&mut record, &mut String::new(heap), all)?;
-    put_record(writer, &record)
-}
-
 /// Writes the report of these rows.
 fn put_report<A: Allocator>(
     writer: &mut Writer<Vec<u8, A>>,
@@ -144,9 +57,9 @@ fn put_report<A: Allocator>(
     requires { IsReady writer.old }
     ensures { OnOk result (Writes (report_of_sums file.now rows.now all.now) writer.old writer.new) }
 {
-    put_header(writer, heap)?;
-    put_rows(writer, heap, file, rows)?;
-    put_total(writer, heap, all)
+    put_columns(writer, heap, &["pc", "function"], &ChargeColumns)?;
+    put_rows(writer, heap, file, &ChargeColumns, rows)?;
+    put_sum(writer, heap, &["total", "-"], &ChargeColumns, all)
 }
 
 /// The report of these rows.

@@ -4,7 +4,8 @@ ghost use Rattle.std.specs.Prelude.{◌≡◌, ◌≤◌, ◌++◌, [], ℕ, IfO
 ghost use Rattle.csv.specs.Records.{fields_of, partial_of};
 ghost use Rattle.tomex_rvexec.specs.declared.step.Step.{Step};
 ghost use Rattle.tomex_path.specs.Laws.{cycles_of};
-ghost use Rattle.tomex_path_views.specs.Charges.{AreOfSteps, charge_fields, charged, order_of, visits_along};
+ghost use Rattle.tomex_path_views.specs.Charges.{AreOfSteps, charge_columns, charge_fields, charged, order_of};
+ghost use Rattle.tomex_path_views.specs.Charges.{visits_along};
 ghost use Rattle.tomex_path_views.specs.Shares.{AreShort, IsShort};
 ghost use Rattle.tomex_run_views.specs.Tally.{IsTally};
 
@@ -12,13 +13,15 @@ use crate::shares::cycles_of;
 use csv::ByteRecord;
 use std::alloc::{AllocError, Allocator};
 use tomex_config::Part;
+use tomex_functions::{Row, RowColumns};
+use tomex_layout::push_names;
 use tomex_path::{Link, Reason};
-use tomex_run_views::{Sum, Tally, push_decimals};
+use tomex_run_views::{Sum, SumColumns, Tally, push_decimals};
 use tomex_rvexec::Step;
 use tomex_timing::Waits;
 
 /// The names of the columns of sums.
-pub const CHARGE_COLUMNS: [&str; 11] = [
+const CHARGE_COLUMNS: [&str; 11] = [
     "links", "cycles", "order", "branch", "width", "station", "operand", "address", "memory",
     "unit", "bus",
 ];
@@ -86,11 +89,7 @@ fn order_of(sum: &Sum) -> u64
 }
 
 /// Adds how many links there are, how many cycles are theirs, and to what these are charged.
-pub fn push_charges(
-    fields: &mut ByteRecord,
-    scratch: &mut String,
-    sum: &Sum,
-) -> Result<(), AllocError>
+fn push_charges(fields: &mut ByteRecord, scratch: &mut String, sum: &Sum) -> Result<(), AllocError>
     requires { partial_of fields.old ≡ [] }
     ensures fields { OnOk result (fields_of fields.new ≡ fields_of fields.old ++ charge_fields sum.now) }
     ensures whole { OnOk result (partial_of fields.new ≡ []) }
@@ -110,4 +109,40 @@ pub fn push_charges(
         waits.bus,
     ];
     push_decimals(fields, scratch, &numbers)
+}
+
+/// How many links there are, how many cycles are theirs, and to what these are charged.
+#[derive(Clone, Copy, Drop)]
+pub struct ChargeColumns;
+
+impl SumColumns for ChargeColumns {
+    ghost names = { charge_columns };
+
+    ghost shown = { charge_fields };
+
+    fn push_names(&self, fields: &mut ByteRecord) -> Result<(), AllocError> {
+        push_names(fields, &CHARGE_COLUMNS)
+    }
+
+    fn push_sum(
+        &self,
+        fields: &mut ByteRecord,
+        scratch: &mut String,
+        sum: &Sum,
+    ) -> Result<(), AllocError> {
+        push_charges(fields, scratch, sum)
+    }
+}
+
+impl RowColumns for ChargeColumns {
+    ghost shown = { λ row. charge_fields row.sum };
+
+    fn push_row(
+        &self,
+        fields: &mut ByteRecord,
+        scratch: &mut String,
+        row: &Row,
+    ) -> Result<(), AllocError> {
+        push_charges(fields, scratch, &row.sum)
+    }
 }

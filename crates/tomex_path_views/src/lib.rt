@@ -15,5 +15,5 @@ pub use by_function::path_by_function;
 pub use by_link::path_links;
 pub use by_place::path_by_pc;
 pub use by_reason::{REASONS, path_report, push_name_of_reason};
-pub use shares::{Share, share_of};
+pub use shares::{Share, cycles_of, is_reason, share_of};
 pub use with_functions::{path_by_pc_and_function, path_links_and_functions};

@@ -42,7 +42,7 @@ fn is_part(part: Part, of: Part) -> bool
 }
 
 /// True if a reason is this one.
-fn is_reason(reason: Reason, of: Reason) -> bool
+pub fn is_reason(reason: Reason, of: Reason) -> bool
     ensures { result ≡ is_reason reason of }
 {
     match (reason, of) {

@@ -94,16 +94,16 @@ module _ {A : Type 0} (names : List (List ℕ)) (own : Step → List (List ℕ))
     (ordered : IsOrdered nat_cmp counted.tally.groups) where
   -- a place's record is that of its visits
   record_is : (vs : List Visit) (place : Group) → group_of vs ≡ Some place
-      → record_text (place_fields own place) ≡ place_record own vs
+      → record_text (place_fields own fields_of_sum place) ≡ place_record own vs
   record_is [] place is = absurd (cc)
   record_is (v ∷ vs) place is =
-      ap (λ (o : Option Group). option_map_or (λ p. record_text (place_fields own p)) o []) (sym is)
+      ap (λ (o : Option Group). option_map_or (λ p. record_text (place_fields own fields_of_sum p)) o []) (sym is)
 
   report_is : report_of_counted names own counted
       ≡ report_at names own (keys counted.tally.groups) (drain (history config steps)) (visits_in config steps)
   report_is =
       let places = shown_are pc_of (visits_in config steps) counted.tally is.tally ordered
-      (λ place. record_text (place_fields own place)) (place_record own) counted.tally.groups.entries
+      (λ place. record_text (place_fields own fields_of_sum place)) (place_record own) counted.tally.groups.entries
       (entry_is pc_of (visits_in config steps) counted.tally is.tally ordered) record_is in
       ap₂ (λ (a b : List ℕ). record_text (codes "pc" ∷ codes "instr" ∷ names ++ sum_columns) ++ (a ++ b)) places
       (ap₂ (λ (n : ℕ) (s : Sum).

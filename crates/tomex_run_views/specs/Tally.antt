@@ -101,16 +101,16 @@ with_drain drain sum = record sum { cycles = sum.cycles + drain }
 abbrev pub only_drain : ℕ → Sum
 only_drain drain = record no_sum { cycles = drain }
 
--- the fields of an address, those of more columns before its sums
-abbrev pub place_fields : (Step → List (List ℕ)) → Group → List (List ℕ)
-place_fields own place =
-    hex8 place.first.pc ∷ instr_text place.first.instr ∷ own place.first ++ fields_of_sum place.sum
+-- the fields of an address: those of more columns, and those of its sum
+abbrev pub place_fields : (Step → List (List ℕ)) → (Sum → List (List ℕ)) → Group → List (List ℕ)
+place_fields own shown place =
+    hex8 place.first.pc ∷ instr_text place.first.instr ∷ own place.first ++ shown place.sum
 
 -- the report of what was counted by address
 abbrev pub report_of_counted : {A : Type 0} → List (List ℕ) → (Step → List (List ℕ)) → Counted A → List ℕ
 report_of_counted names own counted =
     record_text (codes "pc" ∷ codes "instr" ∷ names ++ sum_columns)
-    ++ (flat_map (λ place. record_text (place_fields own place)) (values counted.tally.groups)
+    ++ (flat_map (λ place. record_text (place_fields own fields_of_sum place)) (values counted.tally.groups)
     ++ (record_text (codes "drain" ∷ codes "-" ∷ dashes names ++ fields_of_sum (only_drain counted.drain))
     ++ record_text
     (codes "total" ∷ codes "-" ∷ dashes names ++ fields_of_sum (with_drain counted.drain counted.tally.all))))

@@ -1,138 +1,26 @@
 //! The stalls report by place in the program.
 
-ghost use Rattle.std.specs.Prelude.{◌≡◌, ◌≤◌, ◌^◌, ◌++◌, ◌∷◌, [], ℕ, All, IfOk, List, OnOk, codes, map};
+ghost use Rattle.std.specs.Prelude.{◌≡◌, ◌≤◌, ◌^◌, ◌++◌, ◌∷◌, [], ℕ, All, IfOk, List, OnOk, map};
 ghost use Rattle.std.specs.BTreeMap.{IsOrdered, values};
 ghost use Rattle.std.specs.Ordering.{nat_cmp};
-ghost use Rattle.std.specs.List.{flat_map};
-ghost use Rattle.csv.specs.Records.{fields_of, partial_of};
 ghost use Rattle.tomex_rvexec.specs.Run.{start_of};
 ghost use Rattle.tomex_rvexec.specs.Trace.{steps_from};
 ghost use Rattle.tomex_rvexec.specs.declared.step.Step.{Step};
-ghost use Rattle.tomex_layout.specs.Csv.{IsReady, record_text};
+ghost use Rattle.tomex_layout.specs.Csv.{IsReady};
 ghost use Rattle.tomex_layout.specs.Growth.{Writes};
-ghost use Rattle.tomex_run_views.specs.ByPlace.{IsReportByPlace, dashes, pc_of, sum_columns};
-ghost use Rattle.tomex_run_views.specs.Tally.{fields_of_sum, place_fields, report_of_counted};
+ghost use Rattle.tomex_run_views.specs.ByPlace.{IsReportByPlace, pc_of};
+ghost use Rattle.tomex_run_views.specs.Tally.{report_of_counted};
 
-use crate::columns::{SUM_COLUMNS, push_sum};
 use crate::counted::{Counted, count_run};
+use crate::places::{put_header, put_last, put_places};
 use crate::step_columns::{NoColumns, StepColumns};
-use crate::tally::{Group, Sum, Tally};
-use csv::{ByteRecord, Writer};
+use crate::sum_columns::WaitColumns;
+use csv::Writer;
 use std::alloc::{AllocError, Allocator, Global};
 use tomex_config::Config;
-use tomex_layout::{into_text, push_instruction, push_names, put_record};
+use tomex_layout::into_text;
 use tomex_rvexec::Step;
 use tomex_study::Program;
-
-/// Makes a record the one of an address.
-fn fill_place<C: StepColumns>(
-    fields: &mut ByteRecord,
-    scratch: &mut String,
-    heap: Global,
-    columns: &C,
-    place: &Group,
-) -> Result<(), AllocError>
-    ensures { OnOk result ((own : Step → List (List ℕ)) → C.shows columns.now place.now.first (own place.now.first)
-        → fields_of fields.new ≡ place_fields own place.now) }
-{
-    fields.clear();
-    push_instruction(fields, scratch, place.first.pc, place.first.instr)?;
-    columns.push_fields(fields, heap, &place.first)?;
-    push_sum(fields, scratch, &place.sum)
-}
-
-/// Writes the record of an address.
-fn put_place<A: Allocator, C: StepColumns>(
-    writer: &mut Writer<Vec<u8, A>>,
-    record: &mut ByteRecord,
-    scratch: &mut String,
-    heap: Global,
-    columns: &C,
-    place: &Group,
-) -> Result<(), AllocError>
-    requires ready { IsReady writer.old }
-    ensures ready { OnOk result (IsReady writer.new) }
-    ensures text { OnOk result ((own : Step → List (List ℕ)) → C.shows columns.now place.now.first (own place.now.first)
-        → Writes (record_text (place_fields own place.now)) writer.old writer.new) }
-{
-    fill_place(record, scratch, heap, columns, place)?;
-    put_record(writer, record)
-}
-
-/// Writes the records of the addresses, in ascending order.
-fn put_places<A: Allocator, C: StepColumns>(
-    writer: &mut Writer<Vec<u8, A>>,
-    heap: Global,
-    columns: &C,
-    tally: &Tally<A>,
-) -> Result<(), AllocError>
-    requires ready { IsReady writer.old }
-    ensures ready { OnOk result (IsReady writer.new) }
-    ensures text { OnOk result ((own : Step → List (List ℕ))
-        → All (λ place. C.shows columns.now place.first (own place.first)) (values tally.now.groups)
-        → Writes (flat_map (λ place. record_text (place_fields own place)) (values tally.now.groups)) writer.old
-        writer.new) }
-    ensures order { OnOk result (IsOrdered nat_cmp tally.now.groups) }
-{
-    let mut record = ByteRecord::new(heap);
-    let mut scratch = String::new(heap);
-    for place in tally.groups.values() {
-        put_place(writer, &mut record, &mut scratch, heap, columns, place)?;
-    }
-    Ok(())
-}
-
-/// Writes the names of the columns, of which these are additional ones.
-fn put_header<A: Allocator>(
-    writer: &mut Writer<Vec<u8, A>>,
-    heap: Global,
-    names: &[&str],
-) -> Result<(), AllocError>
-    requires ready { IsReady writer.old }
-    ensures ready { OnOk result (IsReady writer.new) }
-    ensures text { OnOk result (Writes
-        (record_text (codes "pc" ∷ codes "instr" ∷ map (λ n. n.now) names.now ++ sum_columns)) writer.old writer.new) }
-{
-    let mut record = ByteRecord::new(heap);
-    push_names(&mut record, &["pc", "instr"])?;
-    push_names(&mut record, names)?;
-    push_names(&mut record, &SUM_COLUMNS)?;
-    put_record(writer, &record)
-}
-
-/// Adds a dash for each of these columns.
-pub fn push_dashes(fields: &mut ByteRecord, names: &[&str]) -> Result<(), AllocError>
-    requires { partial_of fields.old ≡ [] }
-    ensures fields { OnOk result (fields_of fields.new
-        ≡ fields_of fields.old ++ dashes (map (λ n. n.now) names.now)) }
-    ensures whole { OnOk result (partial_of fields.new ≡ []) }
-{
-    for _name in names {
-        fields.push_field(b"-")?;
-    }
-    Ok(())
-}
-
-/// Writes the record of a sum that isn't of a place.
-fn put_last<A: Allocator>(
-    writer: &mut Writer<Vec<u8, A>>,
-    heap: Global,
-    title: &str,
-    names: &[&str],
-    sum: &Sum,
-) -> Result<(), AllocError>
-    requires ready { IsReady writer.old }
-    ensures ready { OnOk result (IsReady writer.new) }
-    ensures text { OnOk result (Writes
-        (record_text (title.now ∷ codes "-" ∷ dashes (map (λ n. n.now) names.now) ++ fields_of_sum sum.now))
-        writer.old writer.new) }
-{
-    let mut record = ByteRecord::new(heap);
-    push_names(&mut record, &[title, "-"])?;
-    push_dashes(&mut record, names)?;
-    push_sum(&mut record, &mut String::new(heap), sum)?;
-    put_record(writer, &record)
-}
 
 /// Writes the report of what was counted.
 fn put_counted<A: Allocator, C: StepColumns>(
@@ -150,10 +38,11 @@ fn put_counted<A: Allocator, C: StepColumns>(
         → Writes (report_of_counted (map (λ n. n.now) names.now) own counted.now) writer.old writer.new) }
     ensures order { OnOk result (IsOrdered nat_cmp counted.now.tally.groups) }
 {
-    put_header(writer, heap, names)?;
-    put_places(writer, heap, columns, &counted.tally)?;
-    put_last(writer, heap, "drain", names, &counted.only_drain())?;
-    put_last(writer, heap, "total", names, &counted.total())
+    put_header(writer, heap, names, &WaitColumns)?;
+    put_places(writer, heap, columns, &WaitColumns, &counted.tally)?;
+    let drain = counted.only_drain();
+    put_last(writer, heap, "drain", names, &WaitColumns, &drain)?;
+    put_last(writer, heap, "total", names, &WaitColumns, &counted.total())
 }
 
 /// The report by place of steps that were counted by address, with more columns of these names.

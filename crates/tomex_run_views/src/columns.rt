@@ -3,37 +3,17 @@
 ghost use Rattle.std.specs.Prelude.{◌≡◌, ◌++◌, [], OnOk, map};
 ghost use Rattle.std.specs.Fmt.{decimal};
 ghost use Rattle.csv.specs.Records.{fields_of, partial_of};
-ghost use Rattle.tomex_layout.specs.Csv.{IsReady, record_text};
-ghost use Rattle.tomex_layout.specs.Growth.{Writes};
-ghost use Rattle.tomex_run_views.specs.ByPlace.{sum_columns};
 ghost use Rattle.tomex_run_views.specs.Tally.{fields_of_sum};
 
 use crate::tally::Sum;
-use csv::{ByteRecord, Writer};
-use std::alloc::{AllocError, Allocator, Global};
-use tomex_layout::{push_decimal, push_names, put_record};
+use csv::ByteRecord;
+use std::alloc::AllocError;
+use tomex_layout::push_decimal;
 
 /// The names of the columns of a sum.
 pub const SUM_COLUMNS: [&str; 10] = [
     "steps", "cycles", "branch", "width", "station", "operand", "address", "memory", "unit", "bus",
 ];
-
-/// Writes the names of the columns, of which the last ones are those of a sum.
-pub fn put_columns<A: Allocator>(
-    writer: &mut Writer<Vec<u8, A>>,
-    heap: Global,
-    names: &[&str],
-) -> Result<(), AllocError>
-    requires ready { IsReady writer.old }
-    ensures ready { OnOk result (IsReady writer.new) }
-    ensures text { OnOk result (
-        Writes (record_text (map (λ n. n.now) names.now ++ sum_columns)) writer.old writer.new) }
-{
-    let mut record = ByteRecord::new(heap);
-    push_names(&mut record, names)?;
-    push_names(&mut record, &SUM_COLUMNS)?;
-    put_record(writer, &record)
-}
 
 /// Adds a field of decimal digits for each of these numbers.
 pub fn push_decimals(
@@ -72,22 +52,4 @@ pub fn push_sum(fields: &mut ByteRecord, scratch: &mut String, sum: &Sum) -> Res
         waits.bus,
     ];
     push_decimals(fields, scratch, &numbers)
-}
-
-/// Writes a record of some names and a sum.
-pub fn put_sum<A: Allocator>(
-    writer: &mut Writer<Vec<u8, A>>,
-    heap: Global,
-    names: &[&str],
-    sum: &Sum,
-) -> Result<(), AllocError>
-    requires ready { IsReady writer.old }
-    ensures ready { OnOk result (IsReady writer.new) }
-    ensures text { OnOk result (
-        Writes (record_text (map (λ n. n.now) names.now ++ fields_of_sum sum.now)) writer.old writer.new) }
-{
-    let mut record = ByteRecord::new(heap);
-    push_names(&mut record, names)?;
-    push_sum(&mut record, &mut String::new(heap), sum)?;
-    put_record(writer, &record)
 }

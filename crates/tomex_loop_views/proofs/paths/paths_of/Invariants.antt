@@ -13,9 +13,9 @@ abbrev pub invariant-loop-reason : goal.invariant-loop-reason
 invariant-loop-reason g l = record {
   count : length l.paths.by_loop.items ≡ l.count;
   by_loop : (n : ℕ) → n < l.count → slice_index_or (map (λ charges. charges.items) l.paths.by_loop.items) n []
-      ≡ with_reasons (λ reason. sum_for reason (is_key n) l.keys l.links) (take l.reason-index all_reasons) [];
+      ≡ with_reasons (λ reason. sum_for reason (is_key n) l.fn.keys l.links) (take l.reason-index all_reasons) [];
   outside : l.paths.outside.items
-      ≡ with_reasons (λ reason. sum_for reason is_none l.keys l.links) (take l.reason-index all_reasons) [];
+      ≡ with_reasons (λ reason. sum_for reason is_none l.fn.keys l.links) (take l.reason-index all_reasons) [];
   total : l.paths.total.items
       ≡ with_reasons (λ reason. (share_of (links_with reason l.links)).cycles) (take l.reason-index all_reasons) [];
 }

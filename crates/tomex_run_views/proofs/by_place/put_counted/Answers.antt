@@ -7,5 +7,5 @@ pub returns-clause-text : goal.returns-clause-text
 returns-clause-text g c =
     on_ok_weaker c.put_last-2.result (λ last own shows.
     (c.in_ok-put_header.ensures.text ▸ c.in_ok-put_places.ensures.text own shows
-    ▸ (rw c.only_drain.ensures at c.in_ok-put_last.ensures.text) ▸ last_piece (rw c.total.ensures at last)).is)
+    ▸ (rw c.only_drain-drain.ensures at c.in_ok-put_last.ensures.text) ▸ last_piece (rw c.total.ensures at last)).is)
     c.put_last-2.ensures.text

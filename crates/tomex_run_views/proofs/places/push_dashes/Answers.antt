@@ -4,7 +4,7 @@ use Rattle.std.proofs.Common.{map, take}
 use Rattle.std.proofs.lemmas.List.{map-append, take_more}
 use Rattle.csv.specs.Records.{fields_of}
 use Rattle.tomex_run_views.specs.ByPlace.{dashes}
-use Rattle.tomex_run_views.proofs.by_place.push_dashes.Goals as goal
+use Rattle.tomex_run_views.proofs.places.push_dashes.Goals as goal
 
 -- of one name more
 one_dash : {X : Type 0} (f : X → List ℕ) (xs : List X) (i : ℕ) → i < length xs

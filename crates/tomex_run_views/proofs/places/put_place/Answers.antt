@@ -1,6 +1,6 @@
 -- The record's fields are those of the place.
 use Rattle.std.proofs.lemmas.Result.{on_ok_weaker}
-use Rattle.tomex_path_views.proofs.by_place.put_place.Goals as goal
+use Rattle.tomex_run_views.proofs.places.put_place.Goals as goal
 
 pub returns-clause-text : goal.returns-clause-text
 returns-clause-text g c =

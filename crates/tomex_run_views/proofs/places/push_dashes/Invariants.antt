@@ -2,7 +2,7 @@
 use Rattle.std.proofs.Common.{◌≡◌, ◌++◌, [], map, take}
 use Rattle.csv.specs.Records.{fields_of, partial_of}
 use Rattle.tomex_run_views.specs.ByPlace.{dashes}
-use Rattle.tomex_run_views.proofs.by_place.push_dashes.Given as goal
+use Rattle.tomex_run_views.proofs.places.push_dashes.Given as goal
 
 abbrev pub invariant-loop-name : goal.invariant-loop-name
 invariant-loop-name l = record {

@@ -1,8 +1,7 @@
 -- The record's fields are the names.
 use Rattle.std.proofs.Common.{◌≡◌, ◌∙◌, ap, map, ℕ, List, [], ◌∷◌, ◌++◌, codes}
 use Rattle.csv.specs.Records.{fields_of}
-use Rattle.tomex_path_views.specs.Charges.{charge_columns}
-use Rattle.tomex_path_views.proofs.by_place.put_header.Goals as goal
+use Rattle.tomex_run_views.proofs.places.put_header.Goals as goal
 
 pub returns-clause-text : goal.returns-clause-text
 returns-clause-text g c =
@@ -12,6 +11,6 @@ returns-clause-text g c =
     ∙ ap (λ (f : List (List ℕ)). f ++ codes "pc" ∷ codes "instr" ∷ []) c.new-record.ensures.fields in
     let both : fields_of c.push_names-2.new.fields ≡ codes "pc" ∷ codes "instr" ∷ more =
     c.in_ok-push_names-2.ensures.fields ∙ ap (λ (f : List (List ℕ)). f ++ more) first in
-    let all : fields_of c.push_names-3.new.fields ≡ codes "pc" ∷ codes "instr" ∷ more ++ charge_columns =
-    c.in_ok-push_names-3.ensures.fields ∙ ap (λ (f : List (List ℕ)). f ++ charge_columns) both in
+    let all : fields_of c.push_names-3.new.fields ≡ codes "pc" ∷ codes "instr" ∷ more ++ g.S.SumColumns.names =
+    c.in_ok-push_names-3.ensures.fields ∙ ap (λ (f : List (List ℕ)). f ++ g.S.SumColumns.names) both in
     rw all at c.put_record.ensures.text

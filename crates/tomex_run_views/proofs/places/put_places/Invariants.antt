@@ -6,7 +6,7 @@ use Rattle.std.specs.List.{flat_map}
 use Rattle.tomex_rvexec.specs.declared.step.Step.{Step}
 use Rattle.tomex_layout.specs.Csv.{IsReady, record_text, text_written}
 use Rattle.tomex_run_views.specs.Tally.{place_fields}
-use Rattle.tomex_run_views.proofs.by_place.put_places.Given as goal
+use Rattle.tomex_run_views.proofs.places.put_places.Given as goal
 
 abbrev pub invariant-loop-place : goal.invariant-loop-place
 invariant-loop-place g l = record {
@@ -17,7 +17,7 @@ invariant-loop-place g l = record {
       → All (λ place. g.C.StepColumns.shows l.columns place.first (own place.first)) (values l.tally.groups)
       → All (λ place. g.C.StepColumns.shows l.columns place.first (own place.first)) l.place-iterator
       × (text_written (λ v. v.items) l.writer
-      ++ flat_map (λ place. record_text (place_fields own place)) l.place-iterator
+      ++ flat_map (λ place. record_text (place_fields own g.S.SumColumns.shown place)) l.place-iterator
       ≡ text_written (λ v. v.items) l.fn.writer
-      ++ flat_map (λ place. record_text (place_fields own place)) (values l.tally.groups));
+      ++ flat_map (λ place. record_text (place_fields own g.S.SumColumns.shown place)) (values l.tally.groups));
 }
