@@ -14,6 +14,7 @@ use tomex_tests_fixtures::programs::PRODUCT_WORDS;
 
 mod by_hand;
 mod lengthened;
+mod once;
 mod random;
 mod refused;
 
