@@ -2,8 +2,8 @@
 """Figures of the crates: how many there are, what is built on what, what lies below a crate, and how large each is.
 
   docs/crates.py           prints the figures
-  docs/crates.py --list    prints the crates by group, each with the first sentence of its root file, and in brackets the
-                           kit's crates that it lists
+  docs/crates.py --list    prints the crates by group, each with the first sentence of its root file, and in brackets
+                           the kit's crates that it lists
   docs/crates.py --sizes   prints each crate's functions, and its lines of code, definitions and proofs
   docs/crates.py --check   prints what is above a bound; the status is 1 if there is any
 
