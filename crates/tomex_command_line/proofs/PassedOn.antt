@@ -1,6 +1,6 @@
 -- A line that is refused for a value of it is refused as a whole.
 use Rattle.std.proofs.Common.{◌≡◌, sym, subst, IfErr, Result, Ok, Err}
-use Rattle.std.specs.Prelude.{IsErrAnd}
+use Rattle.std.specs.Prelude.{IsErrAnd, IsOkAnd, MatchResult}
 use Rattle.tomex_arguments.specs.Faults.{IsRefusedIf}
 use Rattle.tomex_arguments.specs.declared.fault.LineFault.{LineFault}
 use Rattle.tomex_arguments.specs.declared.fault.LineFault.TheVariants.{Help, Usage, Memory}
@@ -17,3 +17,12 @@ pub passed_on : {T : Type 0} (why other : Type 0) (fault : LineFault) (passed : 
 passed_on why other fault (Ok _) is refused so = absurd is
 passed_on why other fault (Err same) is refused so =
     subst (λ (f : LineFault). IsRefusedIf other f) (sym is) (wider why other fault refused so)
+
+-- a line made of a command's values is refused if they are
+pub mapped : {T U : Type 0} (why other : Type 0) (found : Result T LineFault) (line : Result U LineFault)
+    (Made : T → U → Type 0) → MatchResult found (λ x. IsOkAnd line (Made x)) (λ fault. line ≡ Err fault)
+    → IfErr found (IsRefusedIf why) → (why → other) → IfErr line (IsRefusedIf other)
+mapped why other (Ok x) (Ok made) Made cases refused so = tt
+mapped why other (Ok x) (Err fault) Made cases refused so = absurd cases
+mapped {U = U} why other (Err fault) line Made cases refused so =
+    subst (λ (r : Result U LineFault). IfErr r (IsRefusedIf other)) (sym cases) (wider why other fault refused so)

@@ -12,6 +12,23 @@ any_later p [] i x d within is fails = absurd (omega (arith, within))
 any_later p (y ∷ ys) zero x d within is fails = ap (λ b. b || list_any p ys) (ap p (sym is) ∙ fails)
 any_later p (y ∷ ys) (suc i) x d within is fails = any_later p ys i x d (omega (arith, within)) is fails
 
+-- an item that passes
+pub any_here : {X : Type 0} (p : X → Bool) (xs : List X) (i : ℕ) (x d : X) (whole : Bool) → i < length xs
+    → x ≡ get_or xs i d → p x ≡ true → list_any p (drop i xs) ≡ whole → true ≡ whole
+any_here p [] i x d whole within is holds so_far = absurd (omega (arith, within))
+any_here p (y ∷ ys) zero x d whole within is holds so_far =
+    sym (ap (λ b. b || list_any p ys) (ap p (sym is) ∙ holds)) ∙ so_far
+any_here p (y ∷ ys) (suc i) x d whole within is holds so_far =
+    any_here p ys i x d whole (omega (arith, within)) is holds so_far
+
+-- no item that passes
+pub any_none : {X : Type 0} (p : X → Bool) (xs : List X) (i : ℕ) (whole : Bool) → length xs ≤ i
+    → list_any p (drop i xs) ≡ whole → false ≡ whole
+any_none p [] zero whole past so_far = so_far
+any_none p [] (suc i) whole past so_far = so_far
+any_none p (y ∷ ys) zero whole past so_far = absurd (omega (arith, past))
+any_none p (y ∷ ys) (suc i) whole past so_far = any_none p ys i whole (omega (arith, past)) so_far
+
 one_less : (k until : ℕ) → k < until → until - k ≡ suc (until - (k + 1))
 one_less k until within = omega (arith, within)
 

@@ -16,8 +16,7 @@ use Rattle.tomex_rvexec.specs.declared.step.Step.{Step}
 use Rattle.tomex_config.specs.Configuration.{Configuration, IsWithinLimits}
 use Rattle.tomex_timing.specs.Search.{times_in, total_of}
 use Rattle.tomex_plateaus.specs.declared.plateau.Plateau.{Plateau}
-use Rattle.tomex_plateaus.specs.declared.plateaus.TheConstants.{MOST}
-use Rattle.tomex_plateaus.specs.Kept.{Kept, AreKept, LiesAt, kept_with}
+use Rattle.tomex_plateaus.specs.Kept.{Kept, AreKept, LiesAt, kept_with, most_plateaus}
 use Rattle.tomex_plateaus.proofs.Keeping.{kept_few, kept_many}
 use Rattle.tomex_plateaus.specs.Plateaus.{IsPlateauOf, lies_on, total_known}
 
@@ -111,19 +110,19 @@ pub learnt : (config : Configuration) (k m : Kept) (p : Plateau) → IsWithinLim
     → lies_on config p ≡ true → m ≡ kept_with p k
     → total_known config m.found ≡ Some (total_of (times_in config m.steps))
 learnt config k m p good old new on is = ⊎_elim
-    (λ (low : length k.found < MOST).
+    (λ (low : length k.found < most_plateaus).
     let found : m.found ≡ k.found ++ p ∷ [] = ap (λ (x : Kept). x.found) (is ∙ kept_few k p low) in
     let long : length m.found ≡ length k.found + 1 = rw found (length_push k.found p) in
     let at : get_or m.found (length k.found) p ≡ p = rw found (get_or_push k.found p p (length k.found) refl) in
     is_known config m.steps m.found (length k.found) p good new.are (omega arith) (rw at on))
-    (λ (many : MOST ≤ length k.found).
+    (λ (many : most_plateaus ≤ length k.found).
     let found : m.found ≡ set k.found k.oldest p = ap (λ (x : Kept). x.found) (is ∙ kept_many k p many) in
-    let place : k.oldest < MOST = old.place in
+    let place : k.oldest < most_plateaus = old.place in
     let low : k.oldest < length k.found = omega arith in
     let long : length m.found ≡ length k.found = rw found (length-set k.found k.oldest p) in
     let at : get_or m.found k.oldest p ≡ p = rw found (get_or-set_same k.found k.oldest p p low) in
     is_known config m.steps m.found k.oldest p good new.are (omega arith) (rw at on))
-    (cases_lt (length k.found) MOST)
+    (cases_lt (length k.found) most_plateaus)
 
 -- the total at a place on which a configuration lies is known, and is the program's
 pub known_at : (config : Configuration) (k : Kept) (place : ℕ) (p : Plateau) → IsWithinLimits config → AreKept k

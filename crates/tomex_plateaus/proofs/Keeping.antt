@@ -6,8 +6,7 @@ use Rattle.std.proofs.lemmas.List.{length_push}
 use Rattle.std.proofs.lemmas.List.Elements.{All-push, All-set}
 use Rattle.tomex_rvexec.specs.declared.step.Step.{Step}
 use Rattle.tomex_plateaus.specs.declared.plateau.Plateau.{Plateau}
-use Rattle.tomex_plateaus.specs.Kept.{AreKept, Kept, kept_with}
-use Rattle.tomex_plateaus.specs.declared.plateaus.TheConstants.{MOST}
+use Rattle.tomex_plateaus.specs.Kept.{AreKept, Kept, kept_with, most_plateaus}
 use Rattle.tomex_plateaus.specs.Plateaus.{IsPlateauOf}
 
 pub one_more : (steps : List Step) (found all : List Plateau) (oldest : ℕ) (p : Plateau)
@@ -37,10 +36,10 @@ another_one steps found oldest p kept one =
     }
 
 -- the list with one more plateau, before it is full and after
-pub kept_few : (k : Kept) (p : Plateau) → length k.found < MOST
+pub kept_few : (k : Kept) (p : Plateau) → length k.found < most_plateaus
     → kept_with p k ≡ record { steps = k.steps; found = k.found ++ (p ∷ []); oldest = k.oldest }
-kept_few k p low = rw (lt-ltb (length k.found) MOST low) refl
+kept_few k p low = rw (lt-ltb (length k.found) most_plateaus low) refl
 
-pub kept_many : (k : Kept) (p : Plateau) → MOST ≤ length k.found
-    → kept_with p k ≡ record { steps = k.steps; found = set k.found k.oldest p; oldest = (k.oldest + 1) % MOST }
-kept_many k p many = rw (le-ltb (length k.found) MOST many) refl
+pub kept_many : (k : Kept) (p : Plateau) → most_plateaus ≤ length k.found
+    → kept_with p k ≡ record { steps = k.steps; found = set k.found k.oldest p; oldest = (k.oldest + 1) % most_plateaus }
+kept_many k p many = rw (le-ltb (length k.found) most_plateaus many) refl

@@ -4,8 +4,11 @@ use Rattle.std.specs.Prelude.{All, Some, slice_get, slice_set}
 use Rattle.tomex_rvexec.specs.declared.step.Step.{Step}
 use Rattle.tomex_config.specs.Configuration.{Configuration}
 use Rattle.tomex_plateaus.specs.declared.plateau.Plateau.{Plateau}
-use Rattle.tomex_plateaus.specs.declared.plateaus.TheConstants.{MOST}
 use Rattle.tomex_plateaus.specs.Plateaus.{IsPlateauOf, lies_on}
+
+-- the most plateaus that are kept
+abbrev pub most_plateaus : ℕ
+most_plateaus = 8192
 
 -- the steps of the program's run, its plateaus, and the place of the oldest of them, if the list is full
 pub record Kept : Type 0 where
@@ -17,15 +20,15 @@ pub record Kept : Type 0 where
 pub record AreKept (k : Kept) : Type 0 where
   pub short : length k.steps < 2 ^ 28
   pub are : All (IsPlateauOf k.steps) k.found
-  pub few : length k.found ≤ MOST
-  pub place : k.oldest < MOST
+  pub few : length k.found ≤ most_plateaus
+  pub place : k.oldest < most_plateaus
 
 -- with one more plateau, which replaces the oldest if the list is full
 abbrev pub kept_with : Plateau → Kept → Kept
 kept_with p k =
-    if nat_lt (length k.found) MOST
+    if nat_lt (length k.found) most_plateaus
     then record { steps = k.steps; found = k.found ++ (p ∷ []); oldest = k.oldest }
-    else record { steps = k.steps; found = slice_set k.found k.oldest p; oldest = (k.oldest + 1) % MOST }
+    else record { steps = k.steps; found = slice_set k.found k.oldest p; oldest = (k.oldest + 1) % most_plateaus }
 
 -- there is a plateau at a place, and the configuration lies on it
 pub record LiesAt (config : Configuration) (found : List Plateau) (place : ℕ) : Type 0 where

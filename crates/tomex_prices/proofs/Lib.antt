@@ -8,6 +8,7 @@ pub mod RepricedStudy
 pub mod StatedAndEqual
 pub mod FirstOptions
 pub mod Counting
+mod ColumnLoops
 pub mod Columns
 mod CsvRecords
 pub mod AllCosts

@@ -1,28 +1,46 @@
 //! The output of `explain`, by whole runs of the program.
 
-use crate::{comes_to, comes_to_within, words_of};
+use crate::comes_to;
 use std::test::Fail;
 use tomex_tests_fixtures::{ALL_REFUSALS, OVERLAP};
 
-const NONE: &str = "tomex: no such refusal\n";
+/// The words after `explain`, and the status, output and error that they come to if the output takes this many bytes.
+type Explained = (
+    &'static [&'static str],
+    usize,
+    (u8, &'static str, &'static str),
+);
+
+const WHOLE: (u8, &str, &str) = (0, OVERLAP, "");
+
+const NONE: (u8, &str, &str) = (1, "", "tomex: no such refusal\n");
+
+static EXPLAINED: [Explained; 7] = [
+    (&["image:", "overlap"], 10_000, WHOLE),
+    (
+        &["tomex:", "program", "a:", "image:", "overlap"],
+        10_000,
+        WHOLE,
+    ),
+    (&["tomex: program a: image: overlap"], 10_000, WHOLE),
+    (&["overlap"], 10_000, WHOLE),
+    (&["overlaps"], 10_000, NONE),
+    (&["image:overlap"], 10_000, NONE),
+    (
+        &["image: overlap"],
+        9,
+        (3, "image: ov", "tomex: cannot write\n"),
+    ),
+];
 
 #[test]
-fn a_refusal_is_explained(rt: HostRuntime) -> Result<(), Fail> {
-    let done = (0, OVERLAP, "");
-    comes_to(
-        &rt,
-        [].as_slice(),
-        ["tomex", "explain", "image:", "overlap"].as_slice(),
-        done,
-    )?;
-    let reported = [
-        "tomex", "explain", "tomex:", "program", "a:", "image:", "overlap",
-    ];
-    comes_to(&rt, [].as_slice(), reported.as_slice(), done)?;
-    let one_word = ["tomex", "explain", "tomex: program a: image: overlap"];
-    comes_to(&rt, [].as_slice(), one_word.as_slice(), done)?;
-    let part = ["tomex", "explain", "overlap"];
-    comes_to(&rt, [].as_slice(), part.as_slice(), done)
+fn refusals_are_explained(rt: HostRuntime) -> Result<(), Fail> {
+    for (asked, room, wanted) in &EXPLAINED {
+        let mut words = vec![in rt.alloc(); "tomex", "explain"]?;
+        words.extend_from_slice(asked)?;
+        comes_to(&rt, &[], words.as_slice(), *room, *wanted)?;
+    }
+    Ok(())
 }
 
 #[test]
@@ -33,30 +51,9 @@ fn all_refusals_are_listed(rt: HostRuntime) -> Result<(), Fail> {
         ["tomex", "explain"].as_slice(),
         ["tomex", "explain", ""].as_slice(),
     ] {
-        comes_to(&rt, [].as_slice(), words, (0, list.as_str(), ""))?;
+        comes_to(&rt, &[], words, 10_000, (0, list.as_str(), ""))?;
     }
     Ok(())
-}
-
-#[test]
-fn what_is_no_refusal_is_refused(rt: HostRuntime) -> Result<(), Fail> {
-    for line in ["tomex explain overlaps", "tomex explain image:overlap"] {
-        let words = words_of(rt.alloc(), line)?;
-        comes_to(&rt, [].as_slice(), words.as_slice(), (1, "", NONE))?;
-    }
-    Ok(())
-}
-
-#[test]
-fn a_full_output_cuts_it(rt: HostRuntime) -> Result<(), Fail> {
-    let cut = (3, "image: ov", "tomex: cannot write\n");
-    comes_to_within(
-        &rt,
-        [].as_slice(),
-        ["tomex", "explain", "image: overlap"].as_slice(),
-        9,
-        cut,
-    )
 }
 
 /// A word of 64 bytes.
@@ -70,5 +67,5 @@ fn long_texts_are_explained(rt: HostRuntime) -> Result<(), Fail> {
         words.push(WORD)?;
     }
     words.push("image: overlap")?;
-    comes_to(&rt, [].as_slice(), words.as_slice(), (0, OVERLAP, ""))
+    comes_to(&rt, &[], words.as_slice(), 10_000, WHOLE)
 }

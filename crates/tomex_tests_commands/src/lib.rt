@@ -4,11 +4,14 @@
 //! memory refused.
 #![tactic(auto)]
 
+#[cfg(test)]
 mod comparing;
+#[cfg(test)]
+mod cut_short;
 #[cfg(test)]
 mod explain;
 #[cfg(test)]
-mod explorations;
+mod floors_of_pages;
 mod granting;
 #[cfg(test)]
 mod greatest;
@@ -19,8 +22,6 @@ mod memory_of_runs;
 #[cfg(test)]
 mod memory_of_studies;
 #[cfg(test)]
-mod missing_row;
-#[cfg(test)]
 mod most_rows;
 mod outcome;
 #[cfg(test)]
@@ -28,10 +29,11 @@ mod output;
 #[cfg(test)]
 mod page;
 #[cfg(test)]
+mod watched;
+#[cfg(test)]
 mod workers;
 
-pub use comparing::{
-    Asked, Refused, asks_within, comes_to, comes_to_within, each_comes_to, each_is_refused,
-};
+#[cfg(test)]
+use comparing::comes_to;
 pub use granting::{each_is_granted, granted};
 pub use outcome::{Outcome, outcome_of, words_of};

@@ -1,9 +1,10 @@
 //! Reports of lines that ask for no command, and failures that no test of a whole run reaches.
 
 use std::alloc::{AllocError, Global};
+use std::process::ExitCode;
 use std::test::Fail;
 use tomex_arguments::{LineFault, not_text, reading_fault};
-use tomex_command::{Failure, report_failure, report_line_fault};
+use tomex_command::{Failure, report_failure, report_line_fault, run_of};
 use tomex_report::AnswerError;
 use tomex_sweep::SweepError;
 use tomex_tests_fixtures::in_memory::Narrow;
@@ -81,5 +82,12 @@ fn a_refused_thread_is_reported(rt: HostRuntime) -> Result<(), Fail> {
     let failure = Failure::from(AnswerError::Sweep(SweepError::Worker));
     assert!(rt; report_failure(rt.alloc(), &failure, &mut err) == 3);
     assert!(rt; err.bytes.as_slice() == b"tomex: thread refused\n".as_slice());
+    Ok(())
+}
+
+#[test]
+fn a_process_ends_with_the_status(rt: HostRuntime) -> Result<(), Fail> {
+    // The words of this process name no command.
+    assert!(rt; run_of(&rt, rt.stdout(), rt.stderr()) == ExitCode::from(2));
     Ok(())
 }

@@ -124,20 +124,21 @@ fn most_rows_are_counted(rt: HostRuntime) -> Result<(), Fail> {
 }
 
 /// Half of them: what is asked of each pair takes its time.
-fn half(alloc: Global, study: &str) -> Result<String, AllocError> {
-    study.replace(alloc, "bru = [1, 2, 3, 4]", "bru = [1, 2]")
-}
-
 #[test]
 fn many_rows_have_choices(rt: HostRuntime) -> Result<(), Fail> {
-    let study = half(rt.alloc(), MOST)?;
+    let study = MOST.replace(rt.alloc(), "bru = [1, 2, 3, 4]", "bru = [1, 2]")?;
     counts(&rt, "tomex choices study", study.as_str(), 15)
 }
 
+/// Multipliers of four latencies in place of branch stations: the product takes differently many cycles, so that
+/// `weights` has a column for it. The first row is the fastest and the cheapest.
 #[test]
-fn many_rows_are_all_on_a_hull(rt: HostRuntime) -> Result<(), Fail> {
-    let study = half(rt.alloc(), FREE)?;
-    counts(&rt, "tomex front study --hull", study.as_str(), 8193)
+fn most_rows_have_weights(rt: HostRuntime) -> Result<(), Fail> {
+    let multipliers = "[[unit.mul]]\n[[unit.mul]]\nlatency = 2\n[[unit.mul]]\nlatency = 3\n\
+        [[unit.mul]]\nlatency = 4\n[axes]";
+    let study = MOST.replace(rt.alloc(), "bru = [1, 2, 3, 4]", "")?;
+    let study = study.replace(rt.alloc(), "[axes]", multipliers)?;
+    counts(&rt, "tomex weights study", study.as_str(), 3)
 }
 
 #[test]

@@ -1,8 +1,8 @@
 //! Output that no golden case can hold: names with control characters, a device that is full on the way, a terminal,
 //! and steps that a long run has taken.
-use crate::explorations::LastShown;
 use crate::outcome::outcome_on;
-use crate::{comes_to, comes_to_within, words_of};
+use crate::watched::LastShown;
+use crate::{comes_to, words_of};
 use std::alloc::{AllocError, Global};
 use std::sync::atomic::Ordering;
 use std::test::Fail;
@@ -41,7 +41,13 @@ fn is_escaped(alloc: Global, name: &str, shown: &str) -> Result<bool, AllocError
 fn names_are_shown_on_one_line(rt: HostRuntime) -> Result<(), Fail> {
     for (name, shown) in &NAMES {
         let said = format!(in rt.alloc(); "tomex: cannot read {shown}\n")?;
-        comes_to(&rt, &[], &["tomex", "run", *name], (3, "", said.as_str()))?;
+        comes_to(
+            &rt,
+            &[],
+            &["tomex", "run", *name],
+            10_000,
+            (3, "", said.as_str()),
+        )?;
         assert!(rt; is_escaped(rt.alloc(), name, shown)?);
     }
     Ok(())
@@ -50,7 +56,7 @@ fn names_are_shown_on_one_line(rt: HostRuntime) -> Result<(), Fail> {
 #[test]
 fn a_full_device(rt: HostRuntime) -> Result<(), Fail> {
     let cut = (3, "x0=0000000", "tomex: cannot write\n");
-    comes_to_within(
+    comes_to(
         &rt,
         [("image", PRODUCT.as_slice())].as_slice(),
         ["tomex", "run", "image"].as_slice(),

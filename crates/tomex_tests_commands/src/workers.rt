@@ -1,6 +1,6 @@
 //! The commands on a whole study share its configurations among threads.
 
-use crate::explorations::PRICED;
+use crate::watched::PRICED;
 use crate::{outcome_of, words_of};
 use std::sync::Wait;
 use std::sync::atomic::{AtomicU64, Ordering};

@@ -1,0 +1,158 @@
+//! What can be seen of a command besides its output: how many configurations it begins, how far it says that it is,
+//! and whether it says where refusals are explained. So a row or a program that a study doesn't have is found before
+//! any row is evaluated.
+use crate::{Outcome, outcome_of, words_of};
+use std::sync::Wait;
+use std::sync::atomic::{AtomicU64, Ordering};
+use std::test::Fail;
+use std::thread::Threads;
+use tomex_streams::{Meter, Progress};
+use tomex_tests_fixtures::programs::PRODUCT;
+
+/// Two rows, of two alu stations and of one.
+pub const PRICED: &str = "[[program]]\nname = \"mul\"\nfile = \"mul.bin\"\n[prices]\nalu = 10\n\
+    [axes]\nalu = [2, 1]\n[[unit.mul]]\nlatency = 3\n";
+
+/// Keeps what it showed last, and how often it showed something, was cleared and was asked for a hint.
+#[derive(Drop)]
+pub struct LastShown {
+    pub done: AtomicU64,
+    pub of: AtomicU64,
+    pub shows: AtomicU64,
+    pub clears: AtomicU64,
+    pub hints: AtomicU64,
+}
+
+impl Meter for LastShown {
+    fn show(&self, progress: Progress) {
+        self.done.store(progress.done, Ordering::SeqCst);
+        self.of.store(progress.of, Ordering::SeqCst);
+        self.shows.fetch_add(1, Ordering::SeqCst);
+    }
+
+    fn clear(&self) {
+        self.clears.fetch_add(1, Ordering::SeqCst);
+    }
+
+    fn hint(&self) {
+        self.hints.fetch_add(1, Ordering::SeqCst);
+    }
+}
+
+impl LastShown {
+    /// A meter that has shown nothing yet.
+    pub fn new() -> LastShown {
+        LastShown {
+            done: AtomicU64::new(9),
+            of: AtomicU64::new(9),
+            shows: AtomicU64::new(0),
+            clears: AtomicU64::new(0),
+            hints: AtomicU64::new(0),
+        }
+    }
+
+    /// True if two rows began, and it showed last that so many of them are finished, was cleared once, and gave no
+    /// hint.
+    fn is_over(&self, done: u64) -> bool {
+        self.done.load(Ordering::SeqCst) == done
+            && self.of.load(Ordering::SeqCst) == 2
+            && self.shows.load(Ordering::SeqCst) == 2
+            && self.clears.load(Ordering::SeqCst) == 1
+            && self.hints.load(Ordering::SeqCst) == 0
+    }
+}
+
+/// The outcome of a line over the study of two rows, and what its meter kept.
+fn watched<R: AllocGlobal + Threads + Wait + Sync>(
+    rt: &R,
+    line: &str,
+) -> Result<(Outcome, LastShown), Fail> {
+    let files = [
+        ("study", PRICED.as_bytes()),
+        ("mul.bin", PRODUCT.as_slice()),
+    ];
+    let meter = LastShown::new();
+    let words = words_of(rt.alloc(), line)?;
+    let outcome = outcome_of(rt, rt.alloc(), &files, words.as_slice(), &meter, 100_000)?;
+    Ok((outcome, meter))
+}
+
+/// Lines that evaluate both rows, and how many they say are finished last: with one worker the first when the second
+/// begins, with two workers none.
+static DONE: [(&str, u64); 9] = [
+    ("tomex all study", 1),
+    ("tomex explore study", 1),
+    ("tomex rows study", 1),
+    ("tomex worth study 1", 1),
+    ("tomex worth study row=1", 1),
+    ("tomex compare study mul mul", 1),
+    ("tomex choices study", 1),
+    ("tomex choices study --workers 2", 0),
+    ("tomex page study --choices", 1),
+];
+
+#[test]
+fn a_meter_hears_how_far_it_is(rt: HostRuntime) -> Result<(), Fail> {
+    for (line, done) in &DONE {
+        let (outcome, meter) = watched(&rt, line)?;
+        assert!(rt; outcome.status == 0 && outcome.err.is_empty(), "{line}");
+        assert!(rt; meter.is_over(*done), "{line}");
+    }
+    Ok(())
+}
+
+/// Lines that fail before any row begins, each with its status, the beginning of its error, and the number of hints
+/// after it: one after a command that failed, none after a line that asks for none.
+static REFUSED: [(&str, u8, &str, u64); 9] = [
+    ("tomex worth study 2", 1, "tomex: no such row\n", 1),
+    (
+        "tomex worth study row=0,row=1",
+        1,
+        "tomex: no such row\n",
+        1,
+    ),
+    (
+        "tomex worth study alu=16",
+        1,
+        "tomex: no such choice: alu=16\n",
+        1,
+    ),
+    (
+        "tomex worth study width=1",
+        1,
+        "tomex: several rows: 2\n",
+        1,
+    ),
+    (
+        "tomex compare study mul nope",
+        1,
+        "tomex: no such program\n",
+        1,
+    ),
+    (
+        "tomex compare study nope mul",
+        1,
+        "tomex: no such program\n",
+        1,
+    ),
+    (
+        "tomex find study alu=3",
+        1,
+        "tomex: no such choice: alu=3\n",
+        1,
+    ),
+    ("tomex run none.bin", 3, "tomex: cannot read none.bin\n", 1),
+    ("tomex rows", 2, "error: ", 0),
+];
+
+#[test]
+fn refusals_come_first_and_have_hints(rt: HostRuntime) -> Result<(), Fail> {
+    for (line, status, said, hints) in &REFUSED {
+        let (outcome, meter) = watched(&rt, line)?;
+        assert!(rt; outcome.status == *status, "{line}");
+        assert!(rt; outcome.err.starts_with(said.as_bytes()), "{line}");
+        assert!(rt; meter.shows.load(Ordering::SeqCst) == 0, "{line}");
+        assert!(rt; meter.hints.load(Ordering::SeqCst) == *hints, "{line}");
+    }
+    Ok(())
+}
