@@ -10,6 +10,7 @@ mod Cycles
 mod Likeness
 mod Comparable
 mod Steps
+mod BestAndWorst
 mod Marks
 mod Sharing
 mod Chosen

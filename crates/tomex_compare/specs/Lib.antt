@@ -8,3 +8,4 @@ pub mod GroupCsv
 pub mod ProgramTable
 pub mod Compare
 pub mod Laws
+pub mod BestAndWorst

@@ -1,5 +1,6 @@
 //! Laws of two builds on all rows of a study. These functions do nothing: their contracts are the laws.
 
+ghost use Rattle.tomex_compare.specs.BestAndWorst.{AreBetween, AreRows};
 ghost use Rattle.tomex_compare.specs.Laws.{BestIsMet, BoundRatios, CostsMatterOnFrontsOnly, CountsAddUp};
 ghost use Rattle.tomex_compare.specs.Laws.{EachIsCountedOnce, ItselfIsTheSame, OnlyTheTwoMatter};
 ghost use Rattle.tomex_compare.specs.Laws.{OnlyTheTwoMatterInCsv, TurnedCountsChangePlaces, TurnedMediansAreInverse};
@@ -37,4 +38,11 @@ pub fn only_the_two_builds_matter()
     ensures all { OnlyTheTwoMatter }
     ensures csv { OnlyTheTwoMatterInCsv }
     ensures costs { CostsMatterOnFrontsOnly }
+{}
+
+/// The best row of a program is one of the study's, on which it takes the fewest cycles, and the first of those. The
+/// worst one is the last of those on which it takes the most.
+pub fn best_and_worst_rows_bound_all()
+    ensures between { AreBetween }
+    ensures rows { AreRows }
 {}

@@ -1,5 +1,5 @@
 //! Two builds of a program on all rows of a study: on which of them the new one is faster, and by how much.
-//! Tests: tomex_tests_compare.
+//! Tests: tomex_cases, tomex_tests_commands.
 #![tactic(auto)]
 
 mod build;

@@ -1,6 +1,6 @@
 //! The front of a study for people: as a table, and as one picture. And the configurations of a study that have some
 //! choices: as a table, or the number of the only one.
-//! Tests: tomex_cases, tomex_tests_surveys.
+//! Tests: tomex_cases.
 #![tactic(auto)]
 
 mod choices;

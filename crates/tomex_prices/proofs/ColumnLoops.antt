@@ -1,5 +1,6 @@
--- A column's entries, one more.
-use Rattle.std.proofs.Common.{◌≡◌, ◌∙◌, ap, sym, ℕ, ◌+◌, ◌<◌, List, [], ◌∷◌, ◌++◌, append_assoc, drop, get_or, length, map}
+-- The columns of a table and a column's entries: one more.
+use Rattle.std.proofs.Common.{◌≡◌, ◌∙◌, ap, sym, ℕ, ◌+◌, ◌<◌, List, [], ◌∷◌, ◌++◌}
+use Rattle.std.proofs.Common.{append_assoc, drop, get_or, length, map}
 use Rattle.std.proofs.lemmas.List.{at_drop_more}
 use Rattle.tomex_pareto.specs.declared.front_row.FrontRow.{FrontRow}
 use Rattle.tomex_study.specs.Study.{DesignSpace}
@@ -8,14 +9,14 @@ use Rattle.tomex_prices.specs.declared.price.Price.{Price}
 use Rattle.tomex_prices.specs.Interval.{range_text}
 use Rattle.tomex_prices.specs.Studies.{interval_of}
 
-pub entry_more : {X : Type 0} (f : X → List ℕ) (xs : List X) (k : ℕ) (x d : X) (text : List ℕ)
-    (before after whole : List (List ℕ)) → k < length xs → x ≡ get_or xs k d → after ≡ before ++ text ∷ []
-    → text ≡ f x → before ++ map f (drop k xs) ≡ whole → after ++ map f (drop (k + 1) xs) ≡ whole
-entry_more f xs k x d text before after whole low at grown own so_far =
-    let rest : List (List ℕ) = map f (drop (k + 1) xs) in
-    ap (λ (ys : List (List ℕ)). ys ++ rest) (grown ∙ ap (λ (t : List ℕ). before ++ t ∷ []) (own ∙ ap f at))
+pub item_more : {X Y : Type 0} (f : X → Y) (xs : List X) (k : ℕ) (x d : X) (y : Y) (before after whole : List Y)
+    → k < length xs → x ≡ get_or xs k d → after ≡ before ++ y ∷ [] → y ≡ f x → before ++ map f (drop k xs) ≡ whole
+    → after ++ map f (drop (k + 1) xs) ≡ whole
+item_more {Y = Y} f xs k x d y before after whole low at grown own so_far =
+    let rest : List Y = map f (drop (k + 1) xs) in
+    ap (λ (ys : List Y). ys ++ rest) (grown ∙ ap (λ (z : Y). before ++ z ∷ []) (own ∙ ap f at))
     ∙ (append_assoc before (f (get_or xs k d) ∷ []) rest
-    ∙ (ap (λ (ys : List (List ℕ)). before ++ ys) (sym (at_drop_more (map f) xs k d low)) ∙ so_far))
+    ∙ (ap (λ (ys : List Y). before ++ ys) (sym (at_drop_more (map f) xs k d low)) ∙ so_far))
 
 -- the text of a row's range
 pub text_of_range : (known s : DesignSpace) (price : Price) (row : FrontRow) (range : PriceRange) (text : List ℕ)

@@ -1,23 +1,19 @@
-//! The survey of a worked study, its rows as CSV, and its picture. The modules below are of random studies.
+//! The survey of a worked study by several workers. The modules below are of random studies.
 
+use crate::{program_of, study_on, surveyed};
 use std::alloc::Global;
 use std::test::Fail;
 use tomex_config::{Config, Prices};
-use tomex_front_views::rows_picture;
 use tomex_study::Study;
 use tomex_tests_fixtures::machines::{PLAIN, config_of, priced};
 use tomex_tests_fixtures::programs::PRODUCT_WORDS;
-use tomex_tests_random::{program_of, study_on, surveyed};
 use tomex_texts::rows_report;
 
 mod evaluated;
 mod hulls;
 mod intervals;
-mod percents;
 mod plain_runs;
-mod shares;
 mod too_large;
-mod worth;
 
 /// 1, 2 or 4 alu stations, a fast and expensive or a slow and cheap multiplier, and 1 or 2 buses.
 fn rows_of(alloc: Global) -> Result<Vec<Config>, Fail> {
@@ -56,12 +52,6 @@ div_units,div_latency,mem_units,mem_latency,bru_units,bru_latency,buses,mul_cycl
 10,80,11,4,1,1,1,1,1,1,1,1,6,1,1,1,1,1,1,1,11,0,0\n\
 11,105,11,4,1,1,1,1,1,1,1,1,6,1,1,1,1,1,1,2,11,0,0\n";
 
-/// The line of all rows in its picture.
-const DOTS: &str =
-    "<path d=\"M136 80v0M200 192v0M296 80v0M296 248v0M328 192v0M360 192v0M360 360v0M456 248v0\
-M488 192v0M488 360v0M520 360v0M648 360v0\" fill=\"none\" stroke=\"#a9b8c9\" stroke-width=\"3\" \
-stroke-linecap=\"round\"/>\n";
-
 #[test]
 fn rows_are_those_of_the_independent_implementation(rt: HostRuntime) -> Result<(), Fail> {
     let study = study_of(rt.alloc())?;
@@ -70,18 +60,5 @@ fn rows_are_those_of_the_independent_implementation(rt: HostRuntime) -> Result<(
         let text = rows_report(rt.alloc(), rt.alloc(), &surveyed)?;
         assert!(rt; text.as_slice() == ROWS.as_bytes(), "{workers} workers");
     }
-    Ok(())
-}
-
-#[test]
-fn all_rows_are_dots(rt: HostRuntime) -> Result<(), Fail> {
-    let study = study_of(rt.alloc())?;
-    let surveyed = surveyed(&rt, rt.alloc(), &study, 3)?;
-    let text = rows_picture(rt.alloc(), rt.alloc(), &surveyed)?;
-    let picture = String::from_utf8(text)?;
-    assert!(rt; picture.contains(DOTS));
-    assert!(rt; picture.contains("<title>front: 4 of 12 rows</title>"));
-    assert!(rt; picture.contains("r=\"4\"><title>row 4: cost 85, cycles 8<"));
-    assert!(rt; picture.contains("stroke-width=\"1.5\"><title>row 0: cost 75, cycles 10<"));
     Ok(())
 }

@@ -1,7 +1,6 @@
 //! Weights: random studies by brute force, and a worked one, also with each allocation refused in turn.
 
 mod listed;
-mod percents;
 mod plain;
 mod spans;
 mod worked;

@@ -1,6 +1,6 @@
 //! What one more or one less part is worth on a machine: in cost, in cycles, and in cycles for 1 of
 //! cost.
-//! Tests: tomex_tests_surveys.
+//! Tests: tomex_cases.
 #![tactic(auto)]
 
 mod changes;

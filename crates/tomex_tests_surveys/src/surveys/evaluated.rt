@@ -1,5 +1,6 @@
 //! The programs that a survey evaluates: what is known of one row isn't evaluated again on another.
 
+use crate::{program_of, study_on};
 use std::alloc::Global;
 use std::sync::atomic::{AtomicU64, Ordering};
 use std::test::Fail;
@@ -9,7 +10,6 @@ use tomex_study::{Gate, Study};
 use tomex_survey::survey;
 use tomex_tests_fixtures::machines::one_unit_each;
 use tomex_tests_fixtures::programs::{LOOP_WORDS, PRODUCT_WORDS};
-use tomex_tests_random::{program_of, study_on};
 
 /// Counts the programs that workers evaluate.
 #[derive(Drop)]

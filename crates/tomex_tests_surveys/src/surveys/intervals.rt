@@ -1,13 +1,13 @@
 //! A row of the front stays on it at exactly the prices of its interval: other prices are tried,
 //! and all rows' costs and dominations computed by hand.
 
+use crate::{by_hand, holds_for, price, random_study, surveyed};
 use std::alloc::Global;
 use std::test::Fail;
 use tomex_pareto::FrontRow;
 use tomex_prices::{Price, PriceRange, interval_of, prices, rows_with};
 use tomex_study::{Study, Surveyed};
 use tomex_tests_fixtures::Random;
-use tomex_tests_random::{by_hand, holds_for, price, random_study, surveyed};
 
 /// Values of a price to try: the ends of an interval and the values next to them, the least and the
 /// greatest, the stated one, and some at random.

@@ -1,12 +1,12 @@
 //! A survey's totals, rows and front are those of plain runs of each program on each row.
 
+use crate::{by_hand, holds_for, random_study, surveyed};
 use std::alloc::{AllocError, Global};
 use std::test::Fail;
 use std::thread::Threads;
 use tomex_pareto::FrontRow;
 use tomex_study::{Study, Surveyed};
 use tomex_tests_fixtures::Random;
-use tomex_tests_random::{by_hand, holds_for, random_study, surveyed};
 
 /// The results of plain runs of a study's programs.
 #[derive(Drop)]

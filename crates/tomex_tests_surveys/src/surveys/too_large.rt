@@ -1,5 +1,6 @@
 //! Studies that have too many intervals for a table of prices.
 
+use crate::{program_of, study_on, surveyed};
 use std::alloc::Global;
 use std::test::Fail;
 use std::thread::Threads;
@@ -8,7 +9,6 @@ use tomex_prices::{PricesError, prices_table};
 use tomex_study::Study;
 use tomex_tests_fixtures::machines::{PLAIN, config_of, priced};
 use tomex_tests_fixtures::programs::PRODUCT_WORDS;
-use tomex_tests_random::{program_of, study_on, surveyed};
 
 /// This number of rows, all of which are on the front: they differ only in the prices of four
 /// options each, which no other row has, and the sum of these is the same. So there are four

@@ -2,12 +2,12 @@
 //! it at a weight at random are listed.
 
 use super::plain::{Plain, replaced, stated};
+use crate::{by_hand, holds_for, random_study, surveyed};
 use std::alloc::Global;
 use std::test::Fail;
 use tomex_pareto::FrontRow;
 use tomex_study::{Study, Surveyed};
 use tomex_tests_fixtures::Random;
-use tomex_tests_random::{by_hand, holds_for, random_study, surveyed};
 use tomex_weights::{WeightColumn, listed_rows, weight_columns};
 
 /// True if a row is on the front as stated, or at the first weight of a span.

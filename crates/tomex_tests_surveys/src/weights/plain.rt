@@ -1,10 +1,10 @@
 //! The rows of a study at any weights, computed without a survey.
 
+use crate::by_hand;
 use std::alloc::Global;
 use std::test::Fail;
 use tomex_pareto::FrontRow;
 use tomex_study::Study;
-use tomex_tests_random::by_hand;
 
 /// The rows of a study.
 #[derive(Drop)]

@@ -2,12 +2,12 @@
 //! dominations computed by hand.
 
 use super::plain::{Plain, replaced};
+use crate::{holds_for, random_study, surveyed};
 use std::alloc::Global;
 use std::test::Fail;
 use tomex_pareto::ValueSpan;
 use tomex_study::{Study, Surveyed};
 use tomex_tests_fixtures::Random;
-use tomex_tests_random::{holds_for, random_study, surveyed};
 use tomex_weights::{WeightColumn, weight_columns};
 
 /// Weights to try: the ends of a span and the weights next to them, the least and the greatest, and some at random.

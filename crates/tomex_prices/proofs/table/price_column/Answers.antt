@@ -4,7 +4,7 @@ use Rattle.tomex_pareto.specs.declared.front_row.FrontRow.{FrontRow}
 use Rattle.tomex_layout.specs.Table.{TableColumn}
 use Rattle.tomex_prices.specs.Interval.{range_text}
 use Rattle.tomex_prices.specs.Studies.{interval_of}
-use Rattle.tomex_prices.proofs.ColumnLoops.{entry_more, text_of_range}
+use Rattle.tomex_prices.proofs.ColumnLoops.{item_more, text_of_range}
 use Rattle.tomex_prices.proofs.table.price_column.Goals as goal
 
 pub loop-row-preserved : goal.loop-row-preserved
@@ -13,7 +13,7 @@ loop-row-preserved g c =
     let text = text_of_range _ _ _ (get_or c.front-row-items.result.now c.loop-row.row-index none) _ _
     c.in_ok-format-3.ensures.ok c.interval_of-range.ensures.ends c.study-study.ensures in
     let grown = ap (λ (x : TableColumn). x.entries) c.in_ok-push-2.ensures.one in
-    let entries = entry_more (λ r. range_text (interval_of c.args.surveyed.now c.args.price r))
+    let entries = item_more (λ r. range_text (interval_of c.args.surveyed.now c.args.price r))
     c.front-row-items.result.now c.loop-row.row-index _ none _ _ _ _ c.loop-row-test.true refl grown text
     c.loop-row.invariant.entries in
     record {

@@ -133,18 +133,9 @@ fn programs(random: &mut Random, alloc: Global) -> Result<Vec<Program>, Fail> {
     Ok(programs)
 }
 
-/// The study of three programs on these rows.
-pub fn random_study_on(
-    random: &mut Random,
-    alloc: Global,
-    rows: Vec<Config>,
-) -> Result<Study, Fail> {
-    let programs = programs(random, alloc)?;
-    study_on(alloc, programs, rows, prices(random))
-}
-
-/// The study of three programs on 40 rows.
+/// A study of three programs on 40 rows.
 pub fn random_study(random: &mut Random, alloc: Global) -> Result<Study, Fail> {
     let rows = rows(random, alloc)?;
-    random_study_on(random, alloc, rows)
+    let programs = programs(random, alloc)?;
+    study_on(alloc, programs, rows, prices(random))
 }
