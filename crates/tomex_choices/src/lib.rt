@@ -1,6 +1,6 @@
 //! Which choices of a study's lists are of use: those that a list lacks and what they would bring, by evaluating new
 //! machines as rows are; and from which number on nothing changes.
-//! Tests: tomex_tests_choices.
+//! Tests: tomex_cases, tomex_tests_surveys.
 #![tactic(auto)]
 
 mod asking;

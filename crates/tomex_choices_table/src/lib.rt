@@ -1,5 +1,5 @@
 //! The table of a study's choices: which are on the front, which may go, and which are worth adding.
-//! Tests: tomex_cases, tomex_tests_choices.
+//! Tests: tomex_cases, tomex_tests_surveys.
 #![tactic(auto)]
 
 mod cells;

@@ -1,7 +1,7 @@
 //! A survey: each program's cycles on each row of a study. Most are known from other rows; the
 //! others are evaluated, by workers that each handle a stretch of neighbouring rows. And a study's floors: what no
 //! machine with the latencies of one of its rows goes below.
-//! Tests: tomex_tests_surveys, tomex_tests_choices.
+//! Tests: tomex_tests_surveys.
 #![tactic(auto)]
 
 mod floors;

@@ -1,9 +1,11 @@
-//! Tests of surveys and of their output, and of weights: for which of them rows are on the front. Studies are made at
-//! random, and their rows' costs, cycles and dominations computed without a survey.
+//! Tests of surveys, of what lists lack, and of prices and weights: for which of them rows are on the front. Studies are
+//! made at random, and their rows' costs, cycles and dominations computed without a survey.
 #![tactic(auto)]
 
 #[cfg(test)]
 mod by_hand;
+#[cfg(test)]
+mod choices;
 #[cfg(test)]
 mod random;
 #[cfg(test)]
