@@ -1,10 +1,10 @@
 -- Parts that end, the youngest first.
-use Rattle.std.proofs.Common.{◌≡◌, ℕ, ◌-◌, ◌*◌, ◌<◌, ◌≤◌, List, length, take, sym, ◌∙◌, ap, arith, subst, inl, inr}
-use Rattle.std.proofs.Common.{Option, None}
+use Rattle.std.proofs.Common.{◌≡◌, ℕ, ◌+◌, ◌-◌, ◌*◌, ◌<◌, ◌≤◌, List, length, take, refl, sym, ◌∙◌, ap, arith}
+use Rattle.std.proofs.Common.{Option, None, subst, inl, inr}
 use Rattle.std.proofs.Math.Nat.{mul-le-mul_right}
 use Rattle.std.proofs.lemmas.Bool.{cases_eq}
 use Rattle.std.proofs.lemmas.List.{get_or-set_other, get_or-set_same, get_or-take, get_or_read, length-set}
-use Rattle.std.proofs.lemmas.List.{length-take-le, take-take}
+use Rattle.std.proofs.lemmas.List.{length-take-le, take-take, take_all}
 use Rattle.std.specs.Prelude.{◌⊎◌, ◌≢◌, slice_index, slice_index_or, slice_set}
 use Rattle.tomex_parts.specs.Ends.{AreEnding, HaveEnded, IsRising, length_at}
 
@@ -135,3 +135,36 @@ ends_as steps n last kept less r p value parts new_parts waiting new_waiting aft
     (sym shorter)
     (subst (λ (o : Option ℕ). AreEnding steps n last (kept - 1) parts waiting (slice_set new_parts r o)
     (take (length new_waiting - 1) new_waiting)) (sym v) one))
+
+-- none is left
+pub none_left : (all ended end : ℕ) → end ≤ ended → end ≡ all → all - ended ≡ 0
+none_left all ended end past is = omega arith
+
+pub some_left : (all ended end : ℕ) → ended < end → end ≡ all → 0 < all - ended
+some_left all ended end more is = omega arith
+
+pub none_ended : (steps n last : ℕ) (parts : List (Option ℕ)) (waiting : List ℕ)
+    → AreEnding steps n last (length waiting - 0) parts waiting parts waiting
+none_ended steps n last parts waiting = record {
+  few = omega arith;
+  is = sym (take_all (length waiting - 0) waiting (omega arith));
+  size = refl;
+  ended = λ t low high. absurd (omega arith);
+  same = λ k apart. refl;
+}
+
+-- the last place is one
+pub last_place : (steps n last kept p : ℕ) (parts new_parts : List (Option ℕ)) (waiting new_waiting : List ℕ)
+    → AreEnding steps n last kept parts waiting new_parts new_waiting → 0 < kept → p ≡ length new_waiting → 1 ≤ p
+last_place steps n last kept p parts new_parts waiting new_waiting e some is =
+    let size : length new_waiting ≡ kept = ap length e.is ∙ length-take-le kept waiting e.few in
+    omega (arith, size, some, is)
+
+pub before_end : (p size : ℕ) → 1 ≤ p → p ≡ size → p - 1 < size
+before_end p size some is = omega arith
+
+pub fewer_kept : (all ended : ℕ) → all - (ended + 1) ≡ all - ended - 1
+fewer_kept all ended = omega arith
+
+pub within_parts : (r size all : ℕ) → r < all → size ≡ all → r < size
+within_parts r size all inside same = omega arith

@@ -22,3 +22,4 @@ pub mod Started
 pub mod Lengths
 pub mod Shared
 pub mod Answered
+pub mod Limits

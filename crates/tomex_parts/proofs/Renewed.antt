@@ -22,6 +22,10 @@ found_inside parts k found = at (cases_lt k (length parts))
     at (inl less) = less
     at (inr past) = absurd (false≢true (sym (ap is_some (get_or_past parts k None past)) ∙ found))
 
+pub all_inside : (parts : List (Option ℕ)) (ks : List ℕ) → AllCan parts ks → (t : ℕ) → t < length ks
+    → slice_index ks t < length parts
+all_inside parts ks all t h = found_inside parts (slice_index ks t) (all t h)
+
 -- what holds of all numbers holds of one that is among them
 any_passes : (test : ℕ → Bool) (n : ℕ) (ks : List ℕ) → list_any (λ j. j == n) ks ≡ true
     → ((t : ℕ) → t < length ks → IsTrue (test (slice_index ks t))) → IsTrue (test n)

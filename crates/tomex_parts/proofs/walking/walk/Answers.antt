@@ -1,10 +1,12 @@
-use Rattle.std.proofs.Common.{◌≡◌, ◌+◌, ◌-◌, ◌*◌, length, ◌∙◌, ap, arith, refl}
+use Rattle.std.proofs.Common.{◌≡◌, ℕ, ◌+◌, ◌-◌, ◌*◌, ◌<◌, length, ◌∙◌, ap, arith, refl, subst, sym}
 use Rattle.std.proofs.lemmas.Bool.{MatchBool-at_false, MatchBool-at_true}
 use Rattle.std.proofs.lemmas.Result.{err_from_is_err_and}
 use Rattle.std.specs.Prelude.{◌/◌, replicate}
 use Rattle.tomex_parts.specs.Stretches.{most_stretches, run_length}
 use Rattle.tomex_parts.specs.Tally.{lists}
 use Rattle.tomex_parts.proofs.Advance.{advance, found_none, passed}
+use Rattle.tomex_parts.proofs.Limits.{few_counts, few_stretches, limits_of, one_step_more, tallied_still, window_walked}
+use Rattle.tomex_parts.proofs.Limits.{word_counted, words_walked}
 use Rattle.tomex_parts.proofs.Tallying.{tallied_none}
 use Rattle.tomex_parts.proofs.Walked.{length_fails, plus, walked_more, walked_start}
 use Rattle.tomex_parts.proofs.walking.walk.Goals as goal
@@ -116,3 +118,44 @@ returns-clause-err g c = λ other.
     let all : limit - c.loop-done.done ≡ 0 = omega arith in
     c.loop-done.invariant.walked.whole
     ∙ ap (λ m. plus c.loop-done.done (run_length m c.loop-done.cpu)) all
+
+pub add_step-requires-clause-few : goal.add_step-requires-clause-few
+add_step-requires-clause-few g c =
+    few_stretches c.args.steps c.loop-done.done _ _ _ c.loop-done.invariant.tallied.done c.loop-done-test.true
+    c.end_since.ensures.ends.ending.size
+
+pub add_step-requires-clause-tallied : goal.add_step-requires-clause-tallied
+add_step-requires-clause-tallied g c =
+    let ended = c.end_since.ensures in
+    let tallied = tallied_still c.args.image.now c.args.steps c.loop-done.done c.loop-done.tally c.end_since.new.self
+    c.loop-done.invariant.tallied ended.counts ended.current ended.rows ended.ends.ending.size in
+    (c.args.image.now, c.loop-done.done, tallied)
+
+pub add_step-requires-clause-size : goal.add_step-requires-clause-size
+add_step-requires-clause-size g c =
+    few_counts c.args.image.now c.args.steps c.loop-done.done c.loop-done.tally c.end_since.new.self
+    c.loop-done.invariant.tallied c.end_since.ensures.counts
+    (limits_of _ _ c.window-window.ensures.value c.keeps_limits.ensures)
+
+pub add_step-requires-clause-inside : goal.add_step-requires-clause-inside
+add_step-requires-clause-inside g c =
+    word_counted c.args.image.now c.args.steps c.loop-done.done c.loop-done.tally c.end_since.new.self
+    c.loop-done.invariant.tallied c.end_since.ensures.counts c.loop-done.cpu _ _ _ c.loop-done.invariant.walked
+    c.in_ok-word.ensures.inside
+
+pub add_step-requires-clause-under_way : goal.add_step-requires-clause-under_way
+add_step-requires-clause-under_way g c =
+    subst (λ (k : ℕ). k < c.args.steps) (sym c.end_since.ensures.current) c.loop-done.invariant.current
+
+pub next_word-requires-clause-window : goal.next_word-requires-clause-window
+next_word-requires-clause-window g c =
+    window_walked c.args.image.now c.args.steps c.loop-done.done c.loop-done.cpu _ _ c.loop-done.invariant.walked
+    (limits_of _ _ c.window-window.ensures.value c.keeps_limits.ensures)
+
+pub next_word-requires-clause-words : goal.next_word-requires-clause-words
+next_word-requires-clause-words g c =
+    words_walked c.args.image.now c.args.steps c.loop-done.done c.loop-done.cpu _ _ c.loop-done.invariant.walked
+
+pub overflow_add-done-then-ends : goal.overflow_add-done-then-ends
+overflow_add-done-then-ends g c =
+    record { fits = one_step_more c.args.steps c.loop-done.done c.requires.1 c.loop-done-test.true }
