@@ -1,5 +1,6 @@
 -- Lemmas of this crate.
 pub mod Passes
+pub mod Filtering
 pub mod Members
 pub mod Leasts
 pub mod Greatest
