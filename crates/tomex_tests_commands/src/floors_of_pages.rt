@@ -7,19 +7,19 @@ use std::test::Fail;
 use std::thread::Threads;
 use tomex_streams::NoMeter;
 
-/// `addi x1,x0,256; sw x0,1024(x1); addi x1,x1,-4; bne x1,x0,-8; mul x2,x2,x2; ebreak`: it stores 64 words, which a
+/// `addi x1,x0,128; sw x0,1024(x1); addi x1,x1,-4; bne x1,x0,-8; mul x2,x2,x2; ebreak`: it stores 32 words, which a
 /// floor keeps in a map that grows several times.
 const STORES: &[u8; 24] =
-    b"\x93\x00\x00\x10\x23\xa0\x00\x40\x93\x80\xc0\xff\xe3\x9c\x00\xfe\x33\x01\x21\x02\x73\x00\x10\x00";
+    b"\x93\x00\x00\x08\x23\xa0\x00\x40\x93\x80\xc0\xff\xe3\x9c\x00\xfe\x33\x01\x21\x02\x73\x00\x10\x00";
 
-/// Seven machines that differ in stations that the program doesn't use: all are on the front.
+/// Four machines that differ in stations that the program doesn't use: all are on the front.
 const SAME: &str =
-    "program = [{ name = \"stores\", file = \"stores.bin\" }]\naxes.div = [1, 2, 3, 4, 5, 6, 7]\n";
+    "program = [{ name = \"stores\", file = \"stores.bin\" }]\naxes.div = [1, 2, 3, 4]\n";
 
-/// Seven machines with multipliers of different latencies. All are on the front, since a faster one costs more.
+/// Four machines with multipliers of different latencies. All are on the front, since a faster one costs more.
 const DIFFERENT: &str = "program = [{ name = \"stores\", file = \"stores.bin\" }]\n\
-    unit.mul = [{ latency = 1, price = 7 }, { latency = 2, price = 6 }, { latency = 3, price = 5 }, \
-    { latency = 4, price = 4 }, { latency = 5, price = 3 }, { latency = 6, price = 2 }, { latency = 7, price = 1 }]\n";
+    unit.mul = [{ latency = 1, price = 4 }, { latency = 2, price = 3 }, { latency = 3, price = 2 }, \
+    { latency = 4, price = 1 }]\n";
 
 /// The number of blocks that a line on this study needs.
 fn blocks_of<R: AllocGlobal + Threads + Wait + Sync>(

@@ -5,34 +5,26 @@ ghost use Rattle.tomex_views.specs.StudyViews.{error_of_prices, error_of_row};
 ghost use Rattle.tomex_views.specs.declared.view_error.ViewError.TheVariants.{Memory, Study};
 
 use std::alloc::AllocError;
-use thiserror::Error;
 use tomex_document::StudyError;
 use tomex_front_views::RowError;
 use tomex_prices::PricesError;
 
-/// Why a study has no text in a view.
-#[derive(Debug, Drop, Error)]
+/// Why a study has no text in a view. It has no text of its own: whoever reports it writes that.
+#[derive(Debug, Drop)]
 pub enum ViewError {
     /// The bytes and the files are refused.
-    #[error(transparent)]
     Study(StudyError),
     /// They are a study without a configuration of this number, or with all of these choices.
-    #[error("no such row")]
     NoSuchRow,
     /// They are a study none of whose configurations has this choice. Carries it as written.
-    #[error("no such choice: {0}")]
     NoSuchChoice(String),
     /// They are a study with this many configurations that have all of the choices.
-    #[error("several rows: {0}")]
     SeveralRows(usize),
     /// They are a study without a program of one of the names.
-    #[error("no such program")]
     NoSuchProgram,
     /// They are a study whose table of prices would have too many intervals.
-    #[error("table too large")]
     TooLarge,
     /// They are a study, and out of memory.
-    #[error("out of memory")]
     Memory,
 }
 
