@@ -1,5 +1,5 @@
 -- Limits of the numbers that a walk keeps.
-use Rattle.std.proofs.Common.{◌≡◌, ℕ, ◌+◌, ◌*◌, ◌^◌, ◌<◌, ◌≤◌, List, length, sym, ap, arith, subst, inl, inr}
+use Rattle.std.proofs.Common.{◌≡◌, ℕ, ◌+◌, ◌-◌, ◌*◌, ◌^◌, ◌<◌, ◌≤◌, List, length, sym, ap, arith, subst, inl, inr}
 use Rattle.std.proofs.Math.Nat.{mul-le-mul_right}
 use Rattle.std.proofs.lemmas.Bool.{cases_lt}
 use Rattle.std.specs.Prelude.{◌⊎◌}
@@ -23,6 +23,12 @@ none_above n m is few = omega arith
 
 pub some_too : (n m : ℕ) → n ≡ m → 0 < m → 0 < n
 some_too n m is some = omega arith
+
+pub none_under_way : (current steps : ℕ) → current ≡ 0 → 1 ≤ steps → current < steps
+none_under_way current steps is some = omega arith
+
+pub none_to_go : (most done : ℕ) → most ≤ done → most - done ≡ 0
+none_to_go most done past = omega arith
 
 -- the stretches so far are few
 pub few_stretches : (steps done whole current now : ℕ) → done ≡ whole * steps + current

@@ -1,4 +1,4 @@
-use Rattle.std.proofs.Common.{◌≡◌, ℕ, ◌+◌, ◌-◌, ◌*◌, ◌<◌, length, ◌∙◌, ap, arith, refl, subst, sym}
+use Rattle.std.proofs.Common.{ℕ, ◌+◌, ◌-◌, ◌*◌, ◌<◌, length, ◌∙◌, ap, refl, subst, sym}
 use Rattle.std.proofs.lemmas.Bool.{MatchBool-at_false, MatchBool-at_true}
 use Rattle.std.proofs.lemmas.Result.{err_from_is_err_and}
 use Rattle.std.specs.Prelude.{◌/◌, replicate}
@@ -6,7 +6,7 @@ use Rattle.tomex_parts.specs.Stretches.{most_stretches, run_length}
 use Rattle.tomex_parts.specs.Tally.{lists}
 use Rattle.tomex_parts.proofs.Advance.{advance, found_none, passed}
 use Rattle.tomex_parts.proofs.Limits.{few_counts, few_stretches, limits_of, one_step_more, tallied_still, window_walked}
-use Rattle.tomex_parts.proofs.Limits.{word_counted, words_walked}
+use Rattle.tomex_parts.proofs.Limits.{none_to_go, none_under_way, word_counted, words_walked}
 use Rattle.tomex_parts.proofs.Tallying.{tallied_none}
 use Rattle.tomex_parts.proofs.Walked.{length_fails, plus, walked_more, walked_start}
 use Rattle.tomex_parts.proofs.walking.walk.Goals as goal
@@ -23,7 +23,7 @@ loop-done-init g c =
           (tally.counts ∙ ap (λ n. replicate (n / 4) 0) size) tally.words
           (ap lists tally.rows) (ap length tally.parts);
       found = found_none c.args.image.now c.args.steps _ _ tally.parts tally.waiting;
-      current = omega (arith, tally.current, c.requires.0);
+      current = none_under_way _ _ tally.current c.requires.0;
     }
 
 pub returns-in_err-word-clause-err : goal.returns-in_err-word-clause-err
@@ -31,7 +31,7 @@ returns-in_err-word-clause-err g c =
     let p = err_from_is_err_and c.from_residual-in_err-word.result c.from_residual-in_err-word.ensures.1 in
     let limit = most_stretches * c.args.steps in
     rw (p.1, p.2) (λ other. c.loop-done.invariant.walked.whole
-    ∙ length_fails c.loop-done.done limit c.loop-done.cpu c.in_err-word.field-0.0 (omega arith)
+    ∙ length_fails c.loop-done.done limit c.loop-done.cpu c.in_err-word.field-0.0 c.loop-done-test.true
     (c.in_err-word.ensures.err (run_length (limit - (c.loop-done.done + 1)))))
 
 pub returns-in_err-ends-clause-err : goal.returns-in_err-ends-clause-err
@@ -39,7 +39,7 @@ returns-in_err-ends-clause-err g c =
     let p = err_from_is_err_and c.from_residual-in_err-ends.result c.from_residual-in_err-ends.ensures.1 in
     let limit = most_stretches * c.args.steps in
     rw (p.1, p.2) (λ other. c.loop-done.invariant.walked.whole
-    ∙ length_fails c.loop-done.done limit c.loop-done.cpu c.in_err-ends.field-0.0 (omega arith)
+    ∙ length_fails c.loop-done.done limit c.loop-done.cpu c.in_err-ends.field-0.0 c.loop-done-test.true
     (c.in_err-ends.ensures.err (run_length (limit - (c.loop-done.done + 1)))))
 
 pub returns-in_err-add_step-clause-err : goal.returns-in_err-add_step-clause-err
@@ -88,8 +88,8 @@ returns-then-ends-clause-ok g c =
     let last = c.end_since-then-ends.ensures in
     let made = c.into_stretches.ensures in
     passed c.args.image.now c.args.steps c.loop-done.done c.loop-done.cpu _ _ over.0 stepped.0 c.add_step.new.self
-    c.end_since-then-ends.new.self c.into_stretches.result c.requires.0 c.requires.1 walk.walked (omega arith) on
-    c.in_ok-add_step.ensures.under_way stepped.1.comes over.1 last.ends last.counts last.rows made.steps made.words
+    c.end_since-then-ends.new.self c.into_stretches.result c.requires.0 c.requires.1 walk.walked c.loop-done-test.true
+    on c.in_ok-add_step.ensures.under_way stepped.1.comes over.1 last.ends last.counts last.rows made.steps made.words
     made.rows made.parts
 
 pub loop-done-preserved : goal.loop-done-preserved
@@ -106,7 +106,7 @@ loop-done-preserved g c =
     stepped.1.comes c.in_ok-add_step.ensures.tallied c.in_ok-add_step.ensures.found in
     record {
       walked = walked_more c.args.image.now c.args.steps c.loop-done.done c.loop-done.cpu c.take_step.new.cpu _ _ _ _
-          stepped.0 walk.walked stepped.1.comes goes (omega arith) stepped.1.numbers c.in_ok-ends.ensures.base;
+          stepped.0 walk.walked stepped.1.comes goes c.loop-done-test.true stepped.1.numbers c.in_ok-ends.ensures.base;
       tallied = on.tallied;
       found = on.found;
       current = c.in_ok-add_step.ensures.under_way;
@@ -115,7 +115,7 @@ loop-done-preserved g c =
 pub returns-clause-err : goal.returns-clause-err
 returns-clause-err g c = λ other.
     let limit = most_stretches * c.args.steps in
-    let all : limit - c.loop-done.done ≡ 0 = omega arith in
+    let all = none_to_go _ _ c.loop-done-test.false in
     c.loop-done.invariant.walked.whole
     ∙ ap (λ m. plus c.loop-done.done (run_length m c.loop-done.cpu)) all
 

@@ -29,7 +29,8 @@ returns-clause-none g c =
     let walk = c.loop-k.invariant in
     let same : c.loop-k.self.words.items ≡ c.args.self.now.words.items = ap (λ v. v.items) walk.words in
     let all : c.loop-k.k ≡ length c.args.self.now.words.items = omega (arith, c.len-k-end.ensures) in
-    zeros _ _ (drained_all c.args.self.now.words.items c.loop-k.row.items c.args.self.now.numbers.items
+    zeros c.loop-k.self.numbers.items (length c.args.self.now.numbers.items)
+    (drained_all c.args.self.now.words.items c.loop-k.row.items c.args.self.now.numbers.items
     c.loop-k.self.numbers.items (subst (λ k. IsDrained c.args.self.now.words.items k c.loop-k.row.items
     c.args.self.now.numbers.items c.loop-k.self.numbers.items) all walk.drained)) walk.count
 
