@@ -1,3 +1,4 @@
+-- A word that has one step more.
 use Rattle.std.proofs.Common.{◌+◌, ◌<◌, ◌∙◌, ap, subst, sym, ℕ}
 use Rattle.std.specs.Prelude.{slice_set}
 use Rattle.tomex_parts.proofs.Drained.{covered_push, covered_set, one_more_fits, some_there}
