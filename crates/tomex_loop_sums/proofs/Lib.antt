@@ -2,6 +2,7 @@
 pub mod Arounds
 pub mod Grouping
 pub mod Longer
+pub mod Sofar
 pub mod Spanned
 pub mod Chains
 pub mod Joining

@@ -5,6 +5,7 @@ use Rattle.tomex_rvexec.specs.declared.step.Step.{Step}
 use Rattle.tomex_stretches.specs.Accounts.{own_in}
 use Rattle.tomex_stretches.proofs.Totals.{length_own}
 use Rattle.tomex_loop_sums.proofs.Outside.{keys_low, same_sum, sum_ones}
+use Rattle.tomex_loop_sums.proofs.Sofar.{few_steps}
 use Rattle.tomex_loop_sums.proofs.spent.spent_of.Goals as goal
 
 pub sums_in_visits-requires-clause-few : goal.sums_in_visits-requires-clause-few
@@ -66,3 +67,28 @@ returns g c = record {
   own_without = c.in_ok-accounts_of.ensures.own.without;
   floor_without = c.in_ok-accounts_of.ensures.floor.without;
 }
+
+pub accounts_of-requires-clause-pairs : goal.accounts_of-requires-clause-pairs
+accounts_of-requires-clause-pairs g c =
+    ap length c.requires.keys ∙ (length-map c.args.innermost.now _ ∙ c.requires.many_innermost)
+
+pub accounts_of-requires-clause-stretches : goal.accounts_of-requires-clause-stretches
+accounts_of-requires-clause-stretches g c = c.requires.many_innermost
+
+pub accounts_of-requires-clause-few : goal.accounts_of-requires-clause-few
+accounts_of-requires-clause-few g c = few_steps _ c.requires.few
+
+pub sums_in_visits-requires-clause-order : goal.sums_in_visits-requires-clause-order
+sums_in_visits-requires-clause-order g c = c.requires.order
+
+pub sums_in_visits-requires-clause-loops : goal.sums_in_visits-requires-clause-loops
+sums_in_visits-requires-clause-loops g c = c.requires.loops
+
+pub sums_in_visits-requires-2-clause-order : goal.sums_in_visits-requires-2-clause-order
+sums_in_visits-requires-2-clause-order g c = c.requires.order
+
+pub sums_in_visits-requires-2-clause-loops : goal.sums_in_visits-requires-2-clause-loops
+sums_in_visits-requires-2-clause-loops g c = c.requires.loops
+
+pub sums_in_visits-requires-2-clause-many_ends : goal.sums_in_visits-requires-2-clause-many_ends
+sums_in_visits-requires-2-clause-many_ends g c = c.requires.many_ends
