@@ -1,6 +1,6 @@
 -- Loops over a list, one item more.
-use Rattle.std.proofs.Common.{◌≡◌, ℕ, suc, zero, ◌+◌, ◌-◌, ◌^◌, ◌<◌, ◌≤◌, ◌∙◌, List, [], ◌∷◌, ◌++◌, ap, arith, length}
-use Rattle.std.proofs.Common.{get_or, inl, inr, map, subst, sum, sym, take, Option, Some, None}
+use Rattle.std.proofs.Common.{◌≡◌, ℕ, suc, zero, ◌+◌, ◌-◌, ◌*◌, ◌^◌, ◌<◌, ◌≤◌, ◌∙◌, List, [], ◌∷◌, ◌++◌, ap, length}
+use Rattle.std.proofs.Common.{arith, get_or, inl, inr, map, subst, sum, sym, take, Option, Some, None}
 use Rattle.std.proofs.lemmas.Bool.{cases_lt}
 use Rattle.std.proofs.lemmas.List.{get_or-map, get_or_append_left, get_or_push, length-take-le, length_push, map_push}
 use Rattle.std.proofs.lemmas.List.{get_or-replicate, replicate_more, take_more}
@@ -11,9 +11,22 @@ use Rattle.tomex_rvexec.specs.Run.{most_steps}
 use Rattle.tomex_timing.specs.declared.times.Times.{Times}
 use Rattle.tomex_loop_sums.specs.ByLoop.{round_cycles}
 use Rattle.tomex_loop_sums.specs.Longest.{IsLongest}
+use Rattle.tomex_loop_sums.proofs.Outside.{sum_ones}
 
 pub few_steps : (n : ℕ) → n ≤ most_steps → n < 2 ^ 56
 few_steps n few = omega (arith, few)
+
+pub fits_word : (n m : ℕ) → n ≡ m → m ≤ most_steps → n < 2 ^ 32
+fits_word n m is few = omega (arith, is, few)
+
+-- sums over the steps of a run
+pub few_ones : {X : Type 0} (xs : List X) (numbers : List ℕ) → numbers ≡ map (λ x. 1) xs → length xs ≤ most_steps
+    → sum numbers < 2 ^ 63
+few_ones xs numbers is few = omega (arith, ap sum is, sum_ones xs, few)
+
+pub few_cycles : (many : ℕ) (own numbers : List ℕ) → numbers ≡ own → sum own ≤ 67 * many → many ≤ most_steps
+    → sum numbers < 2 ^ 63
+few_cycles many own numbers is most few = omega (arith, ap sum is, most, few)
 
 pub counted : (i n : ℕ) → i ≤ n → n ≤ i → i ≡ n
 counted i n low high = omega (arith, low, high)

@@ -1,47 +1,60 @@
 -- Each list has what it is the sums of.
-use Rattle.std.proofs.Common.{ℕ, ◌∙◌, ap, arith, length, List, map}
+use Rattle.std.proofs.Common.{ℕ, ◌<◌, ◌∙◌, ap, length, List, map, subst, sym}
+use Rattle.std.specs.Prelude.{All}
 use Rattle.std.proofs.lemmas.List.{length-map}
+use Rattle.tomex_loops.specs.Sound.{AreEnds}
 use Rattle.tomex_rvexec.specs.declared.step.Step.{Step}
 use Rattle.tomex_stretches.specs.Accounts.{own_in}
 use Rattle.tomex_stretches.proofs.Totals.{length_own}
-use Rattle.tomex_loop_sums.proofs.Outside.{keys_low, same_sum, sum_ones}
-use Rattle.tomex_loop_sums.proofs.Sofar.{few_steps}
+use Rattle.tomex_loop_sums.proofs.Outside.{keys_low, same_sum}
+use Rattle.tomex_loop_sums.proofs.Sofar.{few_cycles, few_ones, few_steps, fits_word}
 use Rattle.tomex_loop_sums.proofs.spent.spent_of.Goals as goal
 
 pub sums_in_visits-requires-clause-few : goal.sums_in_visits-requires-clause-few
-sums_in_visits-requires-clause-few g c = rw (c.deref.ensures.value, c.in_ok-ones.ensures, c.steps.ensures)
-    (let few = sum_ones c.args.run.now in omega (arith, few, c.requires.few))
+sums_in_visits-requires-clause-few g c =
+    let ones = c.deref.ensures.value
+    ∙ (c.in_ok-ones.ensures ∙ ap (λ (xs : List Step). map {B = ℕ} (λ x. 1) xs) c.steps.ensures) in
+    few_ones c.args.run.now _ ones c.requires.few
 
 pub sums_in_visits-requires-clause-steps : goal.sums_in_visits-requires-clause-steps
 sums_in_visits-requires-clause-steps g c =
-    rw (c.deref.ensures.value, c.in_ok-ones.ensures, c.steps.ensures, length-map {B = ℕ} c.args.run.now (λ x. 1))
-    (omega (arith, c.requires.few))
+    let ones = c.deref.ensures.value
+    ∙ (c.in_ok-ones.ensures ∙ ap (λ (xs : List Step). map {B = ℕ} (λ x. 1) xs) c.steps.ensures) in
+    let many = ap length ones ∙ length-map {B = ℕ} c.args.run.now (λ x. 1) in
+    fits_word _ _ many c.requires.few
 
 pub sums_in_visits-requires-clause-first : goal.sums_in_visits-requires-clause-first
 sums_in_visits-requires-clause-first g c =
-    rw (c.deref.ensures.value, c.in_ok-ones.ensures, c.steps.ensures, length-map {B = ℕ} c.args.run.now (λ x. 1))
-    c.requires.first
+    let ones = c.deref.ensures.value
+    ∙ (c.in_ok-ones.ensures ∙ ap (λ (xs : List Step). map {B = ℕ} (λ x. 1) xs) c.steps.ensures) in
+    let many = ap length ones ∙ length-map {B = ℕ} c.args.run.now (λ x. 1) in
+    subst (λ (n : ℕ). All (λ v. v.first < n) c.args.visits.now) (sym many) c.requires.first
 
 pub sums_in_visits-requires-clause-ends : goal.sums_in_visits-requires-clause-ends
 sums_in_visits-requires-clause-ends g c =
-    rw (c.deref.ensures.value, c.in_ok-ones.ensures, c.steps.ensures, length-map {B = ℕ} c.args.run.now (λ x. 1))
-    c.requires.ends
+    let ones = c.deref.ensures.value
+    ∙ (c.in_ok-ones.ensures ∙ ap (λ (xs : List Step). map {B = ℕ} (λ x. 1) xs) c.steps.ensures) in
+    let many = ap length ones ∙ length-map {B = ℕ} c.args.run.now (λ x. 1) in
+    subst (λ (n : ℕ). AreEnds n c.args.visits.now c.args.ends.now) (sym many) c.requires.ends
 
 pub sums_in_visits-requires-2-clause-steps : goal.sums_in_visits-requires-2-clause-steps
 sums_in_visits-requires-2-clause-steps g c =
-    rw (c.deref-2.ensures.value, c.in_ok-own.ensures.many) (omega (arith, c.requires.few))
+    let many = ap length c.deref-2.ensures.value ∙ c.in_ok-own.ensures.many in
+    fits_word _ _ many c.requires.few
 
 pub sums_in_visits-requires-2-clause-few : goal.sums_in_visits-requires-2-clause-few
 sums_in_visits-requires-2-clause-few g c =
-    rw c.deref-2.ensures.value (omega (arith, c.in_ok-own.ensures.most, c.requires.few))
+    few_cycles (length c.args.run.now) _ _ c.deref-2.ensures.value c.in_ok-own.ensures.most c.requires.few
 
 pub sums_in_visits-requires-2-clause-first : goal.sums_in_visits-requires-2-clause-first
 sums_in_visits-requires-2-clause-first g c =
-    rw (c.deref-2.ensures.value, c.in_ok-own.ensures.many) c.requires.first
+    let many = ap length c.deref-2.ensures.value ∙ c.in_ok-own.ensures.many in
+    subst (λ (n : ℕ). All (λ v. v.first < n) c.args.visits.now) (sym many) c.requires.first
 
 pub sums_in_visits-requires-2-clause-ends : goal.sums_in_visits-requires-2-clause-ends
 sums_in_visits-requires-2-clause-ends g c =
-    rw (c.deref-2.ensures.value, c.in_ok-own.ensures.many) c.requires.ends
+    let many = ap length c.deref-2.ensures.value ∙ c.in_ok-own.ensures.many in
+    subst (λ (n : ℕ). AreEnds n c.args.visits.now c.args.ends.now) (sym many) c.requires.ends
 
 pub accounts_of-requires-clause-keys : goal.accounts_of-requires-clause-keys
 accounts_of-requires-clause-keys g c = rw c.requires.keys
