@@ -10,4 +10,5 @@ mod PathWaits
 mod Framed
 mod PathWords
 mod Rows
+mod ShownRegisters
 mod ValueResults
