@@ -1,5 +1,5 @@
 -- Rows that are left are run one after another, and closed.
-use Rattle.std.proofs.Common.{◌≡◌, ◌≢◌, ℕ, zero, suc, ◌+◌, ◌<◌, ◌≤◌, List, [], ◌∷◌, length, set, take, get_or, All}
+use Rattle.std.proofs.Common.{◌≡◌, ◌≢◌, ℕ, zero, suc, ◌+◌, ◌*◌, ◌<◌, ◌≤◌, List, [], ◌∷◌, length, set, take, get_or, All}
 use Rattle.std.proofs.Common.{true, false, Some, slice_get, ap, refl, sym, ◌∙◌, subst, arith}
 use Rattle.std.specs.Prelude.{sum_by}
 use mathlib.Core.Logic.{dite}
@@ -190,3 +190,7 @@ run_cycles s programs rows item row y is same_programs same_rows low at ran =
 pub nothing_to_gather : (costs cycles : List ℕ) (ms : List Mark) → length ms ≡ length costs → AreLawful costs cycles ms
     → All (λ m. is_closed m ≡ true) ms → AreJudged costs cycles ms
 nothing_to_gather costs cycles ms count lawful all = record { count = count; closed = all; lawful = lawful }
+
+-- the place of a row in memory
+pub place_fits : (row rows : ℕ) → row < rows → rows * 52 < 9223372036854775808 → row * 52 < 18446744073709551616
+place_fits row rows low few = omega (arith, low, few)

@@ -2,7 +2,8 @@
 use Rattle.std.proofs.Common.{◌≡◌, ◌<◌, ◌≤◌, ◌∙◌, length, List, sym, subst, ap, rules, arith}
 use Rattle.tomex_config.specs.Configuration.{Configuration}
 use Rattle.tomex_lanes.specs.Parts.{is_closed}
-use Rattle.tomex_sweep.proofs.Gathered.{all_gathered, none_gathered, one_closed, one_run, read_mark, run_cycles}
+use Rattle.tomex_sweep.proofs.Gathered.{all_gathered, none_gathered, one_closed, one_run}
+use Rattle.tomex_sweep.proofs.Gathered.{place_fits, read_mark, run_cycles}
 use Rattle.tomex_study.proofs.Rows.{as_many_rows}
 use Rattle.tomex_sweep.proofs.leftovers.gather.Goals as goal
 
@@ -54,6 +55,10 @@ bounds-rows-row g c =
     let test : c.loop-row.row < c.len-row-end.result = c.loop-row-test.true in
     let rows : length c.args.study.now.costs ≡ length c.args.study.now.rows = as_many_rows _ c.keeps_limits.ensures in
     subst (λ (rs : List Configuration). c.loop-row.row < length rs) (sym c.rows.ensures.value) (omega arith)
+
+pub offset_bounds-rows-row : goal.offset_bounds-rows-row
+offset_bounds-rows-row g c =
+    record { fits = place_fits c.loop-row.row (length c.rows.result.now) (bounds-rows-row g c) c.rows.type_inv.1 }
 
 pub returns-clause-counted : goal.returns-clause-counted
 returns-clause-counted g c =

@@ -1,5 +1,8 @@
 -- One more program's cycles.
-use Rattle.std.proofs.Common.{arith, sym}
+use Rattle.std.proofs.Common.{◌∙◌, List, ap, arith, sym}
+use Rattle.std.proofs.lemmas.List.{take_all}
+use Rattle.tomex_study.specs.Cycles.{cycles_on}
+use Rattle.tomex_study.specs.Program.{Workload}
 use Rattle.tomex_plateaus.proofs.Totals.{next_cycles, no_cycles}
 use Rattle.tomex_sweep.proofs.runs.Runs.cycles.Goals as goal
 
@@ -26,3 +29,8 @@ loop-program-preserved g c =
     c.in_ok-cycles.field-0 c.loop-program.cycles c.keeps_limits.ensures c.requires.ends c.requires.few
     c.loop-program-test.true c.program-item.is c.in_ok-cycles.ensures c.loop-program.invariant in
     rw (c.from.ensures, c.weight.ensures.value) w.0
+
+pub returns : goal.returns
+returns g c =
+    c.loop-program.invariant ∙ ap (λ (programs : List Workload). cycles_on programs c.args.config.now)
+    (take_all c.loop-program.program-index c.args.programs.now c.loop-program-test.false)
