@@ -2,3 +2,4 @@
 pub mod Rows
 mod Columns
 mod Shown
+mod Turns
