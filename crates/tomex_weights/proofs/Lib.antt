@@ -14,4 +14,5 @@ pub mod Together
 pub mod Differences
 pub mod AnyMix
 pub mod TableRows
+mod Turns
 mod Worked
