@@ -17,3 +17,4 @@ pub mod Factors
 pub mod Together
 mod Worked
 pub mod Firsts
+mod Turns
