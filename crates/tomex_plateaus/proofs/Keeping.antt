@@ -41,5 +41,6 @@ pub kept_few : (k : Kept) (p : Plateau) → length k.found < most_plateaus
 kept_few k p low = rw (lt-ltb (length k.found) most_plateaus low) refl
 
 pub kept_many : (k : Kept) (p : Plateau) → most_plateaus ≤ length k.found
-    → kept_with p k ≡ record { steps = k.steps; found = set k.found k.oldest p; oldest = (k.oldest + 1) % most_plateaus }
+    → kept_with p k
+    ≡ record { steps = k.steps; found = set k.found k.oldest p; oldest = (k.oldest + 1) % most_plateaus }
 kept_many k p many = rw (le-ltb (length k.found) most_plateaus many) refl

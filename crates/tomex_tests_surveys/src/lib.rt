@@ -1,5 +1,5 @@
-//! Tests of surveys, of what lists lack, and of prices and weights: for which of them rows are on the front. Studies are
-//! made at random, and their rows' costs, cycles and dominations computed without a survey.
+//! Tests of surveys, of what lists lack, and of prices and weights: for which of them rows are on the front. Studies
+//! are made at random, and their rows' costs, cycles and dominations computed without a survey.
 #![tactic(auto)]
 
 #[cfg(test)]
