@@ -119,6 +119,10 @@ pub as_many : (programs : List Workload) (lists : List Kept) → IsKnowledge pro
 as_many programs lists is =
     sym (length-map _ _) ∙ (ap length is.steps ∙ length-map _ _)
 
+-- so a list's place is below eight
+pub among_eight : (place lists programs : ℕ) → place < lists → lists ≡ programs → programs ≤ 8 → place < 8
+among_eight place lists programs low same few = omega (arith, low, same, few)
+
 -- a list that learns stays that of its program
 pub learnt_one : (programs : List Workload) (lists : List Kept) (place : ℕ) (l k : Kept) → IsKnowledge programs lists
     → l ≡ get_or lists place l → k.steps ≡ l.steps → IsKnowledge programs (set lists place k)

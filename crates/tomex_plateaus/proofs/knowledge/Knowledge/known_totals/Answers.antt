@@ -3,8 +3,16 @@ use Rattle.std.proofs.Common.{◌≡◌, ◌<◌, ◌≤◌, ◌∙◌, ap, arit
 use Rattle.std.proofs.lemmas.Option.{slice_get_read}
 use Rattle.tomex_plateaus.specs.Kept.{Kept}
 use Rattle.tomex_plateaus.specs.Knowledge.{IsKnowledge, KnowledgeOf}
-use Rattle.tomex_plateaus.proofs.Knowing.{all_looked_up, as_many, list_total, none_known, one_known, one_looked_up}
+use Rattle.tomex_plateaus.proofs.Knowing.{all_looked_up, among_eight, as_many, list_total, none_known, one_known, one_looked_up}
 use Rattle.tomex_plateaus.proofs.knowledge.Knowledge.known_totals.Goals as goal
+
+pub bounds-known-place : goal.bounds-known-place
+bounds-known-place g c =
+    let is : IsKnowledge c.args.self.now.programs c.args.self.now.lists = rw (← c.self.view_is) c.self.invariant in
+    let same : c.deref-list-items.result.now ≡ c.args.self.now.lists =
+    c.deref-list-items.ensures.value ∙ ap (λ (k : KnowledgeOf). k.lists) c.self.view_is in
+    among_eight c.loop-place.place _ _
+    (subst (λ (xs : List Kept). c.loop-place.place < length xs) same c.loop-place-test.true) (as_many _ _ is) is.few
 
 pub loop-place-init : goal.loop-place-init
 loop-place-init g c = record { known = refl; totals = none_known c.args.self.now.programs c.args.config.now }
@@ -23,7 +31,7 @@ loop-place-preserved g c =
     let eight : length c.loop-place.known ≡ 8 = c.loop-place.invariant.totals.count in
     record {
       known = one_looked_up c.args.self.now.lists c.args.config.now _ c.loop-place.place c.list-item.result
-          c.total_on.result low (omega arith) at
+          c.total_on.result low (omega (arith, low, many, few, eight)) at
           c.total_on.ensures.known c.loop-place.invariant.known;
       totals = one_known _ _ _ c.loop-place.place c.total_on.result c.loop-place.invariant.totals
           (list_total c.args.self.now.programs c.args.self.now.lists c.args.config.now c.loop-place.place
