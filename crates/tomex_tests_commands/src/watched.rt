@@ -51,7 +51,7 @@ impl LastShown {
         }
     }
 
-    /// True if two rows began, and it showed last that so many of them are finished, was cleared once, and gave no
+    /// True if two rows began, it showed last that this number of them is finished, it was cleared once, and it gave no
     /// hint.
     fn is_over(&self, done: u64) -> bool {
         self.done.load(Ordering::SeqCst) == done
