@@ -25,10 +25,3 @@ record_more f k before after whole low grown so_far =
     ap (λ (xs : List ℕ). xs ++ rest) grown
     ∙ (append_assoc before (f (part_at k)) rest
     ∙ (ap (λ (xs : List ℕ). before ++ xs) (sym (at_drop_more (flat_map f) all_parts k Width low)) ∙ so_far))
-
-pub item_pushed : {X Y : Type 0} (f : X → Y) (xs : List X) (k : ℕ) (d : X) (y : Y) (before after : List Y)
-    → k < length xs → before ≡ map f (take k xs) → y ≡ f (get_or xs k d) → after ≡ before ++ y ∷ []
-    → after ≡ map f (take (k + 1) xs)
-item_pushed f xs k d y before after within so_far own grown =
-    grown ∙ (ap₂ (λ (ys : List _) (z : _). ys ++ z ∷ []) so_far own
-    ∙ (sym (map-append f (take k xs) (get_or xs k d ∷ [])) ∙ ap (map f) (sym (take_more xs k d within))))

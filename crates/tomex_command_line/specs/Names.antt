@@ -1,6 +1,8 @@
 -- The names of the commands.
-use Rattle.std.specs.Prelude.{codes}
-use Rattle.clap.specs.Words.{Text}
+use Rattle.std.specs.Prelude.{◌≡◌, ◌≢◌, Option, Some, None, codes}
+use Rattle.std.specs.List.{All as Each}
+use Rattle.clap.specs.Words.{Shape, Text}
+use Rattle.tomex_command_line.specs.Grammar.{tomex_app}
 use Rattle.tomex_command_line.specs.declared.line.command_name.CommandName.{CommandName}
 use Rattle.tomex_command_line.specs.declared.line.command_name.CommandName.TheVariants.{Run, Parts, Cut, Times, Stalls}
 use Rattle.tomex_command_line.specs.declared.line.command_name.CommandName.TheVariants.{Path, Loops, Pipeline, Tables}
@@ -35,3 +37,8 @@ name_of Functions = codes "functions"
 name_of Page = codes "page"
 name_of Find = codes "find"
 name_of Explain = codes "explain"
+
+-- the command that a word names; none if it isn't the name of any
+abbrev pub IsNamed : Text → Option CommandName → Type 0
+IsNamed word (Some command) = word ≡ name_of command
+IsNamed word None = Each (λ (command : Shape). word ≢ command.name) tomex_app.subs

@@ -18,27 +18,6 @@ number_pushed f k x before after so_far own grown =
     grown ∙ (ap₂ (λ (xs : List _) (y : _). xs ++ y ∷ []) so_far own
     ∙ sym (map-range_with_len_more f 0 k k (omega arith)))
 
--- one for one item more
-pub item_pushed : {X Y : Type 0} (f : X → Y) (xs : List X) (k : ℕ) (d : X) (y : Y) (before after : List Y)
-    → k < length xs → before ≡ map f (take k xs) → y ≡ f (get_or xs k d) → after ≡ before ++ y ∷ []
-    → after ≡ map f (take (k + 1) xs)
-item_pushed f xs k d y before after within so_far own grown =
-    grown ∙ (ap₂ (λ (ys : List _) (z : _). ys ++ z ∷ []) so_far own
-    ∙ (sym (map-append f (take k xs) (get_or xs k d ∷ [])) ∙ ap (map f) (sym (take_more xs k d within))))
-
--- some for one item more
-pub items_pushed : {X Y : Type 0} (f : X → List Y) (xs : List X) (k : ℕ) (d : X) (first before after : List Y)
-    → k < length xs → before ≡ first ++ flat_map f (take k xs) → after ≡ before ++ f (get_or xs k d)
-    → after ≡ first ++ flat_map f (take (k + 1) xs)
-items_pushed f xs k d first before after within so_far grown =
-    let x = get_or xs k d in
-    let more : flat_map f (take (k + 1) xs) ≡ flat_map f (take k xs) ++ f x =
-    ap (flat_map f) (take_more xs k d within)
-    ∙ (flat_map-append f (take k xs) (x ∷ [])
-    ∙ ap (λ (ys : List _). flat_map f (take k xs) ++ ys) (append-nil (f x))) in
-    grown ∙ (ap (λ (ys : List _). ys ++ f x) so_far
-    ∙ (append_assoc first (flat_map f (take k xs)) (f x) ∙ ap (λ (ys : List _). first ++ ys) (sym more)))
-
 -- three items, one after another
 pub three_pushed : {X : Type 0} (xs ys zs all : List X) (a b c own other both : X) → ys ≡ xs ++ a ∷ []
     → zs ≡ ys ++ b ∷ [] → all ≡ zs ++ c ∷ [] → a ≡ own → b ≡ other → c ≡ both → all ≡ xs ++ own ∷ other ∷ both ∷ []

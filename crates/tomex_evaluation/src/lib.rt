@@ -4,7 +4,7 @@
 //! repeats itself from there (`tomex_alike`). A table says of a kept state and a block's number (`tomex_repeats`) which
 //! state follows, and how many cycles later. A block from the table costs a load and an addition.
 //! `specs/Known.antt` says what is known; `proofs/Again.antt` shows that a block from the table asks for nothing new.
-//! Tests: tomex_tests_states.
+//! Tests: tomex_tests_timing.
 #![tactic(auto)]
 
 mod credit;

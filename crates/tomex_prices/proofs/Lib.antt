@@ -8,7 +8,7 @@ pub mod RepricedStudy
 pub mod StatedAndEqual
 pub mod FirstOptions
 pub mod Counting
-mod ColumnLoops
+mod RangeTexts
 pub mod Columns
 mod CsvRecords
 pub mod AllCosts
@@ -17,4 +17,3 @@ pub mod Factors
 pub mod Together
 mod Worked
 pub mod Firsts
-mod Turns

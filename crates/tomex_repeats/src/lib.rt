@@ -2,7 +2,7 @@
 //! in many places of a run.
 //!
 //! `specs/Blocks.antt` says when two blocks are the same; `specs/Laws.antt` has what follows.
-//! Tests: tomex_tests_states.
+//! Tests: tomex_tests_timing.
 #![tactic(auto)]
 
 mod blocks;

@@ -93,7 +93,7 @@ fn is_done<R: AllocGlobal + Threads + Wait + Sync>(
 /// A line, with the beginning and the end of its output.
 type Done = (&'static str, &'static str, &'static str);
 
-static REPORTS: [Done; 4] = [
+static REPORTS: [Done; 10] = [
     (
         "tomex run long.bin",
         "x0=00000000\n",
@@ -107,23 +107,15 @@ static REPORTS: [Done; 4] = [
         "\u{7f}ELF",
         "\0",
     ),
-];
-
-static PATHS: [Done; 2] = [
     ("tomex path one 0 long", "part,", "\n"),
     ("tomex path one 0 long --by-pc", "pc,", "\n"),
-];
-
-static LINKS: [Done; 1] = [("tomex path one 0 long --links", "step,", "\n")];
-
-/// Its loop is entered once, and goes 131,070 times round.
-static LOOPS: [Done; 1] = [(
-    "tomex loops one 0 long",
-    "pc,first,last,function,in,entered,iterations,steps,",
-    "\n",
-)];
-
-static STALLS: [Done; 2] = [
+    ("tomex path one 0 long --links", "step,", "\n"),
+    // Its loop is entered once, and goes 131,070 times round.
+    (
+        "tomex loops one 0 long",
+        "pc,first,last,function,in,entered,iterations,steps,",
+        "\n",
+    ),
     ("tomex stalls one 0 long", "part,", "\n"),
     ("tomex stalls one 0 long --by-pc", "pc,", "\n"),
 ];
@@ -151,12 +143,9 @@ static PICTURES: [Done; 4] = [
     ),
 ];
 
-static RUN_BY_CYCLES: [Done; 2] = [
+static MACHINES: [Done; 9] = [
     ("tomex tables one 0 long 262144", "cycle 262144\n", "\n"),
     ("tomex all one", "row,cost,", ",ebreak,x2=00010000,-\n"),
-];
-
-static EXPLORED: [Done; 5] = [
     (
         "tomex explore one --workers 2",
         "row,cost,",
@@ -166,12 +155,10 @@ static EXPLORED: [Done; 5] = [
     ("tomex plot one", "<svg ", "</svg>\n"),
     ("tomex rows one", "row,cost,", ",1\n"),
     ("tomex weights one", "row  cost  ", "\n"),
+    ("tomex page one", "<!DOCTYPE html>\n", "</html>\n"),
+    // Each entry of each list is asked for again, up to the greatest.
+    ("tomex choices one", " ", "\n"),
 ];
-
-static PAGES: [Done; 1] = [("tomex page one", "<!DOCTYPE html>\n", "</html>\n")];
-
-/// Each entry of each list is asked for again, up to the greatest.
-static WEIGHED: [Done; 1] = [("tomex choices one", " ", "\n")];
 
 /// Fails unless each of these lines succeeds.
 fn are_done<R: Abort + AllocGlobal + Threads + Wait + Sync>(
@@ -190,71 +177,33 @@ fn long_runs_have_reports(rt: HostRuntime) -> Result<(), Fail> {
 }
 
 #[test]
-fn long_runs_have_stalls(rt: HostRuntime) -> Result<(), Fail> {
-    are_done(&rt, &STALLS)
-}
-
-#[test]
 fn long_runs_have_pictures(rt: HostRuntime) -> Result<(), Fail> {
     are_done(&rt, &PICTURES)
 }
 
 #[test]
-fn long_runs_are_made_cycle_by_cycle(rt: HostRuntime) -> Result<(), Fail> {
-    are_done(&rt, &RUN_BY_CYCLES)
-}
-
-#[test]
-fn long_runs_have_paths(rt: HostRuntime) -> Result<(), Fail> {
-    are_done(&rt, &PATHS)
-}
-
-#[test]
-fn long_runs_have_links(rt: HostRuntime) -> Result<(), Fail> {
-    are_done(&rt, &LINKS)
-}
-
-#[test]
-fn long_runs_have_loops(rt: HostRuntime) -> Result<(), Fail> {
-    are_done(&rt, &LOOPS)
-}
-
-#[test]
-fn long_runs_have_pages(rt: HostRuntime) -> Result<(), Fail> {
-    are_done(&rt, &PAGES)
-}
-
-#[test]
-fn long_runs_have_choices(rt: HostRuntime) -> Result<(), Fail> {
-    are_done(&rt, &WEIGHED)
-}
-
-#[test]
-fn long_runs_are_explored(rt: HostRuntime) -> Result<(), Fail> {
-    are_done(&rt, &EXPLORED)
+fn long_runs_are_made_on_machines(rt: HostRuntime) -> Result<(), Fail> {
+    are_done(&rt, &MACHINES)
 }
 
 /// Lines that print the front of eight programs, or of 1,024 configurations, and the number of lines
 /// in their output.
-static ON_A_LONG_FRONT: [(&str, usize); 5] = [
+static ON_A_LONG_FRONT: [(&str, usize); 9] = [
     ("tomex all eight", 9),
     ("tomex explore eight --workers 2", 9),
     ("tomex all alike", 1025),
     ("tomex explore alike --workers 2", 1025),
     ("tomex front alike", 1025),
-];
-
-/// The same of all rows: the names; with `worth` the machine, and 15, 3 and 15 changes; with `prices` the stated ones.
-static ROWS_OF_A_LONG_FRONT: [(&str, usize); 4] = [
+    // All rows: the names; with `worth` the machine, and 15, 3 and 15 changes; with `prices` the stated ones.
     ("tomex rows alike", 1025),
     ("tomex worth alike 0 --workers 2", 35),
     ("tomex worth alike 0 --csv", 34),
     ("tomex prices alike", 1026),
 ];
 
-/// 2,304 of these: `find` and `front --hull` print the names and each row, `weights` and `prices` the stated ones too;
+/// The same on 2,304 configurations: `find` and `front --hull` print the names and each row, `weights` and `prices` the stated ones too;
 /// `compare` two tables, `choices` a line a list.
-static ROWS_OF_A_LONGER_FRONT: [(&str, usize); 7] = [
+static ON_A_LONGER_FRONT: [(&str, usize); 7] = [
     ("tomex find longer", 2305),
     ("tomex front longer --hull", 2305),
     ("tomex weights longer", 2306),
@@ -283,33 +232,22 @@ fn long_fronts_are_not_refused(rt: HostRuntime) -> Result<(), Fail> {
 }
 
 #[test]
-fn all_rows_of_long_fronts_are_not_refused(rt: HostRuntime) -> Result<(), Fail> {
-    are_counted(&rt, &ROWS_OF_A_LONG_FRONT)
+fn longer_fronts_are_not_refused(rt: HostRuntime) -> Result<(), Fail> {
+    are_counted(&rt, &ON_A_LONGER_FRONT)
 }
 
-#[test]
-fn rows_of_longer_fronts_are_not_refused(rt: HostRuntime) -> Result<(), Fail> {
-    are_counted(&rt, &ROWS_OF_A_LONGER_FRONT)
-}
-
-static DRAWN: [Done; 3] = [
+static DRAWN: [Done; 4] = [
     ("tomex plot alike", "<svg ", "</svg>\n"),
     ("tomex plot alike --rows", "<svg ", "</svg>\n"),
     ("tomex page alike", "<!DOCTYPE html>\n", "</html>\n"),
+    (
+        "tomex page longer --choices",
+        "<!DOCTYPE html>\n",
+        "</html>\n",
+    ),
 ];
-
-static DRAWN_WITH_CHOICES: [Done; 1] = [(
-    "tomex page longer --choices",
-    "<!DOCTYPE html>\n",
-    "</html>\n",
-)];
 
 #[test]
 fn long_fronts_are_drawn(rt: HostRuntime) -> Result<(), Fail> {
     are_done(&rt, &DRAWN)
-}
-
-#[test]
-fn longer_fronts_are_drawn_with_choices(rt: HostRuntime) -> Result<(), Fail> {
-    are_done(&rt, &DRAWN_WITH_CHOICES)
 }

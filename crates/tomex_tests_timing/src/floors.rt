@@ -1,17 +1,14 @@
-//! Floors of small runs, compared with those of another implementation of the rules, and with
-//! totals.
-
-ghost use Rattle.std.specs.Prelude.{◌<◌, ◌≤◌};
+//! Floors of small runs, compared with those of another implementation of the rules.
 
 use std::alloc::{AllocError, Global};
 use std::test::Fail;
-use tomex_config::{Config, Part};
+use tomex_config::Config;
 use tomex_floor::floors;
 use tomex_tests_fixtures::machines::one_unit_each;
 use tomex_tests_fixtures::programs::{LOOP_WORDS, PRODUCT_WORDS};
-use tomex_tests_fixtures::runs::{Program, random_config, random_run, run_of};
-use tomex_tests_fixtures::{Attempt, Heap, Random, Try, refusals};
-use tomex_timing::{Needs, Run};
+use tomex_tests_fixtures::runs::{Program, run_of};
+use tomex_tests_fixtures::{Attempt, Heap, Try, refusals};
+use tomex_timing::Run;
 
 /// The floors of a program's run for these latencies.
 fn floors_of(alloc: Global, program: &Program, latencies: [u8; 5]) -> Result<[u64; 4], Fail> {
@@ -103,50 +100,6 @@ fn the_floor_of_no_steps_is_0(rt: HostRuntime) -> Result<(), Fail> {
     let config = one_unit_each([1; 6], [1; 5], 1)?;
     let none = Run::new(rt.alloc(), Vec::new(rt.alloc()))?;
     assert!(rt; floors(rt.alloc(), &none, &config)? == [0; 4]);
-    Ok(())
-}
-
-/// True if no floor is below that of the next width.
-fn do_fall(floors: &[u64; 4]) -> bool {
-    floors[0] >= floors[1] && floors[1] >= floors[2] && floors[2] >= floors[3]
-}
-
-/// True if the floor of a width is at most the total, and equal to it if no step waits for a station, a unit or a bus.
-fn bounds(floors: &[u64; 4], width: u8, needs: &Needs) -> bool
-    requires { 1 ≤ width }
-{
-    let floor = floors
-        .get(usize::from(width) - 1)
-        .copied()
-        .unwrap_or(u64::MAX);
-    let waits = Part::ALL.iter().any(|part| {
-        *part != Part::Width && needs.need(*part).stalls > 0
-    });
-    if waits {
-        floor <= needs.total
-    } else {
-        floor == needs.total
-    }
-}
-
-/// True if the floors of a random program's runs on random configurations are right.
-fn are_floors(alloc: Global, random: &mut Random, most: u32) -> Result<bool, Fail>
-    requires { (0 < most) × (most < 256) }
-{
-    let run = random_run(random, alloc)?;
-    let config = random_config(random, most)?;
-    let needs = run.needs(&alloc, &config)?;
-    let floors = floors(alloc, &run, &config)?;
-    Ok(do_fall(&floors) && bounds(&floors, config.width(), &needs))
-}
-
-#[test]
-fn no_random_machine_is_faster(rt: HostRuntime) -> Result<(), Fail> {
-    let mut random = Random::new(1);
-    for _ in 0..60 {
-        assert!(rt; are_floors(rt.alloc(), &mut random, 3)?);
-        assert!(rt; are_floors(rt.alloc(), &mut random, 16)?);
-    }
     Ok(())
 }
 

@@ -1,6 +1,11 @@
-//! Tests of the recurrence: times, waits and needs of worked examples, floors and paths; and of the loops of runs.
+//! Tests of the recurrence: times, waits and needs of worked examples, floors and paths; of the loops of runs; and of
+//! what evaluates blocks once: what steps reserve, blocks, states, and the demands of runs by their blocks.
 #![tactic(auto)]
 
+#[cfg(test)]
+mod blocks;
+#[cfg(test)]
+mod evaluations;
 #[cfg(test)]
 mod floors;
 #[cfg(test)]
@@ -8,8 +13,12 @@ mod loops;
 #[cfg(test)]
 mod needs;
 #[cfg(test)]
-mod path_bounds;
-#[cfg(test)]
 mod paths;
+#[cfg(test)]
+mod random_loops;
+#[cfg(test)]
+mod reservations;
+#[cfg(test)]
+mod states;
 #[cfg(test)]
 mod timings;

@@ -3,48 +3,15 @@
 use std::alloc::{AllocError, Global};
 use std::process::Abort;
 use std::test::Fail;
-use tomex_loops::{Loops, Visit};
+use tomex_loops::Loops;
 use tomex_rvexec::Step;
 use tomex_tests_fixtures::{Attempt, Heap, Random, Try, refusals};
 
 mod by_hand;
 mod walks;
 
-use by_hand::{ByHand, by_hand, is_in};
+use by_hand::{ByHand, by_hand};
 use walks::random_steps;
-
-/// True if of two visits that begin and end so one lies in the other, or they are apart.
-fn are_nested(a: (u32, u32), b: (u32, u32)) -> bool {
-    a.1 <= b.0 || b.1 <= a.0 || (a.0 <= b.0 && b.1 <= a.1) || (b.0 <= a.0 && a.1 <= b.1)
-}
-
-/// True if this holds of each two visits of a run. Its end counts as theirs where they have none.
-fn visits_are_nested(visits: &[Visit], ends: &[Option<u32>]) -> bool {
-    for (a, a_end) in visits.iter().zip(ends) {
-        for (b, b_end) in visits.iter().zip(ends) {
-            let a_span = (a.first, a_end.unwrap_or(u32::MAX));
-            let b_span = (b.first, b_end.unwrap_or(u32::MAX));
-            if !are_nested(a_span, b_span) {
-                return false;
-            }
-        }
-    }
-    true
-}
-
-/// True if of two loops one lies in the other, or they have no place in common.
-fn loops_are_nested(loops: &[Option<u32>], a: u32, b: u32) -> bool {
-    let (mut both, mut only_a, mut only_b) = (false, false, false);
-    let mut place = 0u32;
-    for _ in loops {
-        let (in_a, in_b) = (is_in(loops, a, place), is_in(loops, b, place));
-        both = both || (in_a && in_b);
-        only_a = only_a || (in_a && !in_b);
-        only_b = only_b || (in_b && !in_a);
-        place = place.saturating_add(1);
-    }
-    !(both && only_a && only_b)
-}
 
 /// Stops if loops aren't as they were found by hand.
 fn check_alike(rt: &impl Abort, found: &Loops, wanted: &ByHand, seed: u64) {
@@ -69,19 +36,6 @@ fn check_alike(rt: &impl Abort, found: &Loops, wanted: &ByHand, seed: u64) {
     );
 }
 
-/// Stops if visits or loops overlap.
-fn check_nested(rt: &impl Abort, found: &Loops, seed: u64) {
-    assert!(rt;
-        visits_are_nested(found.visits(), found.ends()),
-        "visits of {seed}"
-    );
-    for a in found.heads() {
-        for b in found.heads() {
-            assert!(rt; loops_are_nested(found.loops(), *a, *b), "loops of {seed}");
-        }
-    }
-}
-
 #[test]
 fn random_runs(rt: HostRuntime) -> Result<(), Fail> {
     let (mut ended, mut inner, mut left) = (0u32, 0u32, 0u32);
@@ -91,7 +45,6 @@ fn random_runs(rt: HostRuntime) -> Result<(), Fail> {
         let found = Loops::of(rt.alloc(), &steps)?;
         let wanted = by_hand(rt.alloc(), &steps)?;
         check_alike(&rt, &found, &wanted, seed);
-        check_nested(&rt, &found, seed);
         ended = ended.saturating_add(u32::from(wanted.has_return));
         inner = inner.saturating_add(u32::from(wanted.visits.iter().any(|v| v.within.is_some())));
         left = left.saturating_add(u32::from(wanted.visits.iter().any(|v| v.within != v.around)));

@@ -1,17 +1,13 @@
-//! Paths of small runs, compared with those of another implementation of the rules; and of random runs, whose cycles
-//! they have once each.
-
-ghost use Rattle.std.specs.Prelude.{◌<◌, ◌≤◌};
+//! Paths of small runs, compared with those of another implementation of the rules.
 
 use std::alloc::{AllocError, Global};
 use std::test::Fail;
 use tomex_config::{Config, Part};
-use tomex_floor::floors;
 use tomex_path::{Link, Reason, path};
 use tomex_rvdec::{PoolId, UnitId};
 use tomex_tests_fixtures::machines::{config_of, one_unit_each, unit};
-use tomex_tests_fixtures::runs::{Program, random_config, random_run, run_of};
-use tomex_tests_fixtures::{Attempt, Heap, Random, Try, refusals};
+use tomex_tests_fixtures::runs::{Program, run_of};
+use tomex_tests_fixtures::{Attempt, Heap, Try, refusals};
 use tomex_timing::Run;
 
 /// A machine: stations, units and latencies of each kind, buses, and the issue width.
@@ -154,52 +150,6 @@ fn the_path_of_no_steps_has_no_links(rt: HostRuntime) -> Result<(), Fail> {
     let config = one_unit_each([1; 6], [1; 5], 1)?;
     let none = Run::new(rt.alloc(), Vec::new(rt.alloc()))?;
     assert!(rt; path(rt.alloc(), &none, &config)?.links.is_empty());
-    Ok(())
-}
-
-/// True if the links have the cycles up to a last one, once each and in order.
-fn have_cycles(links: &[Link], total: u64) -> bool {
-    let mut next = 1;
-    for link in links {
-        if link.from != next || link.to < next || link.to == u64::MAX {
-            return false;
-        }
-        next = link.to + 1;
-    }
-    next == total.saturating_add(1)
-}
-
-/// True if a link waits for a station, a unit or a bus.
-fn waits_for_part(link: &Link) -> bool {
-    matches!(
-        link.reason,
-        Reason::For(Part::Stations(_) | Part::Units(_) | Part::Buses)
-    )
-}
-
-/// True if the path of a random program's run on a random configuration is right: it has all cycles, and the run takes
-/// its floor if no link waits for a part.
-fn is_random_path(alloc: Global, random: &mut Random, most: u32) -> Result<bool, Fail>
-    requires { (0 < most) × (most < 256) }
-{
-    let run = random_run(random, alloc)?;
-    let config = random_config(random, most)?;
-    let total = run.needs(&alloc, &config)?.total;
-    let links = path(alloc, &run, &config)?.links;
-    let floors = floors(alloc, &run, &config)?;
-    let width = usize::from(config.width());
-    let floor = floors.get(width.saturating_sub(1)).copied();
-    let is_free = !links.iter().any(waits_for_part);
-    Ok(have_cycles(links.as_slice(), total) && (!is_free || floor == Some(total)))
-}
-
-#[test]
-fn random_paths_have_each_cycle_once(rt: HostRuntime) -> Result<(), Fail> {
-    let mut random = Random::new(7);
-    for _ in 0..60 {
-        assert!(rt; is_random_path(rt.alloc(), &mut random, 3)?);
-        assert!(rt; is_random_path(rt.alloc(), &mut random, 16)?);
-    }
     Ok(())
 }
 

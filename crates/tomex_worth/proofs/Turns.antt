@@ -1,8 +1,8 @@
 -- The program at a place, and a column for it.
-use Rattle.std.proofs.Common.{◌≡◌, ◌∙◌, ap, refl, sym, subst, ℕ, ◌+◌, ◌<◌, List, [], ◌∷◌, ◌++◌}
-use Rattle.std.proofs.Common.{append_assoc, drop, get_or, length, map, Some, slice_get}
-use Rattle.std.proofs.lemmas.List.{at_drop_more}
+use Rattle.std.proofs.Common.{◌≡◌, ◌∙◌, ap, refl, subst, ℕ, ◌+◌, ◌<◌, List, [], ◌∷◌, ◌++◌}
+use Rattle.std.proofs.Common.{drop, get_or, length, map, Some, slice_get}
 use Rattle.std.proofs.lemmas.Option.{slice_get_read}
+use Rattle.tomex_layout.proofs.Loops.{item_more}
 use Rattle.tomex_study.specs.Program.{Workload}
 use Rattle.tomex_study.specs.Study.{DesignSpace}
 
@@ -25,8 +25,5 @@ module _ {X : Type 0} (own items : List X) (k : ℕ) (x : X) (same : items ≡ o
 
   pub one_more : {Y : Type 0} (f : X → Y) (y : Y) (before after whole : List Y) → after ≡ before ++ y ∷ [] → y ≡ f x
       → before ++ map f (drop k own) ≡ whole → after ++ map f (drop (k + 1) own) ≡ whole
-  one_more {Y = Y} f y before after whole grown is so_far =
-      let rest : List Y = map f (drop (k + 1) own) in
-      ap (λ (ys : List Y). ys ++ rest) (grown ∙ ap (λ (z : Y). before ++ z ∷ []) (is ∙ ap f at_too))
-      ∙ (append_assoc before (f (get_or own k x) ∷ []) rest
-      ∙ (ap (λ (ys : List Y). before ++ ys) (sym (at_drop_more (map f) own k x low_too)) ∙ so_far))
+  one_more f y before after whole grown is so_far =
+      item_more f own k x y before after whole low_too grown (is ∙ ap f at_too) so_far

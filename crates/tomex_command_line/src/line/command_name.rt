@@ -1,9 +1,5 @@
 //! The names of the commands.
-ghost use Rattle.std.specs.Prelude.{◌≡◌, ◌≢◌, IfSome, IfNone};
-ghost use Rattle.std.specs.List.{All as Each};
-ghost use Rattle.clap.specs.Words.{Shape};
-ghost use Rattle.tomex_command_line.specs.Grammar.{tomex_app};
-ghost use Rattle.tomex_command_line.specs.Names.{name_of};
+ghost use Rattle.tomex_command_line.specs.Names.{IsNamed};
 
 /// A command of the program.
 #[derive(Clone, Copy)]
@@ -36,8 +32,7 @@ pub enum CommandName {
 
 /// The command of this name, if there is one.
 pub(super) fn command_named(name: &str) -> Option<CommandName>
-    ensures known { IfSome result (λ command. name.now ≡ name_of command) }
-    ensures unknown { IfNone result (Each (λ (command : Shape). name.now ≢ command.name) tomex_app.subs) }
+    ensures { IsNamed name.now result }
 {
     match name {
         "run" => Some(CommandName::Run),

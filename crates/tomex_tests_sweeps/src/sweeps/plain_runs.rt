@@ -127,8 +127,7 @@ fn is_marked_so<R: AllocGlobal + Threads + Wait + Sync>(
     gives_marks(rt, study, 1, marks.as_slice())
 }
 
-/// True if one worker marks 10 studies, random from this seed on, as plain runs do. A test of more
-/// studies would take more than a minute before anything is proved.
+/// Fails unless one worker marks 10 studies, random from this seed on, as plain runs do.
 fn marks_are_those_of_plain_runs<R: AllocGlobal + Threads + Wait + Sync>(
     rt: &R,
     seed: u64,
@@ -141,104 +140,15 @@ fn marks_are_those_of_plain_runs<R: AllocGlobal + Threads + Wait + Sync>(
     Ok(())
 }
 
-#[test]
-fn studies_1_to_10_are_marked_as_by_plain_runs(rt: HostRuntime) -> Result<(), Fail> {
-    marks_are_those_of_plain_runs(&rt, 2463534242)
-}
+/// Where the random studies begin.
+static SEEDS: [u64; 4] = [2463534242, 1181783497, 362436069, 521288629];
 
 #[test]
-fn studies_11_to_20_are_marked_as_by_plain_runs(rt: HostRuntime) -> Result<(), Fail> {
-    marks_are_those_of_plain_runs(&rt, 1181783497)
-}
-
-#[test]
-fn studies_21_to_30_are_marked_as_by_plain_runs(rt: HostRuntime) -> Result<(), Fail> {
-    marks_are_those_of_plain_runs(&rt, 362436069)
-}
-
-#[test]
-fn studies_31_to_40_are_marked_as_by_plain_runs(rt: HostRuntime) -> Result<(), Fail> {
-    marks_are_those_of_plain_runs(&rt, 521288629)
-}
-
-#[test]
-fn studies_41_to_50_are_marked_as_by_plain_runs(rt: HostRuntime) -> Result<(), Fail> {
-    marks_are_those_of_plain_runs(&rt, 88675123)
-}
-
-#[test]
-fn studies_51_to_60_are_marked_as_by_plain_runs(rt: HostRuntime) -> Result<(), Fail> {
-    marks_are_those_of_plain_runs(&rt, 5783321)
-}
-
-#[test]
-fn studies_61_to_70_are_marked_as_by_plain_runs(rt: HostRuntime) -> Result<(), Fail> {
-    marks_are_those_of_plain_runs(&rt, 6615241)
-}
-
-#[test]
-fn studies_71_to_80_are_marked_as_by_plain_runs(rt: HostRuntime) -> Result<(), Fail> {
-    marks_are_those_of_plain_runs(&rt, 1812433253)
-}
-
-#[test]
-fn studies_81_to_90_are_marked_as_by_plain_runs(rt: HostRuntime) -> Result<(), Fail> {
-    marks_are_those_of_plain_runs(&rt, 2147001325)
-}
-
-#[test]
-fn studies_91_to_100_are_marked_as_by_plain_runs(rt: HostRuntime) -> Result<(), Fail> {
-    marks_are_those_of_plain_runs(&rt, 714025)
-}
-
-#[test]
-fn studies_101_to_110_are_marked_as_by_plain_runs(rt: HostRuntime) -> Result<(), Fail> {
-    marks_are_those_of_plain_runs(&rt, 1366319)
-}
-
-#[test]
-fn studies_111_to_120_are_marked_as_by_plain_runs(rt: HostRuntime) -> Result<(), Fail> {
-    marks_are_those_of_plain_runs(&rt, 1664525)
-}
-
-#[test]
-fn studies_121_to_130_are_marked_as_by_plain_runs(rt: HostRuntime) -> Result<(), Fail> {
-    marks_are_those_of_plain_runs(&rt, 1013904223)
-}
-
-#[test]
-fn studies_131_to_140_are_marked_as_by_plain_runs(rt: HostRuntime) -> Result<(), Fail> {
-    marks_are_those_of_plain_runs(&rt, 22695477)
-}
-
-#[test]
-fn studies_141_to_150_are_marked_as_by_plain_runs(rt: HostRuntime) -> Result<(), Fail> {
-    marks_are_those_of_plain_runs(&rt, 134775813)
-}
-
-#[test]
-fn studies_151_to_160_are_marked_as_by_plain_runs(rt: HostRuntime) -> Result<(), Fail> {
-    marks_are_those_of_plain_runs(&rt, 1140671485)
-}
-
-#[test]
-fn studies_161_to_170_are_marked_as_by_plain_runs(rt: HostRuntime) -> Result<(), Fail> {
-    marks_are_those_of_plain_runs(&rt, 214013)
-}
-
-#[test]
-fn studies_171_to_180_are_marked_as_by_plain_runs(rt: HostRuntime) -> Result<(), Fail> {
-    marks_are_those_of_plain_runs(&rt, 2531011)
-}
-
-#[test]
-fn studies_181_to_190_are_marked_as_by_plain_runs(rt: HostRuntime) -> Result<(), Fail> {
-    marks_are_those_of_plain_runs(&rt, 16843009)
-}
-
-#[test]
-fn studies_191_to_200_are_marked_as_by_plain_runs(rt: HostRuntime) -> Result<(), Fail> {
-    marks_are_those_of_plain_runs(&rt, 69069)
+fn studies_are_marked_as_by_plain_runs(rt: HostRuntime) -> Result<(), Fail> {
+    for seed in &SEEDS {
+        marks_are_those_of_plain_runs(&rt, *seed)?;
+    }
+    Ok(())
 }
 
 /// True if each number of workers gives the front of all rows.
@@ -254,8 +164,7 @@ fn is_front_of_all<R: AllocGlobal + Threads + Wait + Sync>(
     Ok(same)
 }
 
-/// True if any number of workers gives the front of all rows, on 5 studies, random from this seed
-/// on.
+/// Fails unless each number of workers gives the front of all rows, on 5 studies, random from this seed on.
 fn fronts_are_those_of_all_rows<R: AllocGlobal + Threads + Wait + Sync>(
     rt: &R,
     seed: u64,
@@ -269,31 +178,9 @@ fn fronts_are_those_of_all_rows<R: AllocGlobal + Threads + Wait + Sync>(
 }
 
 #[test]
-fn fronts_are_those_of_all_rows_of_the_first_studies(rt: HostRuntime) -> Result<(), Fail> {
-    fronts_are_those_of_all_rows(&rt, 88172645)
-}
-
-#[test]
-fn fronts_are_those_of_all_rows_of_the_second_studies(rt: HostRuntime) -> Result<(), Fail> {
-    fronts_are_those_of_all_rows(&rt, 747796405)
-}
-
-#[test]
-fn fronts_are_those_of_all_rows_of_the_third_studies(rt: HostRuntime) -> Result<(), Fail> {
-    fronts_are_those_of_all_rows(&rt, 2891336453)
-}
-
-#[test]
-fn fronts_are_those_of_all_rows_of_the_fourth_studies(rt: HostRuntime) -> Result<(), Fail> {
-    fronts_are_those_of_all_rows(&rt, 277803737)
-}
-
-#[test]
-fn fronts_are_those_of_all_rows_of_the_fifth_studies(rt: HostRuntime) -> Result<(), Fail> {
-    fronts_are_those_of_all_rows(&rt, 1566083941)
-}
-
-#[test]
-fn fronts_are_those_of_all_rows_of_the_sixth_studies(rt: HostRuntime) -> Result<(), Fail> {
-    fronts_are_those_of_all_rows(&rt, 1103515245)
+fn fronts_are_those_of_all_rows_with_any_workers(rt: HostRuntime) -> Result<(), Fail> {
+    for seed in &SEEDS {
+        fronts_are_those_of_all_rows(&rt, *seed)?;
+    }
+    Ok(())
 }

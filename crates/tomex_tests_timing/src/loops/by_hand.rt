@@ -146,7 +146,7 @@ fn ways_of(alloc: Global, stays: &[Stay]) -> Result<Ways, Fail> {
 }
 
 /// True if a place is the head of a loop, or has it, or its loop is inside.
-pub fn is_in(loops: &[Option<u32>], head: u32, place: u32) -> bool {
+fn is_in(loops: &[Option<u32>], head: u32, place: u32) -> bool {
     let mut at = Some(place);
     for _ in loops {
         match at {

@@ -1,6 +1,6 @@
 -- The column of one heading more.
 use Rattle.tomex_choices_table.specs.ChoicesTable.{all_headings, heading_column}
-use Rattle.tomex_choices_table.proofs.Steps.{item_pushed}
+use Rattle.tomex_layout.proofs.Loops.{item_pushed}
 use Rattle.tomex_choices_table.proofs.table.all_columns.Goals as goal
 
 pub loop-heading-preserved : goal.loop-heading-preserved

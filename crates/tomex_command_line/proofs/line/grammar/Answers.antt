@@ -1,5 +1,5 @@
 -- The commands, one after the other.
-use Rattle.std.proofs.Common.{◌≡◌, ◌∙◌, ap₂, IfOk, IsOkAnd, Result, Ok, Err}
+use Rattle.std.proofs.Common.{◌≡◌, ◌∙◌, ap, ap₂, refl, true, IfOk, IsOkAnd, Result, Ok, Err}
 use Rattle.clap.specs.Simple.{App, Shape, app_of, shape_of, with_subcommand}
 use Rattle.clap.specs.declared.builder.command.Command.{Command}
 use Rattle.tomex_command_line.specs.Grammar.{bare_app, run_shape, parts_shape, cut_shape}
@@ -69,3 +69,81 @@ returns c =
     let twenty_three = offered c.with_command-program-23.result _ _ _ all_shape c.with_command-program-23.ensures
     twenty_two c.grammar-23.ensures in
     offered c.with_command.result _ _ _ explain_shape c.with_command.ensures twenty_three c.grammar-24.ensures
+
+-- a command is plain as its shape is
+plain : {E : Type 0} (command : Result Command E) (s : Shape) → IfOk command (λ k. shape_of k ≡ s) → s.is_plain ≡ true
+    → IfOk command (λ k. (shape_of k).is_plain ≡ true)
+plain (Err _) s is of_s = tt
+plain (Ok k) s is of_s = ap (λ (x : Shape). x.is_plain) is ∙ of_s
+
+pub with_command-program-requires : goal.with_command-program-requires
+with_command-program-requires c = plain _ run_shape c.grammar.ensures refl
+
+pub with_command-program-requires-2 : goal.with_command-program-requires-2
+with_command-program-requires-2 c = plain _ parts_shape c.grammar-2.ensures refl
+
+pub with_command-program-requires-3 : goal.with_command-program-requires-3
+with_command-program-requires-3 c = plain _ cut_shape c.grammar-3.ensures refl
+
+pub with_command-program-requires-4 : goal.with_command-program-requires-4
+with_command-program-requires-4 c = plain _ times_shape c.grammar-4.ensures refl
+
+pub with_command-program-requires-5 : goal.with_command-program-requires-5
+with_command-program-requires-5 c = plain _ pipeline_shape c.grammar-5.ensures refl
+
+pub with_command-program-requires-6 : goal.with_command-program-requires-6
+with_command-program-requires-6 c = plain _ tables_shape c.grammar-6.ensures refl
+
+pub with_command-program-requires-7 : goal.with_command-program-requires-7
+with_command-program-requires-7 c = plain _ animate_shape c.grammar-7.ensures refl
+
+pub with_command-program-requires-8 : goal.with_command-program-requires-8
+with_command-program-requires-8 c = plain _ stalls_shape c.grammar-8.ensures refl
+
+pub with_command-program-requires-9 : goal.with_command-program-requires-9
+with_command-program-requires-9 c = plain _ path_shape c.grammar-9.ensures refl
+
+pub with_command-program-requires-10 : goal.with_command-program-requires-10
+with_command-program-requires-10 c = plain _ loops_shape c.grammar-10.ensures refl
+
+pub with_command-program-requires-11 : goal.with_command-program-requires-11
+with_command-program-requires-11 c = plain _ front_shape c.grammar-11.ensures refl
+
+pub with_command-program-requires-12 : goal.with_command-program-requires-12
+with_command-program-requires-12 c = plain _ plot_shape c.grammar-12.ensures refl
+
+pub with_command-program-requires-13 : goal.with_command-program-requires-13
+with_command-program-requires-13 c = plain _ rows_shape c.grammar-13.ensures refl
+
+pub with_command-program-requires-14 : goal.with_command-program-requires-14
+with_command-program-requires-14 c = plain _ find_shape c.grammar-14.ensures refl
+
+pub with_command-program-requires-15 : goal.with_command-program-requires-15
+with_command-program-requires-15 c = plain _ page_shape c.grammar-15.ensures refl
+
+pub with_command-program-requires-16 : goal.with_command-program-requires-16
+with_command-program-requires-16 c = plain _ worth_shape c.grammar-16.ensures refl
+
+pub with_command-program-requires-17 : goal.with_command-program-requires-17
+with_command-program-requires-17 c = plain _ choices_shape c.grammar-17.ensures refl
+
+pub with_command-program-requires-18 : goal.with_command-program-requires-18
+with_command-program-requires-18 c = plain _ prices_shape c.grammar-18.ensures refl
+
+pub with_command-program-requires-19 : goal.with_command-program-requires-19
+with_command-program-requires-19 c = plain _ weights_shape c.grammar-19.ensures refl
+
+pub with_command-program-requires-20 : goal.with_command-program-requires-20
+with_command-program-requires-20 c = plain _ compare_shape c.grammar-20.ensures refl
+
+pub with_command-program-requires-21 : goal.with_command-program-requires-21
+with_command-program-requires-21 c = plain _ functions_shape c.grammar-21.ensures refl
+
+pub with_command-program-requires-22 : goal.with_command-program-requires-22
+with_command-program-requires-22 c = plain _ explore_shape c.grammar-22.ensures refl
+
+pub with_command-program-requires-23 : goal.with_command-program-requires-23
+with_command-program-requires-23 c = plain _ all_shape c.grammar-23.ensures refl
+
+pub with_command-requires : goal.with_command-requires
+with_command-requires c = plain _ explain_shape c.grammar-24.ensures refl

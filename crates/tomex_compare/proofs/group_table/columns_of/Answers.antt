@@ -1,6 +1,6 @@
 -- The column of one heading more.
 use Rattle.tomex_compare.specs.GroupTable.{all_headings, heading_column}
-use Rattle.tomex_compare.proofs.Steps.{item_pushed}
+use Rattle.tomex_layout.proofs.Loops.{item_pushed}
 use Rattle.tomex_compare.proofs.group_table.columns_of.Goals as goal
 
 pub loop-heading-preserved : goal.loop-heading-preserved

@@ -1,7 +1,7 @@
 -- The groups of one list more.
 use Rattle.tomex_config.specs.Parts.{all_parts}
 use Rattle.tomex_compare.specs.Groups.{list_groups}
-use Rattle.tomex_compare.proofs.Steps.{items_pushed}
+use Rattle.tomex_layout.proofs.Loops.{items_pushed}
 use Rattle.tomex_compare.proofs.groups.push_lists.Goals as goal
 
 pub loop-part-preserved : goal.loop-part-preserved

@@ -1,4 +1,5 @@
 -- One more step.
+use Rattle.std.proofs.lemmas.Grind.{common_steps}
 use Rattle.std.proofs.Common.{◌∙◌, arith, get_or}
 use Rattle.tomex_loops.specs.declared.coming.Coming.{Coming}
 use Rattle.tomex_loops.specs.declared.coming.Move.TheVariants.{On}
@@ -25,3 +26,6 @@ loop-coming-preserved g c =
             c.loop-coming-test.true before.2,
       );
     }
+
+pub returns-clause-found : goal.returns-clause-found
+returns-clause-found = grind (arith, common_steps)

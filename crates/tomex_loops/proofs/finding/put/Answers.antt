@@ -1,4 +1,5 @@
 -- The new stop stands last.
+use Rattle.std.proofs.lemmas.Grind.{common_steps}
 use Rattle.std.proofs.Common.{◌≡◌, ◌++◌, ◌∷◌, [], ℕ, List, Some, None, get_or, set, length, subst, sym, arith}
 use Rattle.std.proofs.lemmas.List.{get_or_read}
 use Rattle.tomex_loops.specs.declared.finding.Stop.{Stop}
@@ -19,3 +20,6 @@ returns-clause-at g c =
     (sym c.in_ok-push.ensures.items)
     (subst (λ (m : ℕ). AreStops (c.args.stops.now.items ++ s ∷ []) (set c.args.at.now.items c.args.place (Some m))) n
     (pushed c.args.stops.now.items s c.args.at.now.items c.requires.stops c.requires.place was))
+
+pub returns-clause-places : goal.returns-clause-places
+returns-clause-places = grind (arith, common_steps)

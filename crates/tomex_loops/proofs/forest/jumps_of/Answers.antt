@@ -1,4 +1,5 @@
 -- One more place: without a loop it jumps nowhere, else to the head of its loop or from there.
+use Rattle.std.proofs.lemmas.Grind.{common_steps}
 use Rattle.std.proofs.Common.{◌≡◌, ◌∙◌, ◌+◌, ◌<◌, ℕ, List, Option, ap, arith, length, subst, sym}
 use Rattle.std.specs.Prelude.{IfSome}
 use Rattle.std.proofs.lemmas.List.{length_push}
@@ -51,3 +52,6 @@ loop-place-preserved g c =
                 (sym w.deref.ensures.value) c.loop-place.invariant.jumps) le)));
           }
     ]
+
+pub jump_from-jump-requires-clause-head : goal.jump_from-jump-requires-clause-head
+jump_from-jump-requires-clause-head = grind (arith, common_steps)

@@ -1,4 +1,5 @@
 -- Before the first step, and one more.
+use Rattle.std.proofs.lemmas.Grind.{common_steps}
 use Rattle.std.proofs.Common.{◌∙◌, ◌+◌, ◌++◌, ◌∷◌, [], ℕ, List, Option, ap, append_assoc, arith, drop, get_or, map}
 use Rattle.std.proofs.Common.{refl, sym}
 use Rattle.tomex_loops.specs.declared.coming.Coming.{Coming}
@@ -67,3 +68,21 @@ loop-now-preserved g c =
             ∙ was.5,
       );
     }
+
+pub returns-clause-here : goal.returns-clause-here
+returns-clause-here = grind (arith, common_steps)
+
+pub returns-clause-visits : goal.returns-clause-visits
+returns-clause-visits = grind (arith, common_steps)
+
+pub returns-clause-rounds : goal.returns-clause-rounds
+returns-clause-rounds = grind (arith, common_steps)
+
+pub walk_on-requires-clause-place : goal.walk_on-requires-clause-place
+walk_on-requires-clause-place = grind (arith, common_steps)
+
+pub returns-clause-ends : goal.returns-clause-ends
+returns-clause-ends = grind (arith, common_steps)
+
+pub returns-clause-innermost : goal.returns-clause-innermost
+returns-clause-innermost = grind (arith, common_steps)

@@ -7,3 +7,6 @@ use Rattle.tomex_pareto.proofs.hulls.hull.Goals as goal
 pub returns : goal.returns
 unfolding hull_of
 returns g c = grind (arith, common_steps)
+
+pub loop-row-preserved : goal.loop-row-preserved
+loop-row-preserved = grind (arith, common_steps)

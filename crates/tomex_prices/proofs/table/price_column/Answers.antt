@@ -1,10 +1,11 @@
 -- The entry of one row more.
-use Rattle.std.proofs.Common.{◌∙◌, ap, get_or, refl}
+use Rattle.std.proofs.Common.{◌∙◌, ap, get_or}
 use Rattle.tomex_pareto.specs.declared.front_row.FrontRow.{FrontRow}
+use Rattle.tomex_layout.proofs.Loops.{item_more}
 use Rattle.tomex_layout.specs.Table.{TableColumn}
 use Rattle.tomex_prices.specs.Interval.{range_text}
 use Rattle.tomex_prices.specs.Studies.{interval_of}
-use Rattle.tomex_prices.proofs.ColumnLoops.{item_more, text_of_range}
+use Rattle.tomex_prices.proofs.RangeTexts.{text_of_range}
 use Rattle.tomex_prices.proofs.table.price_column.Goals as goal
 
 pub loop-row-preserved : goal.loop-row-preserved
@@ -14,7 +15,7 @@ loop-row-preserved g c =
     c.in_ok-format-3.ensures.ok c.interval_of-range.ensures.ends c.study-study.ensures in
     let grown = ap (λ (x : TableColumn). x.entries) c.in_ok-push-2.ensures.one in
     let entries = item_more (λ r. range_text (interval_of c.args.surveyed.now c.args.price r))
-    c.front-row-items.result.now c.loop-row.row-index _ none _ _ _ _ c.loop-row-test.true refl grown text
+    c.front-row-items.result.now c.loop-row.row-index none _ _ _ _ c.loop-row-test.true grown text
     c.loop-row.invariant.entries in
     record {
       name = ap (λ (x : TableColumn). x.name) c.in_ok-push-2.ensures.one ∙ c.loop-row.invariant.name;

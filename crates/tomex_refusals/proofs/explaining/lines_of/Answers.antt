@@ -1,5 +1,6 @@
 -- The line of one more refusal.
-use Rattle.std.proofs.Common.{ap, List, ℕ, ◌++◌, refl}
+use Rattle.std.proofs.Common.{ap, List, ℕ, ◌++◌, refl, arith}
+use Rattle.std.proofs.lemmas.Grind.{common_steps}
 use Rattle.std.specs.List.{flat_map}
 use Rattle.tomex_refusals.specs.Refusals.{line_of}
 use Rattle.tomex_refusals.proofs.Found.{line_more}
@@ -12,3 +13,6 @@ pub loop-refusal-preserved : goal.loop-refusal-preserved
 loop-refusal-preserved g c =
     line_more line_of c.args.refusals.now c.loop-refusal.refusal-index _ _ c.loop-refusal-test.true refl
     c.in_ok-push_line.ensures c.loop-refusal.invariant
+
+pub returns : goal.returns
+returns = grind (arith, common_steps)

@@ -1,5 +1,6 @@
 -- The words stand at a place, or at none.
-use Rattle.std.proofs.Common.{◌∙◌, refl, sym}
+use Rattle.std.proofs.Common.{◌∙◌, refl, sym, arith}
+use Rattle.std.proofs.lemmas.Grind.{common_steps}
 use Rattle.tomex_refusals.proofs.Standing.{at_last, in_text}
 use Rattle.tomex_refusals.proofs.looking.has_words.Goals as goal
 
@@ -20,3 +21,6 @@ returns c =
       λ e. in_text c.args.text.now c.args.words.now _ (sym last ∙ e),
       λ has. at_last c.args.text.now c.args.words.now c.loop-place.place _ _ room refl past none last has,
     )
+
+pub returns-then-text-words : goal.returns-then-text-words
+returns-then-text-words = grind (arith, common_steps)

@@ -22,3 +22,12 @@ returns-in-Jump c = grind (arith, common_steps)
 
 pub returns-in-Immediate : goal.returns-in-Immediate
 returns-in-Immediate c = grind (arith, common_steps)
+
+pub six_fields-requires-in-Branch-clause-high : goal.six_fields-requires-in-Branch-clause-high
+six_fields-requires-in-Branch-clause-high = grind (arith, common_steps)
+
+pub six_fields-requires-in-Jump-clause-high : goal.six_fields-requires-in-Jump-clause-high
+six_fields-requires-in-Jump-clause-high = grind (arith, common_steps)
+
+pub six_fields-requires-in-Branch-clause-low : goal.six_fields-requires-in-Branch-clause-low
+six_fields-requires-in-Branch-clause-low = grind (arith, common_steps)

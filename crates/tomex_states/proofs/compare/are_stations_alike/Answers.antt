@@ -13,3 +13,6 @@ returns c =
           (λ k z l. c.loop-pool.invariant k z (omega arith)),
       λ alike. refl,
     )
+
+pub loop-pool-preserved : goal.loop-pool-preserved
+loop-pool-preserved = grind arith

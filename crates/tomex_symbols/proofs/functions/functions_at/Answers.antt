@@ -1,4 +1,5 @@
 -- One more address.
+use Rattle.std.proofs.lemmas.Grind.{common_steps}
 use Rattle.std.proofs.Common.{◌+◌, ◌∙◌, arith, get_or}
 use Rattle.tomex_symbols.proofs.Best.{functions_more, numbered_moved}
 use Rattle.tomex_symbols.proofs.Swept.{swept_later}
@@ -23,3 +24,9 @@ loop-pc-preserved g c = record {
       c.sort_symbols.ensures.moved c.loop-pc-test.true c.loop-pc.invariant.items
       (rw c.as_slice.ensures.value at c.in_ok-function_at.ensures.value);
 }
+
+pub function_at-requires-clause-order : goal.function_at-requires-clause-order
+function_at-requires-clause-order = grind (arith, common_steps)
+
+pub returns : goal.returns
+returns = grind (arith, common_steps)

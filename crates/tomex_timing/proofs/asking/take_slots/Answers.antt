@@ -1,4 +1,5 @@
 -- What is taken of one line leaves the others as they were: the unit's line is not the buses'.
+use Rattle.std.proofs.lemmas.Grind.{common_steps}
 use Rattle.std.proofs.Common.{ℕ, ◌+◌, ◌≤◌, ◌≡◌, ◌∙◌, Bool, false, arith, refl, ap, Option, Some}
 use Rattle.std.proofs.Common.{None, ◌==◌, ◌&&◌, if◌then◌else◌}
 use Rattle.std.proofs.lemmas.Bool.{ne_eqb}
@@ -69,3 +70,9 @@ returns-clause-taken g c = λ u t late. rw c.requires.unit
     (c.in_ok-end.ensures.units (place_of_unit u) t (unit_low u) (rw c.in_ok-start.ensures.base late)
     ∙ unit_taken c.args.table.now c.reserve.new.self c.args.unit u c.in_ok-start.start.cycle t
     (rw c.place.ensures.place at (c.in_ok-start.ensures.with (place_of_unit u) t (omega (arith, unit_low u)) late)))
+
+pub returns-clause-sent : goal.returns-clause-sent
+returns-clause-sent = grind arith
+
+pub returns-clause-units : goal.returns-clause-units
+returns-clause-units = grind (arith, common_steps)

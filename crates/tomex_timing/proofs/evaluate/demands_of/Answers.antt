@@ -1,4 +1,5 @@
 -- Each turn of the loop keeps what is held, and adds the step's demands.
+use Rattle.std.proofs.lemmas.Grind.{common_steps}
 use Rattle.std.proofs.Common.{ap, arith}
 use Rattle.tomex_timing.specs.Ahead.{Held}
 use Rattle.tomex_timing.proofs.Demanded.{asked_turn, demands_none}
@@ -28,3 +29,6 @@ loop-step-preserved g c = λ steps are.
     let e = c.in_ok-ask_next.ensures in
     let turn = asked_turn (turn_of at.1 before.shown e.next) before.demands e.held e.noted in
     record { shown = turn.0; demands = turn.1 }
+
+pub returns : goal.returns
+returns = grind (arith, common_steps)

@@ -1,4 +1,5 @@
 -- Each turn of the loop keeps what is held, and adds the step's needs.
+use Rattle.std.proofs.lemmas.Grind.{common_steps}
 use Rattle.std.proofs.Common.{◌^◌, arith}
 use Rattle.tomex_timing.proofs.Needed.{needs_none}
 use Rattle.tomex_timing.proofs.Summary.{empty_summary}
@@ -43,3 +44,6 @@ loop-step-preserved g c = λ steps are.
       shown = held_turn turn c.in_ok-keep.ensures;
       needs = rw c.note.ensures (needs_turn turn e.waits e.taken before.needs);
     }
+
+pub returns : goal.returns
+returns = grind (arith, common_steps)

@@ -1,5 +1,6 @@
 -- One step's facts more.
-use Rattle.std.proofs.Common.{rules, ◌≡◌, slice_index_or}
+use Rattle.std.proofs.Common.{rules, ◌≡◌, slice_index_or, arith}
+use Rattle.std.proofs.lemmas.Grind.{common_steps}
 use Rattle.tomex_timing.proofs.Turns.{facts_more}
 use Rattle.tomex_timing.proofs.recent.facts_of.Goals as goal
 
@@ -10,3 +11,6 @@ loop-step-preserved g c =
     rw c.in_ok-push.ensures.items (facts_more c.args.steps.now c.loop-step.facts.items c.loop-step.step-index
     c.step-item.result c.of.result c.loop-step-test.true is c.of.ensures.facts c.of.ensures.range
     c.loop-step.invariant)
+
+pub returns : goal.returns
+returns = grind (arith, common_steps)

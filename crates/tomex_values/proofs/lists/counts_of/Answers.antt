@@ -1,5 +1,6 @@
 -- The counts are read in order, up to the first fault.
-use Rattle.std.proofs.Common.{sym}
+use Rattle.std.proofs.Common.{sym, arith}
+use Rattle.std.proofs.lemmas.Grind.{common_steps}
 use Rattle.std.proofs.lemmas.Result.{err_from_is_err_and}
 use Rattle.tomex_values.specs.Numbers.{between, number_of}
 use Rattle.tomex_values.proofs.Items.{each_end, each_fault}
@@ -15,3 +16,6 @@ returns-in_err-count g c =
 pub returns : goal.returns
 returns g c = each_end (number_of c.args.place c.args.key (between 1 c.args.most)) _ _ _ _ c.loop-value-test.false
     c.loop-value.invariant
+
+pub loop-value-preserved : goal.loop-value-preserved
+loop-value-preserved = grind (arith, common_steps)

@@ -1,8 +1,9 @@
 -- The line of one row more.
+use Rattle.tomex_layout.proofs.Loops.{item_more}
 use Rattle.tomex_pareto.specs.declared.front_row.FrontRow.{FrontRow}
 use Rattle.tomex_pareto.specs.Spans.{HasRoom}
 use Rattle.tomex_weights.specs.Spans.{by_weight}
-use Rattle.tomex_weights.proofs.Turns.{all_more, item_more}
+use Rattle.tomex_weights.proofs.Turns.{all_more}
 use Rattle.tomex_weights.proofs.line_rows.lines_of.Goals as goal
 
 pub loop-row-preserved : goal.loop-row-preserved

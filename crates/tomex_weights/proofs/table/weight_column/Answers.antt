@@ -1,10 +1,10 @@
 -- The entry of one row more.
 use Rattle.std.proofs.Common.{◌∙◌, ap}
 use Rattle.tomex_layout.specs.Table.{TableColumn}
+use Rattle.tomex_layout.proofs.Loops.{item_more}
 use Rattle.tomex_pareto.specs.declared.front_row.FrontRow.{FrontRow}
 use Rattle.tomex_weights.specs.Spans.{span_of}
 use Rattle.tomex_weights.specs.Texts.{span_text}
-use Rattle.tomex_weights.proofs.Turns.{item_more}
 use Rattle.tomex_weights.proofs.table.weight_column.Goals as goal
 
 pub loop-row-preserved : goal.loop-row-preserved

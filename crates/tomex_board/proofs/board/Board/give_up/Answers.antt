@@ -1,3 +1,4 @@
+use Rattle.std.proofs.lemmas.Grind.{common_steps}
 use Rattle.std.proofs.Common.{rules, arith, subst, sym}
 use Rattle.tomex_board.specs.declared.mark.Mark.TheVariants.{Dropped}
 use Rattle.tomex_board.specs.declared.view.View.{View}
@@ -21,3 +22,6 @@ compare_exchange-requires g c = let J = g.J.Plan in let q = c.self.invariant.2 i
 pub returns-clause-grown : goal.returns-clause-grown
 returns-clause-grown g c = subst (λ (w : View). Grows c.args.seat.now.view w) (sym (search rules))
     (closing_grows c.args.i (Dropped c.args.bound.row) c.args.seat.now.view)
+
+pub invariant_of-seat : goal.invariant_of-seat
+invariant_of-seat = grind (arith, common_steps)

@@ -1,3 +1,4 @@
+use Rattle.std.proofs.lemmas.Grind.{common_steps}
 use Rattle.std.proofs.Common.{rules, ◌+◌, arith, ap, ℕ}
 use Rattle.tomex_board.specs.Known.{Known}
 use Rattle.tomex_board.proofs.Bands.{looks}
@@ -14,3 +15,6 @@ returns-clause-seen g c = let J = g.J.Plan in rw (← ap (λ (k : Known). k.view
     (looks_at J.costs J.cycles c.self.inside.table.shared.table_id.slots c.args.k (c.self.inside.rows + c.args.k)
     c.load.result c.seat.inside.inner.me c.load.new.seat.me c.self.invariant.0.1
     (ap (λ (n : ℕ). n + c.args.k) c.self.invariant.1) c.load.ensures.2)
+
+pub invariant_of-seat : goal.invariant_of-seat
+invariant_of-seat = grind (arith, common_steps)

@@ -1,3 +1,4 @@
+use Rattle.std.proofs.lemmas.Grind.{common_steps}
 use Rattle.std.proofs.Common.{rules, arith, subst, sym, ℕ, ◌<◌, ◌^◌}
 use Rattle.std.proofs.lemmas.List.Elements.{All-get_or}
 use Rattle.tomex_board.specs.declared.mark.Mark.TheVariants.{Finished}
@@ -23,3 +24,6 @@ compare_exchange-requires g c = let J = g.J.Plan in let q = c.self.invariant.2 i
 pub returns-clause-grown : goal.returns-clause-grown
 returns-clause-grown g c = subst (λ (w : View). Grows c.args.seat.now.view w) (sym (search rules))
     (closing_grows c.args.i (Finished c.args.cycles) c.args.seat.now.view)
+
+pub invariant_of-seat : goal.invariant_of-seat
+invariant_of-seat = grind (arith, common_steps)

@@ -1,4 +1,5 @@
-use Rattle.std.proofs.Common.{◌≡◌, rules, ◌∙◌, ap, subst, sym, inl, refl, ℕ, length, List, []}
+use Rattle.std.proofs.Common.{◌≡◌, rules, ◌∙◌, ap, subst, sym, inl, refl, ℕ, length, List, [], arith}
+use Rattle.std.proofs.lemmas.Grind.{common_steps}
 use Rattle.tomex_board.specs.Bands.{floors_of}
 use Rattle.tomex_board.specs.Steps.{Seated}
 use Rattle.tomex_board.specs.Views.{Has, first_view}
@@ -30,3 +31,6 @@ invariant_of-result g c = begins c.in_ok-table.inner.me c.in_ok-table.ensures.se
 
 pub returns : goal.returns
 returns g c = (c.in_ok-table.ensures.seat.0, ap (λ (m : Seated). m.0) c.in_ok-table.ensures.seat.1)
+
+pub open_table-requires-clause-rows : goal.open_table-requires-clause-rows
+open_table-requires-clause-rows = grind (arith, common_steps)

@@ -29,3 +29,6 @@ fetch_min-requires g c = let J = g.J.Plan in let n = c.self.invariant.1 in let q
 pub invariant_of-seat : goal.invariant_of-seat
 invariant_of-seat g c = let t = c.fetch_min.ensures.2 in let x = c.seat.invariant.1 in
     (t.slots ∙ c.seat.invariant.0, (x.0, subst (λ (v : View). Has v.share x.0) (sym t.view) x.1))
+
+pub returns-clause-grown : goal.returns-clause-grown
+returns-clause-grown = grind arith

@@ -1,5 +1,6 @@
 -- No configuration yet, and one more.
-use Rattle.std.proofs.Common.{◌≡◌, ◌∙◌, ap, sym}
+use Rattle.std.proofs.Common.{◌≡◌, ◌∙◌, ap, sym, arith}
+use Rattle.std.proofs.lemmas.Grind.{common_steps}
 use Rattle.std.specs.List.{list_any}
 use Rattle.tomex_config.specs.Parts.{is_like}
 use Rattle.tomex_config.proofs.Firsts.{all_coming, one_came, one_comes}
@@ -25,3 +26,6 @@ loop-config-preserved c =
           c.config-item.result c.loop-config-test.true c.config-item.is (any ∙ w.if-not-is_in.false)
           (ap (λ v. v.items) w.firsts-is) c.loop-config.invariant
     ]
+
+pub returns : goal.returns
+returns = grind (arith, common_steps)

@@ -1,4 +1,5 @@
 -- The place goes to the end of its way, after a round or as a new one.
+use Rattle.std.proofs.lemmas.Grind.{common_steps}
 use Rattle.std.proofs.Common.{◌≡◌, ◌∙◌, ◌<◌, ◌≤◌, ℕ, List, None, Option, ap, arith, drop, get_or, length, refl, subst}
 use Rattle.std.proofs.Common.{sym}
 use Rattle.tomex_loops.specs.declared.finding.Finder.{Finder}
@@ -63,3 +64,12 @@ returns-clause-found g c = λ f shows.
           (places_of c.put.new.stops.items) ready c.in_ok-put.ensures.places;
       found = ready.found;
     }
+
+pub returns-clause-few : goal.returns-clause-few
+returns-clause-few = grind (arith, common_steps)
+
+pub returns-clause-state : goal.returns-clause-state
+returns-clause-state = grind (arith, common_steps)
+
+pub put-requires-clause-few : goal.put-requires-clause-few
+put-requires-clause-few = grind (arith, common_steps)

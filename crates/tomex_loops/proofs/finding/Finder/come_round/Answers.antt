@@ -1,4 +1,5 @@
 -- The round's places are known, and its head is the first of them.
+use Rattle.std.proofs.lemmas.Grind.{common_steps}
 use Rattle.std.proofs.Common.{◌≡◌, ◌∙◌, ℕ, List, None, Option, ap, arith, drop, get_or, length, set, sym, take, true}
 use Rattle.std.proofs.lemmas.List.{drop-map, take-map, take_rest}
 use Rattle.tomex_loops.specs.declared.finding.Stop.{Stop}
@@ -67,3 +68,6 @@ returns-clause-loops g c = λ x h.
     c.head_of-head.result (loop_in c.args.self.now.loops.items) x) round
     ∙ ap (λ (n : ℕ). loop_after (drop c.args.self.now.base (take c.args.k (places_of c.args.self.now.stops.items)))
     (drop c.args.k (places_of c.args.self.now.stops.items)) n (loop_in c.args.self.now.loops.items) x) head
+
+pub returns-clause-state : goal.returns-clause-state
+returns-clause-state = grind (arith, common_steps)

@@ -1,4 +1,5 @@
 -- Back from a call.
+use Rattle.std.proofs.lemmas.Grind.{common_steps}
 use Rattle.std.proofs.Common.{◌≡◌, ◌∙◌, ℕ, List, ap, arith, length, refl, reverse, sym, take}
 use Rattle.std.proofs.lemmas.List.{take-map}
 use Rattle.std.specs.Prelude.{vec_len}
@@ -26,3 +27,12 @@ returns-in-Return-clause-ways g c =
     c.pop.ensures.cases (omega arith)) c.unwrap_or-self.ensures many in
     ap (λ (xs : List ℕ). calls_in same c.unwrap_or-self.result (reverse c.pop.new.self.items) xs) cut
     ∙ back ∙ ap (λ (by : Move). moved by (ways_of c.args.self.now)) (sym c.in-Return.is)
+
+pub returns-in_ok-push-in-Call-clause-ways : goal.returns-in_ok-push-in-Call-clause-ways
+returns-in_ok-push-in-Call-clause-ways = grind (arith, common_steps)
+
+pub returns-in_ok-push-in-Call-clause-state : goal.returns-in_ok-push-in-Call-clause-state
+returns-in_ok-push-in-Call-clause-state = grind (arith, common_steps)
+
+pub returns-in-Return-clause-state : goal.returns-in-Return-clause-state
+returns-in-Return-clause-state = grind (arith, common_steps)

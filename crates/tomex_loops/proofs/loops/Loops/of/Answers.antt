@@ -1,4 +1,5 @@
 -- What is found in the run's comings is what is found in the run.
+use Rattle.std.proofs.lemmas.Grind.{common_steps}
 use Rattle.std.proofs.Common.{◌∙◌, ◌<◌, ℕ, Bool, List, ap, arith, false, get_or, length, map, subst, sym}
 use Rattle.tomex_loops.specs.declared.coming.Coming.{Coming}
 use Rattle.tomex_loops.specs.Loops.{found_in}
@@ -96,3 +97,9 @@ returns-clause-sound g c =
     (λ k z h. let low = w.places k z h in omega (arith, low, w.many)))
     (returns-clause-heads g c) (returns-clause-visits g c) (returns-clause-ends g c) (returns-clause-innermost g c)
     (returns-clause-here g c) (returns-clause-rounds g c)
+
+pub heads_to-requires : goal.heads_to-requires
+heads_to-requires = grind (arith, common_steps)
+
+pub find-requires-clause-places : goal.find-requires-clause-places
+find-requires-clause-places = grind (arith, common_steps)

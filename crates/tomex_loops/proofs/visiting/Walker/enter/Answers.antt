@@ -1,4 +1,5 @@
 -- One more visit under way.
+use Rattle.std.proofs.lemmas.Grind.{common_steps}
 use Rattle.std.proofs.Common.{◌≡◌, ◌∙◌, List, ap, arith, drop, length, refl, reverse}
 use Rattle.std.specs.Option.{option_map}
 use Rattle.tomex_loops.specs.declared.visit.Open.{Open}
@@ -17,3 +18,9 @@ returns-clause-shows g c = λ heads w is_number is_now shows.
     ∙ ap (λ (ys : List Open). option_map (λ (v : Open). v.visit) (first_of (reverse (drop c.args.self.now.base ys))))
     c.deref-2.ensures.value)
     refl refl c.in_ok-push.ensures.items c.in_ok-push-2.ensures.items c.in_ok-push-3.ensures.items refl
+
+pub returns-clause-visits : goal.returns-clause-visits
+returns-clause-visits = grind (arith, common_steps)
+
+pub returns-clause-state : goal.returns-clause-state
+returns-clause-state = grind (arith, common_steps)

@@ -1,4 +1,5 @@
 -- The move, the visits that end, and the arrival.
+use Rattle.std.proofs.lemmas.Grind.{common_steps}
 use Rattle.std.proofs.Common.{◌≡◌, ◌∙◌, ◌<◌, ◌++◌, ◌∷◌, [], ℕ, List, Option, ap, arith, drop, false, get_or, length}
 use Rattle.std.proofs.Common.{reverse}
 use Rattle.std.specs.Option.{option_map}
@@ -78,3 +79,6 @@ returns-clause-here g c = λ w is_now shows.
     ∙ ap (λ (xs : List (Option ℕ)). xs ++ c.innermost_here-here.result ∷ [])
     (c.in_ok-arrive.ensures.here ∙ c.leave_loops.ensures.here ∙ c.in_ok-go.ensures.here)
     ∙ ap (λ (o : Option ℕ). c.args.self.now.here.items ++ o ∷ []) inner
+
+pub returns-clause-visits : goal.returns-clause-visits
+returns-clause-visits = grind (arith, common_steps)

@@ -1,5 +1,5 @@
 -- Each turn of the loop is a step more of the run.
-use Rattle.std.proofs.Common.{◌≡◌, arith, refl}
+use Rattle.std.proofs.Common.{◌≡◌, ◌∙◌, arith, refl, sym, true≢false}
 use Rattle.tomex_timing.proofs.Turns.{step_of}
 use Rattle.tomex_states.proofs.Steps.{noted_next, ready_next, shows_next, window_next}
 use Rattle.tomex_states.proofs.state.State.evaluate.Goals as goal
@@ -30,11 +30,12 @@ loop-place-preserved g c = λ steps are shown.
                 older = w.note.ensures.older;
                 count = w.note.ensures.count;
               })
-              (λ none. absurd (cc));
+              (λ none. absurd (true≢false (sym w.if-is_some.true ∙ (c.is_some.ensures ∙ none))));
         })
         | else-is_some w ↦ rw w.self-is (record {
           held = held;
-          window = window_next at.1 before.state.held e.next before.state.window (λ some. absurd (cc)) (λ none. refl);
+          window = window_next at.1 before.state.held e.next before.state.window 
+              (λ some. absurd (true≢false (sym some ∙ (sym c.is_some.ensures ∙ w.if-is_some.false)))) (λ none. refl);
         })
       ];
       noted = λ noted. noted_next at.1 before.state.held e.next e.noted (before.noted noted);

@@ -1,4 +1,5 @@
 -- All cycles fit, and the state shows the history of the later place.
+use Rattle.std.proofs.Common.{arith}
 use Rattle.tomex_states.proofs.Bounds.{ends_fit, finishes_fit, older_fits, stations_fit}
 use Rattle.tomex_states.proofs.Moved.{state_moved}
 use Rattle.tomex_states.proofs.state.State.move_by.Goals as goal
@@ -37,3 +38,6 @@ returns-clause-shows g c = λ h steps are shows alike first.
       accesses = accesses;
     })
     h steps are shows alike first
+
+pub returns-clause-moved : goal.returns-clause-moved
+returns-clause-moved = grind arith

@@ -1,5 +1,6 @@
 -- One more symbol; those left begin later.
-use Rattle.std.proofs.Common.{refl}
+use Rattle.std.proofs.Common.{refl, arith}
+use Rattle.std.proofs.lemmas.Grind.{common_steps}
 use Rattle.tomex_symbols.proofs.Rising.{rest_begins, rises}
 use Rattle.tomex_symbols.proofs.Swept.{swept_next}
 use Rattle.tomex_symbols.proofs.sweep.Sweep.begin_up_to.Goals as goal
@@ -19,3 +20,6 @@ pub returns-else-sorted-self-clause-rest : goal.returns-else-sorted-self-clause-
 returns-else-sorted-self-clause-rest g c =
     rest_begins c.args.sorted.now c.loop-self.self.begun c.args.pc _ (rises c.args.sorted.now c.requires.order)
     (λ l. c.if-sorted-self.false)
+
+pub returns-after-loop-self-clause-rest : goal.returns-after-loop-self-clause-rest
+returns-after-loop-self-clause-rest = grind (arith, common_steps)

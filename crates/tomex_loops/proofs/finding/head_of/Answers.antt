@@ -1,0 +1,7 @@
+-- Closed at once: a search by rules takes long before it fails.
+use Rattle.std.proofs.Common.{arith}
+use Rattle.std.proofs.lemmas.Grind.{common_steps}
+use Rattle.tomex_loops.proofs.finding.head_of.Goals as goal
+
+pub loop-other-preserved : goal.loop-other-preserved
+loop-other-preserved = grind (arith, common_steps)

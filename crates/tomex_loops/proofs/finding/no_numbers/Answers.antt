@@ -1,0 +1,7 @@
+-- Closed at once: a search by rules takes long before it fails.
+use Rattle.std.proofs.Common.{arith}
+use Rattle.std.proofs.lemmas.Grind.{common_steps}
+use Rattle.tomex_loops.proofs.finding.no_numbers.Goals as goal
+
+pub loop-place-preserved : goal.loop-place-preserved
+loop-place-preserved = grind (arith, common_steps)

@@ -1,0 +1,6 @@
+-- Closed at once: a search by rules takes long before it fails.
+use Rattle.std.proofs.Common.{arith}
+use Rattle.tomex_loops.proofs.forest.forest_of.Goals as goal
+
+pub returns-clause-forest : goal.returns-clause-forest
+returns-clause-forest = grind arith
