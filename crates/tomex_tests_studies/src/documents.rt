@@ -67,36 +67,19 @@ fn lawful_studies(rt: HostRuntime) -> Result<(), Fail> {
 }
 
 #[test]
-fn refused_at_top(rt: HostRuntime) -> Result<(), Fail> {
-    for (study, wanted) in &AT_TOP {
-        is_said(&rt, study, *wanted)?;
+fn refused_studies(rt: HostRuntime) -> Result<(), Fail> {
+    for studies in [
+        AT_TOP.as_slice(),
+        IN_PROGRAMS.as_slice(),
+        WIDE.as_slice(),
+        ORDERED.as_slice(),
+    ] {
+        for (study, wanted) in studies {
+            is_said(&rt, study, *wanted)?;
+        }
     }
     let refused = file_names(rt.alloc(), rt.alloc(), &[0xff]);
     assert!(rt; matches!(&refused, Err(StudyError::Syntax)));
-    Ok(())
-}
-
-#[test]
-fn refused_in_programs(rt: HostRuntime) -> Result<(), Fail> {
-    for (study, wanted) in &IN_PROGRAMS {
-        is_said(&rt, study, *wanted)?;
-    }
-    Ok(())
-}
-
-#[test]
-fn refused_widths_and_weights(rt: HostRuntime) -> Result<(), Fail> {
-    for (study, wanted) in &WIDE {
-        is_said(&rt, study, *wanted)?;
-    }
-    Ok(())
-}
-
-#[test]
-fn refused_by_order(rt: HostRuntime) -> Result<(), Fail> {
-    for (study, wanted) in &ORDERED {
-        is_said(&rt, study, *wanted)?;
-    }
     Ok(())
 }
 

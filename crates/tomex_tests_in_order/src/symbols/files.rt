@@ -1,7 +1,6 @@
 //! A file with three functions, and the same with bytes of its tables changed.
 
 use std::alloc::Global;
-use std::process::Abort;
 use std::test::Fail;
 use tomex_symbols::{Binding, Kind, Symbol, name_of, symbols};
 use tomex_tests_fixtures::programs::CALLS;
@@ -16,17 +15,6 @@ fn count_of(alloc: Global, changes: &[(usize, u8)]) -> Result<usize, Fail> {
         }
     }
     Ok(symbols(alloc, bytes.as_slice())?.len())
-}
-
-/// Fails unless the file with these bytes changed has this number of symbols.
-fn counts<R: Abort + AllocGlobal>(
-    rt: &R,
-    changes: &[(usize, u8)],
-    count: usize,
-) -> Result<(), Fail> {
-    let found = count_of(rt.alloc(), changes)?;
-    assert!(rt; found == count, "{found} and not {count}");
-    Ok(())
 }
 
 /// A function of the file.
@@ -93,59 +81,52 @@ fn every_beginning(rt: HostRuntime) -> Result<(), Fail> {
     Ok(())
 }
 
-#[test]
-fn section_headers(rt: HostRuntime) -> Result<(), Fail> {
-    // of another size; more than the file has; beyond its end
-    counts(&rt, &[(46, 41)], 0)?;
-    counts(&rt, &[(48, 6)], 0)?;
-    counts(&rt, &[(32, 0xff), (33, 0xff), (34, 0xff), (35, 0xff)], 0)?;
+/// Bytes that are changed, and the number of symbols that are left.
+static CHANGED: [(&[(usize, u8)], usize); 28] = [
+    // section headers of another size; more than the file has; beyond its end
+    (&[(46, 41)], 0),
+    (&[(48, 6)], 0),
+    (&[(32, 0xff), (33, 0xff), (34, 0xff), (35, 0xff)], 0),
     // the symbol table isn't one of them
-    counts(&rt, &[(48, 4)], 0)
-}
-
-#[test]
-fn symbol_tables(rt: HostRuntime) -> Result<(), Fail> {
+    (&[(48, 4)], 0),
     // the table of a dynamic linker, entries of another size, a part of an entry
-    counts(&rt, &[(376, 11)], 0)?;
-    counts(&rt, &[(408, 24)], 0)?;
-    counts(&rt, &[(392, 63)], 2)?;
-    // outside of the file, also if the sum of offset and size wrapped
-    counts(&rt, &[(393, 1)], 0)?;
-    counts(
-        &rt,
-        &[(388, 0xf0), (389, 0xff), (390, 0xff), (391, 0xff)],
-        0,
-    )?;
+    (&[(376, 11)], 0),
+    (&[(408, 24)], 0),
+    (&[(392, 63)], 2),
+    // a table outside of the file, also if the sum of offset and size wrapped
+    (&[(393, 1)], 0),
+    (&[(388, 0xf0), (389, 0xff), (390, 0xff), (391, 0xff)], 0),
     // a second table after the first one, and before it
-    counts(&rt, &[(296, 2)], 0)?;
-    counts(&rt, &[(336, 2)], 0)
-}
-
-#[test]
-fn tables_of_names(rt: HostRuntime) -> Result<(), Fail> {
-    // in no section, in one of code, outside of the file, cut in a name, and before one
-    counts(&rt, &[(396, 5)], 0)?;
-    counts(&rt, &[(396, 1)], 0)?;
-    counts(&rt, &[(353, 2)], 0)?;
-    counts(&rt, &[(352, 14)], 3)?;
-    counts(&rt, &[(352, 13)], 2)
-}
-
-#[test]
-fn kinds_of_symbols(rt: HostRuntime) -> Result<(), Fail> {
+    (&[(296, 2)], 0),
+    (&[(336, 2)], 0),
+    // names in no section, in one of code, outside of the file, cut in a name, and before one
+    (&[(396, 5)], 0),
+    (&[(396, 1)], 0),
+    (&[(353, 2)], 0),
+    (&[(352, 14)], 3),
+    (&[(352, 13)], 2),
     // an undefined function, an object, an indirect function, one without a name
-    counts(&rt, &[(178, 0)], 2)?;
-    counts(&rt, &[(176, 0x11)], 2)?;
-    counts(&rt, &[(176, 0x1a)], 2)?;
-    counts(&rt, &[(164, 0)], 2)?;
+    (&[(178, 0)], 2),
+    (&[(176, 0x11)], 2),
+    (&[(176, 0x1a)], 2),
+    (&[(164, 0)], 2),
     // labels: in code, in data, in no section
-    counts(&rt, &[(176, 0x10)], 3)?;
-    counts(&rt, &[(176, 0x10), (178, 2)], 2)?;
-    counts(&rt, &[(176, 0x10), (178, 0)], 2)?;
-    counts(&rt, &[(176, 0x10), (178, 5)], 2)?;
+    (&[(176, 0x10)], 3),
+    (&[(176, 0x10), (178, 2)], 2),
+    (&[(176, 0x10), (178, 0)], 2),
+    (&[(176, 0x10), (178, 5)], 2),
     // internal names, of labels and of functions
-    counts(&rt, &[(176, 0x10), (129, b'$')], 2)?;
-    counts(&rt, &[(176, 0x10), (129, b'.'), (130, b'L')], 2)?;
-    counts(&rt, &[(176, 0x10), (129, b'.'), (130, b'l')], 3)?;
-    counts(&rt, &[(129, b'.'), (130, b'L')], 3)
+    (&[(176, 0x10), (129, b'$')], 2),
+    (&[(176, 0x10), (129, b'.'), (130, b'L')], 2),
+    (&[(176, 0x10), (129, b'.'), (130, b'l')], 3),
+    (&[(129, b'.'), (130, b'L')], 3),
+];
+
+#[test]
+fn changed_files(rt: HostRuntime) -> Result<(), Fail> {
+    for (changes, count) in &CHANGED {
+        let found = count_of(rt.alloc(), changes)?;
+        assert!(rt; found == *count, "{changes:?}: {found}");
+    }
+    Ok(())
 }

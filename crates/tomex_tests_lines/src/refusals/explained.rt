@@ -126,8 +126,8 @@ fn studies(rt: HostRuntime) -> Result<(), Fail> {
     Ok(())
 }
 
-/// Refusals by commands themselves, as the definition of reports has them.
-static COMMANDS: [(&str, &str); 25] = [
+/// Refusals by commands themselves, as the definition of reports has them; then other texts.
+static TEXTS: [(&str, &str); 32] = [
     ("tomex: no such choice: alu=3", "no such choice: CHOICE"),
     ("no such choice", "no such choice: CHOICE"),
     ("no such choice: too long", "no such choice: CHOICE"),
@@ -154,18 +154,27 @@ static COMMANDS: [(&str, &str); 25] = [
     ("tomex: thread refused", "thread refused"),
     ("tomex: out of memory", "out of memory"),
     ("tomex: no such refusal", "no such refusal"),
+    // Capitals are as small letters.
+    ("IMAGE: SEGMENT", "image: segment"),
+    ("tomex: Study: Not Toml", "study: not TOML"),
+    ("ILLEGAL AT pc", "fault: illegal at PC"),
+    // Exit statuses.
+    ("1", "exit status 1"),
+    ("2", "exit status 2"),
+    ("status 3", "exit status 3"),
+    ("exit status 2", "exit status 2"),
 ];
 
 #[test]
-fn commands(rt: HostRuntime) -> Result<(), Fail> {
-    for (text, form) in &COMMANDS {
+fn texts(rt: HostRuntime) -> Result<(), Fail> {
+    for (text, form) in &TEXTS {
         is_explained(&rt, *text, *form)?;
     }
     Ok(())
 }
 
-/// Parts of lines of the list, and what is printed of the first lines that have them, and how many lines there are.
-static PARTS: [(&str, &str, usize); 8] = [
+/// Parts of lines of the list, what is printed of the first lines that have them, and how many lines there are.
+static PARTS: [(&str, &str, usize); 13] = [
     ("", "cannot read NAME\nno such choice: CHOICE\n", 45),
     ("segment", "image: too many segments\nimage: segment\n", 2),
     ("fault", "fault: fetch at PC\nfault: illegal at PC\n", 4),
@@ -183,6 +192,20 @@ static PARTS: [(&str, &str, usize); 8] = [
         7,
     ),
     ("mbol", "no symbols\n`--by-function` takes", 5),
+    // Words of which no line has all: the longest that a line has counts, the first of several equally long ones.
+    ("illegal instruction", "fault: illegal at PC\nThe word", 9),
+    (
+        "why exit with 3",
+        "exit status 1\nexit status 2\nexit status 3\n",
+        3,
+    ),
+    (
+        "image:  segment",
+        "image: too many segments\nimage: segment\n",
+        2,
+    ),
+    ("entry write", "image: entry\n", 5),
+    ("write \t entry\n", "cannot write\n", 3),
 ];
 
 #[test]
@@ -194,65 +217,6 @@ fn parts_of_lines(rt: HostRuntime) -> Result<(), Fail> {
         assert!(rt; text.starts_with(begins.as_bytes()), "{part}");
         let count = text.iter().filter(|byte| **byte == b'\n').count();
         assert!(rt; count == *lines, "{part}: {count}");
-    }
-    Ok(())
-}
-
-static CAPITALS: [(&str, &str); 3] = [
-    ("IMAGE: SEGMENT", "image: segment"),
-    ("tomex: Study: Not Toml", "study: not TOML"),
-    ("ILLEGAL AT pc", "fault: illegal at PC"),
-];
-
-#[test]
-fn capitals_are_as_small_letters(rt: HostRuntime) -> Result<(), Fail> {
-    for (text, form) in &CAPITALS {
-        is_explained(&rt, *text, *form)?;
-    }
-    Ok(())
-}
-
-static STATUSES: [(&str, &str); 4] = [
-    ("1", "exit status 1"),
-    ("2", "exit status 2"),
-    ("status 3", "exit status 3"),
-    ("exit status 2", "exit status 2"),
-];
-
-#[test]
-fn statuses(rt: HostRuntime) -> Result<(), Fail> {
-    for (text, form) in &STATUSES {
-        is_explained(&rt, *text, *form)?;
-    }
-    Ok(())
-}
-
-/// Words of which no line has all: the longest that a line has counts, the first of several equally long ones.
-static SOME_WORDS: [(&str, &str, usize); 5] = [
-    ("illegal instruction", "fault: illegal at PC\nThe word", 0),
-    (
-        "why exit with 3",
-        "exit status 1\nexit status 2\nexit status 3\n",
-        3,
-    ),
-    (
-        "image:  segment",
-        "image: too many segments\nimage: segment\n",
-        2,
-    ),
-    ("entry write", "image: entry\n", 0),
-    ("write \t entry\n", "cannot write\n", 0),
-];
-
-#[test]
-fn the_longest_word_counts(rt: HostRuntime) -> Result<(), Fail> {
-    for (words, begins, lines) in &SOME_WORDS {
-        let Ok(text) = explain(rt.alloc(), rt.alloc(), *words) else {
-            return Err("no text".into());
-        };
-        assert!(rt; text.starts_with(begins.as_bytes()), "{words}");
-        let count = text.iter().filter(|byte| **byte == b'\n').count();
-        assert!(rt; *lines == 0 || count == *lines, "{words}: {count}");
     }
     Ok(())
 }
