@@ -1,4 +1,6 @@
 -- If a value is missing or out of bounds, no line has it.
+use Rattle.std.proofs.Common.{arith}
+use Rattle.std.proofs.lemmas.Grind.{common_steps}
 use Rattle.tomex_command_line.proofs.PassedOn.{passed_on}
 use Rattle.tomex_command_line.proofs.line.compare.line_of.Goals as goal
 
@@ -11,3 +13,6 @@ pub returns-in_err-builds_of-clause-refused : goal.returns-in_err-builds_of-clau
 returns-in_err-builds_of-clause-refused c =
     passed_on _ _ _ c.from_residual-in_err-builds_of.result c.from_residual-in_err-builds_of.ensures.1
     c.in_err-builds_of.ensures.refused (λ none study old new workers csv asked. none old new asked.are_builds)
+
+pub returns-clause-line : goal.returns-clause-line
+returns-clause-line = grind (arith, common_steps)

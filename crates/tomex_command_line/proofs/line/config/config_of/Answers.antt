@@ -1,4 +1,5 @@
 -- The word is choices, a number within bounds, or neither.
+use Rattle.std.proofs.lemmas.Grind.{common_steps}
 use Rattle.std.proofs.Common.{◌≡◌, arith, ℕ, subst, Result}
 use Rattle.std.specs.Str.Parse.{ParsesUnsigned}
 use Rattle.std.specs.declared.num.ParseIntError.{ParseIntError}
@@ -30,3 +31,6 @@ returns-in_default-clause-refused c =
           omega (arith, same, within, above)
       | in_default-via-in_default w ↦ w.in_default.not-Ok n is
     ]))
+
+pub returns-then-contains-clause-config : goal.returns-then-contains-clause-config
+returns-then-contains-clause-config = grind (arith, common_steps)

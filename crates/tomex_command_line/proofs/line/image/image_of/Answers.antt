@@ -1,5 +1,6 @@
 -- If a value is missing or out of bounds, no line has it.
-use Rattle.std.proofs.Common.{rules}
+use Rattle.std.proofs.Common.{rules, arith}
+use Rattle.std.proofs.lemmas.Grind.{common_steps}
 use Rattle.tomex_command_line.proofs.PassedOn.{passed_on}
 use Rattle.tomex_command_line.proofs.line.image.image_of.Goals as goal
 
@@ -17,3 +18,6 @@ returns-in_err-number_of-2-clause-refused c =
     passed_on _ _ _ c.from_residual-in_err-number_of-2.result c.from_residual-in_err-number_of-2.ensures.1
     c.in_err-number_of-2.ensures.refused
     (λ none image base size asked. none size asked.is_size)
+
+pub returns-clause-image : goal.returns-clause-image
+returns-clause-image = grind (arith, common_steps)

@@ -1,5 +1,6 @@
 -- If a value is missing or out of bounds, no line has it.
-use Rattle.std.proofs.Common.{rules}
+use Rattle.std.proofs.Common.{rules, arith}
+use Rattle.std.proofs.lemmas.Grind.{common_steps}
 use Rattle.tomex_command_line.proofs.PassedOn.{passed_on}
 use Rattle.tomex_command_line.proofs.line.pipeline.line_of.Goals as goal
 
@@ -22,3 +23,6 @@ returns-in_err-number_of-2-clause-refused c =
     passed_on _ _ _ c.from_residual-in_err-number_of-2.result c.from_residual-in_err-number_of-2.ensures.1
     c.in_err-number_of-2.ensures.refused
     (λ none study config program from steps konata asked. none steps asked.is_steps)
+
+pub returns-clause-line : goal.returns-clause-line
+returns-clause-line = grind (arith, common_steps)

@@ -1,4 +1,6 @@
 -- If a value is missing or out of bounds, no line has it.
+use Rattle.std.proofs.Common.{arith}
+use Rattle.std.proofs.lemmas.Grind.{common_steps}
 use Rattle.tomex_command_line.proofs.PassedOn.{passed_on}
 use Rattle.tomex_command_line.proofs.line.worth.line_of.Goals as goal
 
@@ -12,3 +14,6 @@ returns-in_err-config_of-clause-refused c =
     passed_on _ _ _ c.from_residual-in_err-config_of.result c.from_residual-in_err-config_of.ensures.1
     c.in_err-config_of.ensures.refused
     (λ none study config workers csv asked. none config asked.is_config)
+
+pub returns-clause-line : goal.returns-clause-line
+returns-clause-line = grind (arith, common_steps)

@@ -1,0 +1,7 @@
+-- Closed at once: a search by rules takes long before it fails.
+use Rattle.std.proofs.Common.{arith}
+use Rattle.std.proofs.lemmas.Grind.{common_steps}
+use Rattle.tomex_command_line.proofs.line.values.numeral.Goals as goal
+
+pub returns-clause-rule : goal.returns-clause-rule
+returns-clause-rule = grind (arith, common_steps)
