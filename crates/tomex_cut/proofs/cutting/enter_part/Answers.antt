@@ -1,4 +1,5 @@
-use Rattle.std.proofs.Common.{inl, inr, refl, sym, ◌∙◌}
+use Rattle.std.proofs.Common.{inl, inr, refl, sym, ◌∙◌, arith}
+use Rattle.std.proofs.lemmas.Grind.{common_steps}
 use Rattle.std.proofs.lemmas.Result.{err_from_is_err_and}
 use Rattle.tomex_cut.proofs.Fitting.{end_fits, fits}
 use Rattle.tomex_cut.proofs.Found.{prologue_is, refused_by_part}
@@ -62,3 +63,9 @@ returns-clause-ok g c =
       at = refl;
       holds = refl;
     }
+
+pub returns-then-part-clause-err : goal.returns-then-part-clause-err
+returns-then-part-clause-err = grind (arith, common_steps)
+
+pub returns-clause-size : goal.returns-clause-size
+returns-clause-size = grind (arith, common_steps)

@@ -1,3 +1,5 @@
+use Rattle.std.proofs.Common.{arith}
+use Rattle.std.proofs.lemmas.Grind.{common_steps}
 use Rattle.tomex_rvexec.specs.Run.{start_of}
 use Rattle.tomex_cut.proofs.Found.{memory_is, part_found, words_after}
 use Rattle.tomex_cut.proofs.Walks.{Keeps}
@@ -16,3 +18,15 @@ returns-clause-ok g c =
     c.memory.ensures) c.in_ok-found.ensures.ok
     (words_after c.args.image.now c.in_ok-cpu.cpu _ _ _ _ _ window cpu.image c.keeps_limits.ensures
     c.in_ok-words.ensures.base c.in_ok-words.ensures.marks same.0 same.1) c.mark_end.ensures.marks)
+
+pub find_end-requires-clause-state : goal.find_end-requires-clause-state
+find_end-requires-clause-state = grind (arith, common_steps)
+
+pub copy_memory-requires : goal.copy_memory-requires
+copy_memory-requires = grind (arith, common_steps)
+
+pub find_end-requires-clause-words : goal.find_end-requires-clause-words
+find_end-requires-clause-words = grind (arith, common_steps)
+
+pub find_end-requires-clause-window : goal.find_end-requires-clause-window
+find_end-requires-clause-window = grind (arith, common_steps)

@@ -11,3 +11,6 @@ returns-clause-pair g c =
       first = rw (stays ∙ c.write_word.ensures.word) c.upper_word.ensures;
       second = rw (c.write_word-2.ensures.word) c.lower_word.ensures;
     }
+
+pub returns-clause-others : goal.returns-clause-others
+returns-clause-others = grind arith

@@ -1,4 +1,5 @@
 -- One more row.
+use Rattle.std.proofs.lemmas.Grind.{common_steps}
 use Rattle.std.proofs.Common.{◌<◌, ap, arith, length}
 use Rattle.tomex_pareto.specs.declared.front_row.FrontRow.{FrontRow}
 use Rattle.tomex_study.specs.Cycles.{cycles_of}
@@ -31,3 +32,6 @@ loop-row-preserved g c =
       small = small_more before c.push.new.self.items row c.in_ok-push.ensures.items c.with_price_apart.ensures.small
           c.loop-row.invariant.small;
     }
+
+pub returns-clause-rows : goal.returns-clause-rows
+returns-clause-rows = grind (arith, common_steps)

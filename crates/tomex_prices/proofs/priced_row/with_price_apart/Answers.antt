@@ -1,4 +1,5 @@
 -- A cost is the cost without the price, plus the price as often as it is paid.
+use Rattle.std.proofs.lemmas.Grind.{common_steps}
 use Rattle.std.proofs.Common.{◌≡◌, ◌∙◌, ◌+◌, ◌-◌, ◌*◌, ℕ, arith, ap, refl, sym}
 use Rattle.tomex_config.specs.Configuration.{Configuration, IsWithinLimits}
 use Rattle.tomex_config.specs.Cost.{IsPriceList, PriceList, cost_of}
@@ -31,3 +32,6 @@ returns-clause-parts c =
     let left : c.cost.result - c.amount.result * c.payments-times.result
     ≡ cost_with c.args.price 0 c.args.prices.now c.args.config.now = omega (arith, parts) in
     rw (left, c.payments-times.ensures.payments) refl
+
+pub overflow_mul-rest : goal.overflow_mul-rest
+overflow_mul-rest = grind (arith, common_steps)

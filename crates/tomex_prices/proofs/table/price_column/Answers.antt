@@ -1,5 +1,6 @@
 -- The entry of one row more.
-use Rattle.std.proofs.Common.{◌∙◌, ap, get_or}
+use Rattle.std.proofs.Common.{◌∙◌, ap, get_or, arith}
+use Rattle.std.proofs.lemmas.Grind.{common_steps}
 use Rattle.tomex_pareto.specs.declared.front_row.FrontRow.{FrontRow}
 use Rattle.tomex_layout.proofs.Loops.{item_more}
 use Rattle.tomex_layout.specs.Table.{TableColumn}
@@ -21,3 +22,12 @@ loop-row-preserved g c =
       name = ap (λ (x : TableColumn). x.name) c.in_ok-push-2.ensures.one ∙ c.loop-row.invariant.name;
       entries = entries;
     }
+
+pub interval_of-range-requires-clause-front : goal.interval_of-range-requires-clause-front
+interval_of-range-requires-clause-front = grind (arith, common_steps)
+
+pub interval_of-range-requires-clause-small : goal.interval_of-range-requires-clause-small
+interval_of-range-requires-clause-small = grind (arith, common_steps)
+
+pub offset_bounds-row-items-row-index : goal.offset_bounds-row-items-row-index
+offset_bounds-row-items-row-index = grind (arith, common_steps)

@@ -1,5 +1,6 @@
 -- The columns are those of the table, and each has an entry for each row of the front and one more.
-use Rattle.std.proofs.Common.{◌≡◌, ◌∙◌, ap, add-one, length, subst, sym, List, ◌+◌, ◌++◌}
+use Rattle.std.proofs.Common.{◌≡◌, ◌∙◌, ap, add-one, length, subst, sym, List, ◌+◌, ◌++◌, arith}
+use Rattle.std.proofs.lemmas.Grind.{common_steps}
 use Rattle.std.specs.Prelude.{All}
 use Rattle.tomex_pareto.specs.declared.front_row.FrontRow.{FrontRow}
 use Rattle.tomex_layout.proofs.Lengths.{HasEntries}
@@ -31,3 +32,9 @@ returns-clause-text g c =
     ∙ (c.in_ok-push_columns.ensures
     ∙ ap (λ (cs : List TableColumn). cs ++ columns_of s front) c.new-columns.ensures.items) in
     rw (made, add-one, c.front.ensures.value) at c.in_ok-table_of.ensures
+
+pub returns-then-is_too_large-clause-large : goal.returns-then-is_too_large-clause-large
+returns-then-is_too_large-clause-large = grind (arith, common_steps)
+
+pub returns-clause-large : goal.returns-clause-large
+returns-clause-large = grind (arith, common_steps)

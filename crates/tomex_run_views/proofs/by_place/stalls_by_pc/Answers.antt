@@ -1,5 +1,6 @@
 -- What was counted by address is the report by place.
-use Rattle.std.proofs.Common.{◌∙◌, [], refl, subst, List}
+use Rattle.std.proofs.Common.{◌∙◌, [], refl, subst, List, arith}
+use Rattle.std.proofs.lemmas.Grind.{common_steps}
 use Rattle.std.specs.Prelude.{IfOk}
 use Rattle.std.proofs.lemmas.Result.{IfOk-weaker}
 use Rattle.tomex_rvexec.specs.declared.step.Step.{Step}
@@ -16,3 +17,6 @@ returns g c =
     c.steps-steps.ensures.steps
     (report_if_made [] (λ step. []) c.args.config.now c.steps-steps.result.now _ counted text written
     c.text_by_place.ensures.order)
+
+pub count_run-requires-clause-keys : goal.count_run-requires-clause-keys
+count_run-requires-clause-keys = grind (arith, common_steps)

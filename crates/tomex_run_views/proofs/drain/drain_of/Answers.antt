@@ -1,4 +1,5 @@
 -- One step more, and the cycles after the last issue.
+use Rattle.std.proofs.lemmas.Grind.{common_steps}
 use Rattle.std.proofs.Common.{◌<◌, ◌≡◌, ◌∙◌, ap, arith, rules, get_or, length, take, List}
 use Rattle.std.proofs.lemmas.List.{length-take}
 use Rattle.tomex_timing.specs.declared.need.Waits.{Waits}
@@ -74,3 +75,6 @@ returns-clause-bound c =
       c.loop-index.invariant.end,
       c.requires.few,
     )
+
+pub cycles_under_way-requires : goal.cycles_under_way-requires
+cycles_under_way-requires = grind (arith, common_steps)

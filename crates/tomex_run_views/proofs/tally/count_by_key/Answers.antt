@@ -1,5 +1,6 @@
 -- One visit more is counted.
-use Rattle.std.proofs.Common.{◌∙◌, ap, sym, subst, refl, get_or, List, ◌++◌, ◌∷◌, [], take, ℕ}
+use Rattle.std.proofs.Common.{◌∙◌, ap, sym, subst, refl, get_or, List, ◌++◌, ◌∷◌, [], take, ℕ, arith}
+use Rattle.std.proofs.lemmas.Grind.{common_steps}
 use Rattle.tomex_timing.specs.declared.need.Waits.{Waits}
 use Rattle.tomex_run_views.specs.ByPlace.{Visit}
 use Rattle.tomex_run_views.specs.Tally.{IsTally, visit, visits_by}
@@ -46,3 +47,6 @@ returns-clause-bound g c =
     let counted = c.loop-index.invariant c.requires.keys.0 c.requires.keys.1 in
     let all = whole c.args.steps.now c.args.waits.now c.loop-index.index c.loop-index-test.false in
     rw (counted.all, all) (small_whole c.args.steps.now c.args.waits.now c.requires.few c.requires.waits).cycles
+
+pub bounds-keys-index : goal.bounds-keys-index
+bounds-keys-index = grind (arith, common_steps)

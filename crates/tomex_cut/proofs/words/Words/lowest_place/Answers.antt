@@ -1,3 +1,4 @@
+use Rattle.std.proofs.lemmas.Grind.{common_steps}
 use Rattle.std.proofs.Common.{◌≡◌, true, false, inl, inr, arith, below_more}
 use Rattle.std.proofs.lemmas.Bool.{cases_lt}
 use Rattle.tomex_cut.proofs.words.Words.lowest_place.Goals as goal
@@ -16,3 +17,6 @@ loop-first-preserved g c =
 
 pub returns-clause-none : goal.returns-clause-none
 returns-clause-none g c = λ k h s. c.loop-first.invariant k (omega arith) s
+
+pub returns-then-can_place-clause-stands : goal.returns-then-can_place-clause-stands
+returns-then-can_place-clause-stands = grind (arith, common_steps)

@@ -1,4 +1,5 @@
 -- One block more, and at the end all.
+use Rattle.std.proofs.lemmas.Grind.{common_steps}
 use Rattle.std.proofs.Common.{arith, ◌≡◌, length, sym, take}
 use Rattle.tomex_repeats.proofs.Made.{blocks_made, firsts_kept, made_more}
 use Rattle.tomex_repeats.proofs.blocks.Blocks.of.Goals as goal
@@ -36,3 +37,9 @@ returns g c =
     let l = c.loop-first in
     blocks_made c.args.facts.now l.conflicts.masks.items l.numbers.slots.items l.numbers.firsts.items l.made.items
     l.first c.count-different.result l.invariant.firsts l.invariant.made (omega arith) c.count-different.ensures
+
+pub loop-first-init : goal.loop-first-init
+loop-first-init = grind (arith, common_steps)
+
+pub numbered-requires-clause-masks : goal.numbered-requires-clause-masks
+numbered-requires-clause-masks = grind (arith, common_steps)

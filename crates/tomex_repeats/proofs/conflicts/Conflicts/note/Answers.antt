@@ -1,4 +1,5 @@
 -- One step more, and one access more if it is one.
+use Rattle.std.proofs.lemmas.Grind.{common_steps}
 use Rattle.std.proofs.Common.{arith, ◌≡◌, ◌-◌, ◌<◌, ◌∙◌, length, sym, true, false}
 use Rattle.tomex_repeats.proofs.Noted.{noted_first, noted_step}
 use Rattle.tomex_repeats.proofs.conflicts.Conflicts.note.Goals as goal
@@ -42,3 +43,6 @@ returns-clause-masks g c =
 
 pub returns-clause-known : goal.returns-clause-known
 returns-clause-known g c = omega (arith, c.loop-place.invariant.known)
+
+pub mask_of-mask-requires-clause-there : goal.mask_of-mask-requires-clause-there
+mask_of-mask-requires-clause-there = grind (arith, common_steps)

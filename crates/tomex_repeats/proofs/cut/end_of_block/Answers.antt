@@ -1,0 +1,7 @@
+-- Closed at once: a search by rules takes long before it fails.
+use Rattle.std.proofs.Common.{arith}
+use Rattle.std.proofs.lemmas.Grind.{common_steps}
+use Rattle.tomex_repeats.proofs.cut.end_of_block.Goals as goal
+
+pub returns-then-facts-place-clause-ends : goal.returns-then-facts-place-clause-ends
+returns-then-facts-place-clause-ends = grind (arith, common_steps)

@@ -1,0 +1,7 @@
+-- Closed at once: a search by rules takes long before it fails.
+use Rattle.std.proofs.Common.{arith}
+use Rattle.std.proofs.lemmas.Grind.{common_steps}
+use Rattle.tomex_repeats.proofs.numbers.Numbers.new.Goals as goal
+
+pub returns-clause-state : goal.returns-clause-state
+returns-clause-state = grind (arith, common_steps)
