@@ -1,4 +1,5 @@
 -- The evaluation goes from block to block, and then it is at the run's end.
+use Rattle.std.proofs.lemmas.Grind.{common_steps}
 use Rattle.std.proofs.Common.{◌<◌, ◌≡◌, ap, arith, length}
 use Rattle.std.proofs.lemmas.List.Elements.{Contains-get_or}
 use Rattle.tomex_repeats.specs.declared.blocks.Block.{Block}
@@ -38,3 +39,12 @@ returns g c =
     omega (arith, c.loop-next-test.false, ap length c.blocks-row.ensures, before.within) in
     demands_there c.args.config.now c.args.run.now c.args.blocks.now before.cut c.loop-next.evaluation c.total.result
     (rw e before) c.total.ensures
+
+pub loop-next-smaller : goal.loop-next-smaller
+loop-next-smaller = grind (arith, common_steps)
+
+pub follow-next-requires : goal.follow-next-requires
+follow-next-requires = grind (arith, common_steps)
+
+pub overflow_add-next : goal.overflow_add-next
+overflow_add-next = grind (arith, common_steps)

@@ -1,4 +1,5 @@
 -- One more seat is split off; the last lane gets the current seat.
+use Rattle.std.proofs.lemmas.Grind.{common_steps}
 use Rattle.std.proofs.Common.{◌≡◌, ◌≤◌, ◌<◌, length, rules, arith}
 use Rattle.std.specs.Vec.Iter.{into_iter_items}
 use Rattle.tomex_lanes.proofs.Seating.{none_dealt, can_split, next_dealt, all_dealt}
@@ -43,3 +44,6 @@ returns-clause-lanes g c =
 
 pub split-kept-requires-clause-board : goal.split-kept-requires-clause-board
 split-kept-requires-clause-board g c = c.loop.invariant.board_of
+
+pub unreachable-requires-in_default-next : goal.unreachable-requires-in_default-next
+unreachable-requires-in_default-next = grind (arith, common_steps)

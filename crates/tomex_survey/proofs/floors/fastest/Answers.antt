@@ -1,5 +1,6 @@
 -- After the last row.
-use Rattle.std.proofs.Common.{◌∙◌, ℕ, List, Option, ap, map, true}
+use Rattle.std.proofs.Common.{◌∙◌, ℕ, List, Option, ap, map, true, arith}
+use Rattle.std.proofs.lemmas.Grind.{common_steps}
 use Rattle.std.specs.Prelude.{unwrap_or}
 use Rattle.tomex_pareto.specs.declared.front_row.FrontRow.{FrontRow}
 use Rattle.tomex_survey.specs.Extremes.{least}
@@ -17,3 +18,6 @@ returns g c =
     ∙ (c.loop-row.invariant
     ∙ (least_of_all (λ (r : FrontRow). r.cycles) c.rows-row-items.result.now
     ∙ ap (λ (rs : List FrontRow). least (map (λ r. r.cycles) rs)) c.rows-row-items.ensures.value)))
+
+pub loop-row-preserved : goal.loop-row-preserved
+loop-row-preserved = grind (arith, common_steps)

@@ -1,5 +1,6 @@
 -- One more row, and the last one.
-use Rattle.std.proofs.Common.{◌∙◌, ap, ℕ, List, Some}
+use Rattle.std.proofs.Common.{◌∙◌, ap, ℕ, List, Some, arith}
+use Rattle.std.proofs.lemmas.Grind.{common_steps}
 use Rattle.std.specs.Prelude.{option_map}
 use Rattle.tomex_study.specs.Program.{Workload}
 use Rattle.tomex_survey.specs.Extremes.{lesser}
@@ -42,3 +43,6 @@ returns-clause-any_width g c =
     ∙ (any_width_of c.loop-config.least
     ∙ least_any_width c.args.study.now c.rows-config-items.result.now c.loop-config.config-index c.loop-config.least
     c.rows-config-items.ensures.value c.loop-config-test.false c.loop-config.invariant.any_width)
+
+pub floors_on-requires : goal.floors_on-requires
+floors_on-requires = grind (arith, common_steps)

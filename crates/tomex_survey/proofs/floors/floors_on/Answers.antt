@@ -1,4 +1,5 @@
 -- No program yet.
+use Rattle.std.proofs.lemmas.Grind.{common_steps}
 use Rattle.std.proofs.Common.{arith, refl}
 use Rattle.tomex_survey.proofs.FloorSums.{no_sum}
 use Rattle.tomex_survey.proofs.floors.floors_on.Goals as goal
@@ -11,3 +12,15 @@ loop-place-init g c = record {
   small_own = omega arith;
   small_any_width = omega arith;
 }
+
+pub loop-place-preserved : goal.loop-place-preserved
+loop-place-preserved = grind (arith, common_steps)
+
+pub returns-clause-any_width : goal.returns-clause-any_width
+returns-clause-any_width = grind (arith, common_steps)
+
+pub returns-in_err-floors-clause-programs : goal.returns-in_err-floors-clause-programs
+returns-in_err-floors-clause-programs = grind (arith, common_steps)
+
+pub returns-clause-own : goal.returns-clause-own
+returns-clause-own = grind (arith, common_steps)

@@ -1,4 +1,5 @@
 -- One more row, whose cycles are the weighted sum of its totals.
+use Rattle.std.proofs.lemmas.Grind.{common_steps}
 use Rattle.std.proofs.Common.{◌≡◌, ◌<◌, ◌≤◌, ◌∙◌, ap, arith, get_or, length, subst, sym, take, All, List, ℕ, []}
 use Rattle.tomex_config.specs.Configuration.{plain}
 use Rattle.tomex_study.specs.Cycles.{cycles_on, totals_on}
@@ -52,3 +53,6 @@ returns g c =
     let many = as_many_totals c.args.study.now c.args.totals.now c.requires in
     let past : length c.args.study.now.rows ≤ c.loop-row.row = omega (arith, many, c.loop-row-test.false) in
     last_row c.args.study.now c.loop-row.row _ c.keeps_limits.ensures past c.loop-row.invariant
+
+pub cycles_by_weight-requires-clause-few : goal.cycles_by_weight-requires-clause-few
+cycles_by_weight-requires-clause-few = grind (arith, common_steps)

@@ -1,4 +1,5 @@
 -- The totals on one more row.
+use Rattle.std.proofs.lemmas.Grind.{common_steps}
 use Rattle.std.proofs.Common.{◌<◌, ◌∙◌, arith, length, take}
 use Rattle.std.proofs.lemmas.Option.{slice_get-get_or}
 use Rattle.tomex_config.specs.Configuration.{plain}
@@ -31,3 +32,9 @@ returns g c =
     c.args.study.now.rows _ c.args.stretch c.loop-row.row c.loop-row-test.false
     (c.loop-row.auto.row-end c.requires.order)
     c.loop-row.invariant.totals
+
+pub new-requires-clause-few : goal.new-requires-clause-few
+new-requires-clause-few = grind (arith, common_steps)
+
+pub new-requires-clause-ends : goal.new-requires-clause-ends
+new-requires-clause-ends = grind arith

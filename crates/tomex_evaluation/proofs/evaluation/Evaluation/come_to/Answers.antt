@@ -1,4 +1,5 @@
 -- A copy of the kept state is moved to this place.
+use Rattle.std.proofs.lemmas.Grind.{common_steps}
 use Rattle.std.proofs.Common.{◌-◌, arith, refl}
 use Rattle.tomex_alike.specs.Laws.{history_to}
 use Rattle.std.specs.Prelude.{slice_index}
@@ -93,3 +94,9 @@ returns-clause-at g c =
       time = at.time;
       noted = at.noted;
     }
+
+pub slice_bounds-move_by-end : goal.slice_bounds-move_by-end
+slice_bounds-move_by-end = grind (arith, common_steps)
+
+pub returns-in_default-clause-here : goal.returns-in_default-clause-here
+returns-in_default-clause-here = grind (arith, common_steps)

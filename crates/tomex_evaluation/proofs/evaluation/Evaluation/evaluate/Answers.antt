@@ -1,4 +1,5 @@
 -- The state after the block is shown; it gets a number if it can, and then an entry leads to it.
+use Rattle.std.proofs.lemmas.Grind.{common_steps}
 use Rattle.std.proofs.Common.{ℕ, ◌+◌, ◌-◌, ◌≡◌, ◌∙◌, ap, arith, length, sym, Option}
 use Rattle.tomex_alike.specs.Laws.{first_issue_at, history_to}
 use Rattle.tomex_evaluation.specs.Known.{kept_of}
@@ -141,3 +142,6 @@ returns g c =
       time = time;
       noted = rw demands_is noted;
     }
+
+pub evaluate-requires-clause-few : goal.evaluate-requires-clause-few
+evaluate-requires-clause-few = grind (arith, common_steps)

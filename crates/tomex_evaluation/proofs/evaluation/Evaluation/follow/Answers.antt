@@ -1,4 +1,5 @@
 -- Each turn goes through one block of the table.
+use Rattle.std.proofs.lemmas.Grind.{common_steps}
 use Rattle.std.proofs.Common.{◌≡◌, ◌+◌, arith, refl, sym}
 use Rattle.std.proofs.lemmas.Option.{slice_get_read}
 use Rattle.tomex_evaluation.proofs.Turns.{followed, time_small}
@@ -37,3 +38,15 @@ pub returns-else-first-next-clause-before : goal.returns-else-first-next-clause-
 returns-else-first-next-clause-before g c =
     let e : c.loop-block.next ≡ c.args.first = omega (arith, c.loop-block.invariant.on, c.if-first-next.false) in
     rw e c.requires
+
+pub loop-block-init : goal.loop-block-init
+loop-block-init = grind arith
+
+pub returns-then-first-next-clause-before : goal.returns-then-first-next-clause-before
+returns-then-first-next-clause-before = grind (arith, common_steps)
+
+pub after-requires : goal.after-requires
+after-requires = grind arith
+
+pub loop-block-smaller : goal.loop-block-smaller
+loop-block-smaller = grind (arith, common_steps)

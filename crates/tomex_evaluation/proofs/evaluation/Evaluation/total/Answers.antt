@@ -1,4 +1,5 @@
 -- The kept state's greatest end is as far after its first cycle.
+use Rattle.std.proofs.lemmas.Grind.{common_steps}
 use Rattle.std.proofs.Common.{◌≡◌, arith, length, sym}
 use Rattle.std.specs.Prelude.{slice_index}
 use Rattle.tomex_alike.specs.Laws.{history_to}
@@ -76,3 +77,6 @@ returns-in-Kept g c =
     let back = ends_back config steps run before.cut i p c.index-kept.result.now
     (place_within config steps run _ c.args.self.now before) kept in_kept.back in
     rw (at.time, first, end, sym there) back
+
+pub returns-in-Evaluated : goal.returns-in-Evaluated
+returns-in-Evaluated = grind (arith, common_steps)

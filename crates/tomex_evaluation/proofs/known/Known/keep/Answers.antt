@@ -1,5 +1,6 @@
 -- A copy is kept, and a row of entries with nothing in them.
-use Rattle.std.proofs.Common.{None, refl}
+use Rattle.std.proofs.Common.{None, refl, arith}
+use Rattle.std.proofs.lemmas.Grind.{common_steps}
 use Rattle.tomex_evaluation.proofs.Keeping.{row_more}
 use Rattle.tomex_evaluation.proofs.known.Known.keep.Goals as goal
 
@@ -13,3 +14,9 @@ returns g c = record {
       c.args.self.now.different None c.args.self.now.next.ok.0 c.len.ensures c.in_ok-resize.ensures.items;
   different = refl;
 }
+
+pub copy_from-requires : goal.copy_from-requires
+copy_from-requires = grind (arith, common_steps)
+
+pub overflow_add-count : goal.overflow_add-count
+overflow_add-count = grind (arith, common_steps)

@@ -1,4 +1,5 @@
 -- One more list is looked up; at the end all are.
+use Rattle.std.proofs.lemmas.Grind.{common_steps}
 use Rattle.std.proofs.Common.{◌≡◌, ◌<◌, ◌≤◌, ◌∙◌, ap, arith, get_or, length, refl, subst, List}
 use Rattle.std.proofs.lemmas.Option.{slice_get_read}
 use Rattle.tomex_plateaus.specs.Kept.{Kept}
@@ -49,3 +50,6 @@ returns-clause-known g c =
     (subst (λ (xs : List Kept). length xs ≤ c.loop-place.place) same c.loop-place-test.false)
     (subst (λ (xs : List Kept). c.loop-place.place ≤ length xs) same c.loop-place.auto.place-end)
     c.loop-place.invariant.known
+
+pub returns-clause-totals : goal.returns-clause-totals
+returns-clause-totals = grind (arith, common_steps)

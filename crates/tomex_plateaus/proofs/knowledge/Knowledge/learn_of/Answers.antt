@@ -1,4 +1,5 @@
 -- The list stays that of its program, and no other list is written.
+use Rattle.std.proofs.lemmas.Grind.{common_steps}
 use Rattle.std.proofs.Common.{◌≡◌, ◌<◌, arith, length, refl}
 use Rattle.std.proofs.lemmas.Option.{slice_get_read}
 use Rattle.tomex_plateaus.proofs.Knowing.{as_many, learnt_ok, learnt_one, learnt_total, only_there}
@@ -30,3 +31,6 @@ returns-clause-learnt g c =
     rw (← c.self.view_is)
     (learnt_ok c.args.config.now c.args.place c.self.inside.lists.items c.index_mut.result.now c.learn.new.self
     c.learn.result low c.index_mut.ensures.value c.learn.ensures.learnt)
+
+pub index_mut-requires : goal.index_mut-requires
+index_mut-requires = grind (arith, common_steps)

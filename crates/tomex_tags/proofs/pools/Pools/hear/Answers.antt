@@ -1,3 +1,4 @@
+use Rattle.std.proofs.lemmas.Grind.{common_steps}
 use Rattle.std.proofs.Common.{Some, arith}
 use Rattle.tomex_tags.specs.Operands.{only}
 use Rattle.tomex_tags.proofs.Hearing.{first_heard, heard_more, heard_past}
@@ -22,3 +23,6 @@ members-preserved c =
     c.lowest-place.ensures.least in
     heard_past (only c.args.from (Some c.args.value)) c.members.rest c.without_lowest-rest.result c.lowest-place.result
     c.args.self.now c.members.self c.members.invariant (omega (arith, c.if-place-lt96.false)) without
+
+pub forget-requires : goal.forget-requires
+forget-requires = grind (arith, common_steps)

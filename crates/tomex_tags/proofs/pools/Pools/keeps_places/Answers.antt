@@ -1,0 +1,7 @@
+-- Closed at once: a search by rules takes long before it fails.
+use Rattle.std.proofs.Common.{arith}
+use Rattle.std.proofs.lemmas.Grind.{common_steps}
+use Rattle.tomex_tags.proofs.pools.Pools.keeps_places.Goals as goal
+
+pub returns-clause-own : goal.returns-clause-own
+returns-clause-own = grind (arith, common_steps)
