@@ -1,4 +1,6 @@
 -- The column of one program more.
+use Rattle.std.proofs.Common.{arith}
+use Rattle.std.proofs.lemmas.Grind.{common_steps}
 use Rattle.tomex_worth.specs.Worth.{program_column}
 use Rattle.tomex_worth.proofs.Turns.{one_more, programs_of, there_too}
 use Rattle.tomex_worth.proofs.table.push_each_program.Goals as goal
@@ -16,3 +18,6 @@ program_column-requires-clause-program g c =
     let s = c.args.surveyed.now in
     there_too s.programs c.programs-program-items.result.now c.loop-place.place c.program-item.result
     (programs_of _ s _ c.programs-program-items.ensures.value c.study.ensures) c.loop-place-test.true c.program-item.is
+
+pub returns : goal.returns
+returns = grind (arith, common_steps)
