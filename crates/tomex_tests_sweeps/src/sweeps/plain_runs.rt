@@ -127,7 +127,8 @@ fn is_marked_so<R: AllocGlobal + Threads + Wait + Sync>(
     gives_marks(rt, study, 1, marks.as_slice())
 }
 
-/// Fails unless one worker marks 10 studies, random from this seed on, as plain runs do.
+/// Fails unless one worker marks 10 studies, random from this seed on, as plain runs do. A test of more
+/// studies would take more than a minute before anything is proved.
 fn marks_are_those_of_plain_runs<R: AllocGlobal + Threads + Wait + Sync>(
     rt: &R,
     seed: u64,
@@ -140,15 +141,24 @@ fn marks_are_those_of_plain_runs<R: AllocGlobal + Threads + Wait + Sync>(
     Ok(())
 }
 
-/// Where the random studies begin.
-static SEEDS: [u64; 4] = [2463534242, 1181783497, 362436069, 521288629];
+#[test]
+fn studies_1_to_10_are_marked_as_by_plain_runs(rt: HostRuntime) -> Result<(), Fail> {
+    marks_are_those_of_plain_runs(&rt, 2463534242)
+}
 
 #[test]
-fn studies_are_marked_as_by_plain_runs(rt: HostRuntime) -> Result<(), Fail> {
-    for seed in &SEEDS {
-        marks_are_those_of_plain_runs(&rt, *seed)?;
-    }
-    Ok(())
+fn studies_11_to_20_are_marked_as_by_plain_runs(rt: HostRuntime) -> Result<(), Fail> {
+    marks_are_those_of_plain_runs(&rt, 1181783497)
+}
+
+#[test]
+fn studies_21_to_30_are_marked_as_by_plain_runs(rt: HostRuntime) -> Result<(), Fail> {
+    marks_are_those_of_plain_runs(&rt, 362436069)
+}
+
+#[test]
+fn studies_31_to_40_are_marked_as_by_plain_runs(rt: HostRuntime) -> Result<(), Fail> {
+    marks_are_those_of_plain_runs(&rt, 521288629)
 }
 
 /// True if each number of workers gives the front of all rows.
@@ -178,9 +188,11 @@ fn fronts_are_those_of_all_rows<R: AllocGlobal + Threads + Wait + Sync>(
 }
 
 #[test]
-fn fronts_are_those_of_all_rows_with_any_workers(rt: HostRuntime) -> Result<(), Fail> {
-    for seed in &SEEDS {
-        fronts_are_those_of_all_rows(&rt, *seed)?;
-    }
-    Ok(())
+fn fronts_are_those_of_all_rows_of_the_first_studies(rt: HostRuntime) -> Result<(), Fail> {
+    fronts_are_those_of_all_rows(&rt, 88172645)
+}
+
+#[test]
+fn fronts_are_those_of_all_rows_of_the_second_studies(rt: HostRuntime) -> Result<(), Fail> {
+    fronts_are_those_of_all_rows(&rt, 747796405)
 }
