@@ -1,4 +1,5 @@
 -- The text of one more tick.
+use Rattle.std.proofs.lemmas.Grind.{common_steps}
 use Rattle.std.proofs.Common.{arith}
 use Rattle.tomex_front_views.specs.Plot.{mark_at}
 use Rattle.tomex_front_views.proofs.Ticks.{all_ticks, last_tick, one_tick}
@@ -18,3 +19,6 @@ pub returns-in_ok-push_mark_at : goal.returns-in_ok-push_mark_at
 returns-in_ok-push_mark_at g c =
     last_tick (mark_at c.args.axes.now c.args.mark) c.step_of-step.result c.loop-k.k _ _ _ _ c.loop-k-test.true
     (omega arith) c.in_ok-push_mark_at.ensures c.loop-k.invariant
+
+pub overflow_mul-k : goal.overflow_mul-k
+overflow_mul-k = grind (arith, common_steps)

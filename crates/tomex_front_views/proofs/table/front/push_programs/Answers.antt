@@ -1,5 +1,6 @@
 -- Several programs have a column each; a single one has none.
-use Rattle.std.proofs.Common.{◌<◌, ◌≤◌, ◌++◌, ◌∙◌, List, ap, length, subst, sym}
+use Rattle.std.proofs.Common.{◌<◌, ◌≤◌, ◌++◌, ◌∙◌, List, ap, length, subst, sym, arith}
+use Rattle.std.proofs.lemmas.Grind.{common_steps}
 use Rattle.std.proofs.lemmas.List.{append-nil}
 use Rattle.tomex_study.specs.Program.{Workload}
 use Rattle.tomex_layout.specs.Table.{TableColumn}
@@ -23,3 +24,6 @@ returns-else-programs-gt1 g c =
     sym (append-nil c.args.columns.now.items)
     ∙ ap (λ (more : List TableColumn). c.args.columns.now.items ++ more)
     (no_column c.args.surveyed.now c.args.rows.now one)
+
+pub push_each_program-requires : goal.push_each_program-requires
+push_each_program-requires = grind (arith, common_steps)

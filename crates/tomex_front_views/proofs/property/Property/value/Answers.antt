@@ -1,0 +1,7 @@
+-- Closed at once: a search by rules takes long before it fails.
+use Rattle.std.proofs.Common.{arith}
+use Rattle.std.proofs.lemmas.Grind.{common_steps}
+use Rattle.tomex_front_views.proofs.property.Property.value.Goals as goal
+
+pub bounds-costs-row : goal.bounds-costs-row
+bounds-costs-row = grind (arith, common_steps)
