@@ -1,3 +1,5 @@
+use Rattle.std.proofs.Common.{arith}
+use Rattle.std.proofs.lemmas.Grind.{common_steps}
 use Rattle.tomex_cycle.proofs.Words.{◌∙◌, refl, sym}
 use Rattle.tomex_cycle.proofs.Known.{known_started}
 use Rattle.tomex_membuf.proofs.Older.{no_option}
@@ -10,3 +12,6 @@ returns-in-Some-outcome-clause-timetable g c = λ none.
     rw (c.start.ensures.slots, at, c.from.ensures) (known_started c.args.place c.in-Some-outcome.latency
     c.in-Some-outcome.value c.in-Some.station c.put.new.self (c.in-Some.ensures.low refl) c.requires.timetable at idle
     c.in-Some-outcome.ensures.range (rw c.from-in-Some-outcome.ensures at c.put.ensures))
+
+pub put-requires-clause-low : goal.put-requires-clause-low
+put-requires-clause-low = grind (arith, common_steps)

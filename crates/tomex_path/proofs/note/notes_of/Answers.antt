@@ -1,4 +1,5 @@
 -- Each turn of the loop keeps what is held, and adds the step's times and its note.
+use Rattle.std.proofs.lemmas.Grind.{common_steps}
 use Rattle.std.proofs.Common.{ℕ, ◌-◌, ◌^◌, ◌≡◌, ◌∙◌, arith, sym, take}
 use Rattle.tomex_timing.specs.Search.{history}
 use Rattle.tomex_timing.proofs.Histories.{are_timed}
@@ -53,3 +54,9 @@ loop-step-preserved g c = λ steps are.
       notes = rw (c.in_ok-push.ensures.items, before.notes, noted)
           (sym (notes_more c.args.config.now steps i at.0 at.1.place at.1.at));
     }
+
+pub returns-clause-times : goal.returns-clause-times
+returns-clause-times = grind (arith, common_steps)
+
+pub returns-clause-notes : goal.returns-clause-notes
+returns-clause-notes = grind (arith, common_steps)

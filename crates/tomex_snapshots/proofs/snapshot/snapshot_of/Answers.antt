@@ -1,5 +1,6 @@
 -- What one more step shows.
-use Rattle.std.proofs.Common.{List, subst, sym, take}
+use Rattle.std.proofs.Common.{List, subst, sym, take, arith}
+use Rattle.std.proofs.lemmas.Grind.{common_steps}
 use Rattle.tomex_timing.specs.declared.times.Done.{Done}
 use Rattle.tomex_snapshots.specs.Entries.{history_of}
 use Rattle.tomex_snapshots.specs.Kept.{IsSnapshot}
@@ -15,3 +16,6 @@ loop-entry-preserved c =
     c.args.entries.now))
     c.loop-entry.snapshot c.note.new.self c.loop-entry.invariant c.operands_are_registers.ensures.j
     c.operands_are_registers.ensures.k c.note.ensures)
+
+pub returns : goal.returns
+returns = grind (arith, common_steps)

@@ -1,4 +1,5 @@
 -- Each turn adds the number of a step to the sum of its key.
+use Rattle.std.proofs.lemmas.Grind.{common_steps}
 use Rattle.std.proofs.Common.{ℕ, ◌<◌, ◌≡◌, ◌∙◌, true, arith, ap, Option, Some, None, get_or}
 use Rattle.std.specs.Prelude.{is_none}
 use Rattle.tomex_stretches.specs.Cycles.{is_key}
@@ -35,3 +36,12 @@ loop-k-preserved g c = record {
       c.loop-k-test.true in
       omega (arith, more, c.add.ensures.without, c.loop-k.invariant.without);
 }
+
+pub returns-clause-by_key : goal.returns-clause-by_key
+returns-clause-by_key = grind (arith, common_steps)
+
+pub loop-k-init : goal.loop-k-init
+loop-k-init = grind (arith, common_steps)
+
+pub returns-clause-without : goal.returns-clause-without
+returns-clause-without = grind (arith, common_steps)

@@ -1,4 +1,5 @@
 -- Each turn adds a step to its stretch, and the cycles that it has there.
+use Rattle.std.proofs.lemmas.Grind.{common_steps}
 use Rattle.std.proofs.Common.{ℕ, ◌+◌, ◌<◌, ◌≤◌, ◌≡◌, ◌∙◌, ◌∷◌, ◌^◌, List, None, arith, refl, ap, sym}
 use Rattle.std.proofs.Common.{reverse, take, take_all, length, get_or}
 use Rattle.std.specs.Prelude.{slice_index_or}
@@ -100,3 +101,18 @@ returns g c =
     c.end_last.ensures ∙ ended (latency_of c.args.config.now) c.args.config.now.width c.loop-k.before
     (reverse c.args.run.now) (reverse c.args.keys.now) c.loop-k.latest c.loop-k.cycles.items _ count before latest
     c.loop-k.invariant.issue refl cycles
+
+pub pass-requires-clause-touched : goal.pass-requires-clause-touched
+pass-requires-clause-touched = grind arith
+
+pub bounds-keys-k : goal.bounds-keys-k
+bounds-keys-k = grind (arith, common_steps)
+
+pub issue_of-requires-clause-by : goal.issue_of-requires-clause-by
+issue_of-requires-clause-by = grind (arith, common_steps)
+
+pub bounds-keys-k-in-loop-k : goal.bounds-keys-k-in-loop-k
+bounds-keys-k-in-loop-k = grind (arith, common_steps)
+
+pub turn-requires : goal.turn-requires
+turn-requires = grind (arith, common_steps)

@@ -1,4 +1,6 @@
 -- The phases make a cycle, and what is left when it is made says whether the run is over.
+use Rattle.std.proofs.Common.{arith}
+use Rattle.std.proofs.lemmas.Grind.{common_steps}
 use Rattle.tomex_cycle.proofs.Words.{core, core_of, front, Bool, ◌≤◌, ◌<◌, ◌≡◌, ◌∙◌, ap, arith, inl, inr, Ok, nat_lt}
 use Rattle.tomex_cycle.proofs.Words.{ltb-true, ltb-false}
 use Rattle.tomex_cycle.proofs.Cycles.{cycle_made, cycle_answer, AreMade, under_way, cycle_happens}
@@ -80,3 +82,9 @@ end-ended-requires g c = record {
 pub returns-clause-none_unsent : goal.returns-clause-none_unsent
 returns-clause-none_unsent g c = λ how settled. c.end-ended.ensures.none_unsent
     (c.is_settled_after-settled.ensures.settled (c.after.ensures.settled settled)).1
+
+pub returns-in-Err-clause-none_unsent : goal.returns-in-Err-clause-none_unsent
+returns-in-Err-clause-none_unsent = grind (arith, common_steps)
+
+pub returns-in-CountOnly-clause-makes : goal.returns-in-CountOnly-clause-makes
+returns-in-CountOnly-clause-makes = grind (arith, common_steps)

@@ -1,3 +1,5 @@
+use Rattle.std.proofs.Common.{arith}
+use Rattle.std.proofs.lemmas.Grind.{common_steps}
 use Rattle.tomex_cycle.proofs.Words.{arith}
 use Rattle.tomex_cycle.proofs.Known.{known_first}
 use Rattle.tomex_cycle.proofs.Outer.{sound_start}
@@ -9,3 +11,6 @@ invariant_of-result g c = (
   omega (arith, c.in-Ok.ensures.fresh.none_made),
   λ runs. known_first _ _ c.in-Ok.ensures.fresh.empty c.new.ensures.wheel c.new.ensures.unsent,
 )
+
+pub invariant_of-result-in-Err : goal.invariant_of-result-in-Err
+invariant_of-result-in-Err = grind (arith, common_steps)

@@ -1,0 +1,7 @@
+-- Closed at once: a search by rules takes long before it fails.
+use Rattle.std.proofs.Common.{arith}
+use Rattle.std.proofs.lemmas.Grind.{common_steps}
+use Rattle.tomex_stretches.proofs.accesses.Accesses.note.Goals as goal
+
+pub returns-in_ok-note_bytes-clause-touched : goal.returns-in_ok-note_bytes-clause-touched
+returns-in_ok-note_bytes-clause-touched = grind (arith, common_steps)

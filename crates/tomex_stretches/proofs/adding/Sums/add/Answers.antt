@@ -1,0 +1,7 @@
+-- Closed at once: a search by rules takes long before it fails.
+use Rattle.std.proofs.Common.{arith}
+use Rattle.std.proofs.lemmas.Grind.{common_steps}
+use Rattle.tomex_stretches.proofs.adding.Sums.add.Goals as goal
+
+pub overflow_add-index_mut : goal.overflow_add-index_mut
+overflow_add-index_mut = grind (arith, common_steps)
