@@ -34,7 +34,7 @@ loop-place-preserved g c = λ steps are shown.
         })
         | else-is_some w ↦ rw w.self-is (record {
           held = held;
-          window = window_next at.1 before.state.held e.next before.state.window 
+          window = window_next at.1 before.state.held e.next before.state.window
               (λ some. absurd (true≢false (sym some ∙ (sym c.is_some.ensures ∙ w.if-is_some.false)))) (λ none. refl);
         })
       ];
