@@ -201,8 +201,8 @@ static ON_A_LONG_FRONT: [(&str, usize); 9] = [
     ("tomex prices alike", 1026),
 ];
 
-/// The same on 2,304 configurations: `find` and `front --hull` print the names and each row, `weights` and `prices` the stated ones too;
-/// `compare` two tables, `choices` a line a list.
+/// The same on 2,304 configurations: `find` and `front --hull` print the names and each row, `weights` the stated ones
+/// too; `compare` two tables, `choices` a line a list.
 static ON_A_LONGER_FRONT: [(&str, usize); 7] = [
     ("tomex find longer", 2305),
     ("tomex front longer --hull", 2305),

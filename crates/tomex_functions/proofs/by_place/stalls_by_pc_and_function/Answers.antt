@@ -1,5 +1,6 @@
 -- The report of the places, if the file has symbols.
-use Rattle.std.proofs.Common.{rules, ◌∙◌, refl, sym}
+use Rattle.std.proofs.Common.{rules, ◌∙◌, refl, sym, arith}
+use Rattle.std.proofs.lemmas.Grind.{common_steps}
 use Rattle.tomex_run_views.specs.ByPlace.{pc_of}
 use Rattle.tomex_functions.specs.ByPlace.{function_fields}
 use Rattle.tomex_functions.proofs.Listings.{addresses_are}
@@ -35,3 +36,9 @@ returns-then-not-has_symbols g c = record {
   refused = λ _. no_symbols c.args.file.now (sym c.has_symbols.ensures ∙ c.if-not-has_symbols.true);
   none = search rules;
 }
+
+pub count_run-requires-clause-keys : goal.count_run-requires-clause-keys
+count_run-requires-clause-keys = grind (arith, common_steps)
+
+pub returns-in_err-text_by_place : goal.returns-in_err-text_by_place
+returns-in_err-text_by_place = grind arith

@@ -1,4 +1,6 @@
 -- One step more, which may be a call.
+use Rattle.std.proofs.Common.{arith}
+use Rattle.std.proofs.lemmas.Grind.{common_steps}
 use Rattle.tomex_functions.proofs.CallTurns.{all_fit, count_fits, turn_of_all, turn_of_key, turn_same}
 use Rattle.tomex_functions.proofs.calls.count_calls.Goals as goal
 use Rattle.tomex_functions.proofs.calls.count_calls.Goals.{then-is_call+in_ok-count, else-is_call}
@@ -30,3 +32,9 @@ loop-index-preserved g c = λ symbols are.
           c.loop-index-test.true (λ d. c.is_call.ensures symbols d are) w.if-is_call.false in
           rw (w.calls-is, same) (record { by_key = before.by_key; all = before.all })
     ]
+
+pub is_call-requires-clause-pairs : goal.is_call-requires-clause-pairs
+is_call-requires-clause-pairs = grind (arith, common_steps)
+
+pub is_call-requires-clause-place : goal.is_call-requires-clause-place
+is_call-requires-clause-place = grind (arith, common_steps)

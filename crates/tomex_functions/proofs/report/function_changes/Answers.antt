@@ -1,5 +1,5 @@
 -- The report of both listings, if both files have symbols.
-use Rattle.std.proofs.Common.{rules, ◌∙◌, ap₂, sym, inl, inr}
+use Rattle.std.proofs.Common.{rules, ◌∙◌, ap₂, sym, inl, inr, arith}
 use Rattle.tomex_functions.proofs.Texts.{no_symbols}
 use Rattle.tomex_symbols.specs.Symbols.{symbols_of}
 use Rattle.tomex_functions.specs.Changes.{build_of}
@@ -51,3 +51,9 @@ returns-then-not-has_symbols g c = record {
   old_none = search rules;
   new_none = search rules;
 }
+
+pub returns-in_err-named : goal.returns-in_err-named
+returns-in_err-named = grind arith
+
+pub returns-in_err-text_of : goal.returns-in_err-text_of
+returns-in_err-text_of = grind arith

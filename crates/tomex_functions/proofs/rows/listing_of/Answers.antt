@@ -1,5 +1,6 @@
 -- The parts of a listing, each by its call.
-use Rattle.std.proofs.Common.{◌∙◌, ap, ap₂, ℕ}
+use Rattle.std.proofs.Common.{◌∙◌, ap, ap₂, ℕ, arith}
+use Rattle.std.proofs.lemmas.Grind.{common_steps}
 use Rattle.tomex_run_views.specs.Tally.{only_drain, with_drain}
 use Rattle.tomex_run_views.specs.declared.tally.Sum.{Sum}
 use Rattle.tomex_run_views.specs.ByPlace.{visits_in}
@@ -37,3 +38,6 @@ returns g c =
       all = c.total.ensures ∙ ap₂ (λ (n : ℕ) (s : Sum). with_drain n s) counted.drain counted.tally.all;
       calls = calls.all;
     }
+
+pub count_calls-requires-clause-functions : goal.count_calls-requires-clause-functions
+count_calls-requires-clause-functions = grind (arith, common_steps)

@@ -1,4 +1,5 @@
 -- Each turn adds a span to the sum of its key.
+use Rattle.std.proofs.lemmas.Grind.{common_steps}
 use Rattle.std.proofs.Common.{◌∙◌, List, ap, arith, get_or, max, refl, rules, sym, take_all}
 use Rattle.std.proofs.lemmas.List.{length-set}
 use Rattle.tomex_loop_sums.specs.declared.spans.Span.{Span}
@@ -80,3 +81,18 @@ returns-clause-sums g c = λ n l.
     (let so = c.loop-span.invariant.summed n l in so.is)
     ∙ ap (λ (spans : List Span). sum_in n spans c.args.numbers.now)
     (take_all c.loop-span.span-index c.args.spans.now c.loop-span-test.false)
+
+pub index-end-requires : goal.index-end-requires
+index-end-requires = grind (arith, common_steps)
+
+pub index_mut-requires-in-loop-span : goal.index_mut-requires-in-loop-span
+index_mut-requires-in-loop-span = grind (arith, common_steps)
+
+pub index_mut-requires : goal.index_mut-requires
+index_mut-requires = grind (arith, common_steps)
+
+pub index-requires : goal.index-requires
+index-requires = grind (arith, common_steps)
+
+pub index-requires-in-loop-span : goal.index-requires-in-loop-span
+index-requires-in-loop-span = grind (arith, common_steps)

@@ -1,5 +1,6 @@
 -- Each list has what it is the sums of.
-use Rattle.std.proofs.Common.{ℕ, ◌<◌, ◌∙◌, ap, length, List, map, subst, sym}
+use Rattle.std.proofs.Common.{ℕ, ◌<◌, ◌∙◌, ap, length, List, map, subst, sym, arith}
+use Rattle.std.proofs.lemmas.Grind.{common_steps}
 use Rattle.std.specs.Prelude.{All}
 use Rattle.std.proofs.lemmas.List.{length-map}
 use Rattle.tomex_loops.specs.Sound.{AreEnds}
@@ -105,3 +106,6 @@ sums_in_visits-requires-2-clause-loops g c = c.requires.loops
 
 pub sums_in_visits-requires-2-clause-many_ends : goal.sums_in_visits-requires-2-clause-many_ends
 sums_in_visits-requires-2-clause-many_ends g c = c.requires.many_ends
+
+pub sums_in_visits-requires-clause-many_ends : goal.sums_in_visits-requires-clause-many_ends
+sums_in_visits-requires-clause-many_ends = grind (arith, common_steps)

@@ -1,4 +1,5 @@
 -- Each turn counts the rounds of a loop.
+use Rattle.std.proofs.lemmas.Grind.{common_steps}
 use Rattle.std.proofs.Common.{◌≡◌, ◌∙◌, [], None, arith, get_or, map, rules, sym}
 use Rattle.std.specs.Vec.{with_items}
 use Rattle.std.proofs.lemmas.List.{get_or-map, get_or-set_other}
@@ -23,3 +24,6 @@ loop-group-preserved g c =
           c.in_ok-push.ensures.items c.loop-group.invariant.count
           (rw (read, sym same, sym c.deref_mut.ensures.value) c.count_rounds.ensures) c.loop-group.invariant.counts;
     }
+
+pub offset_bounds-groups-group-index : goal.offset_bounds-groups-group-index
+offset_bounds-groups-group-index = grind (arith, common_steps)

@@ -1,4 +1,5 @@
 -- The longest visit of a loop is one of those that have groups.
+use Rattle.std.proofs.lemmas.Grind.{common_steps}
 use Rattle.std.proofs.Common.{ℕ, ◌≡◌, ◌<◌, ◌^◌, ◌∙◌, None, arith, get_or, length, map, sym}
 use Rattle.std.specs.Option.{option_map}
 use Rattle.std.proofs.lemmas.List.{get_or_default, length-map}
@@ -70,3 +71,6 @@ returns-clause-patterns g c = IfOk-weaker c.patterns_in.result
         c.in_ok-visits.ensures,
       ) at here;
     }) c.patterns_in.ensures.patterns
+
+pub longest_of-requires-clause-loops : goal.longest_of-requires-clause-loops
+longest_of-requires-clause-loops = grind (arith, common_steps)

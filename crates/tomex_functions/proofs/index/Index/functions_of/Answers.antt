@@ -1,5 +1,6 @@
 -- The function of one step more.
-use Rattle.std.proofs.Common.{◌≡◌, rules, slice_index_or}
+use Rattle.std.proofs.Common.{◌≡◌, rules, slice_index_or, arith}
+use Rattle.std.proofs.lemmas.Grind.{common_steps}
 use Rattle.tomex_functions.proofs.Indexes.{address_there, functions_more}
 use Rattle.tomex_functions.proofs.index.Index.functions_of.Goals as goal
 
@@ -12,3 +13,6 @@ loop-step-preserved g c = λ symbols are.
     (c.function_at.ensures symbols c.args.steps.now are
     (address_there c.args.steps.now c.loop-step.step-index c.step-item.result c.loop-step-test.true is))
     c.in_ok-push.ensures.items
+
+pub returns : goal.returns
+returns = grind (arith, common_steps)

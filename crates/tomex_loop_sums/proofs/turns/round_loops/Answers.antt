@@ -1,0 +1,7 @@
+-- Closed at once: a search by rules takes long before it fails.
+use Rattle.std.proofs.Common.{arith}
+use Rattle.std.proofs.lemmas.Grind.{common_steps}
+use Rattle.tomex_loop_sums.proofs.turns.round_loops.Goals as goal
+
+pub loop-round-preserved : goal.loop-round-preserved
+loop-round-preserved = grind (arith, common_steps)

@@ -1,0 +1,10 @@
+-- Closed at once: a search by rules takes long before it fails.
+use Rattle.std.proofs.Common.{arith}
+use Rattle.std.proofs.lemmas.Grind.{common_steps}
+use Rattle.tomex_loop_sums.proofs.turns.visits_of.Goals as goal
+
+pub loop-round-preserved : goal.loop-round-preserved
+loop-round-preserved = grind (arith, common_steps)
+
+pub returns : goal.returns
+returns = grind (arith, common_steps)
