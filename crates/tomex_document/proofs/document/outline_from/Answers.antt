@@ -1,5 +1,6 @@
 -- The programs are read first, then the prices and the axes, up to the first fault.
-use Rattle.std.proofs.Common.{refl}
+use Rattle.std.proofs.Common.{refl, arith}
+use Rattle.std.proofs.lemmas.Grind.{common_steps}
 use Rattle.std.proofs.lemmas.Result.{err_from_is_err_and}
 use Rattle.tomex_values.proofs.Outcomes.{goes_on, stops}
 use Rattle.tomex_document.proofs.document.outline_from.Goals as goal
@@ -29,3 +30,6 @@ pub returns-then-is_too_large : goal.returns-then-is_too_large
 returns-then-is_too_large g c = λ other. goes_on _ _ _ _ c.in_ok-programs.ensures
     (goes_on _ _ _ _ c.in_ok-prices.ensures
     (goes_on _ _ _ _ c.in_ok-axes.ensures (rw (rw c.is_too_large.ensures at c.if-is_too_large.true) refl)))
+
+pub returns-else-is_too_large : goal.returns-else-is_too_large
+returns-else-is_too_large = grind (arith, common_steps)

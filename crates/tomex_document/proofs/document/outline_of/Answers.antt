@@ -1,5 +1,6 @@
 -- The top is read first, up to the first fault, and then its tables.
-use Rattle.std.proofs.Common.{◌≡◌, Ok, sym}
+use Rattle.std.proofs.Common.{◌≡◌, Ok, sym, arith}
+use Rattle.std.proofs.lemmas.Grind.{common_steps}
 use Rattle.std.proofs.lemmas.Result.{err_from_is_err_and}
 use Rattle.tomex_document.specs.Document.{outline_of}
 use Rattle.tomex_values.proofs.Outcomes.{goes_on, stops}
@@ -60,3 +61,15 @@ unfolding outline_of
 returns-in_err-known_keys g c =
     let p = err_from_is_err_and c.from_residual.result c.from_residual.ensures.1 in
     rw (p.1, p.2) (λ other. stops _ _ _ (sym (rw c.as_slice.ensures at c.in_err-known_keys.ensures)))
+
+pub outline_from-requires : goal.outline_from-requires
+outline_from-requires = grind (arith, common_steps)
+
+pub table_at-requires-2 : goal.table_at-requires-2
+table_at-requires-2 = grind (arith, common_steps)
+
+pub table_at-requires-3 : goal.table_at-requires-3
+table_at-requires-3 = grind (arith, common_steps)
+
+pub table_at-requires : goal.table_at-requires
+table_at-requires = grind (arith, common_steps)

@@ -1,4 +1,6 @@
 -- The files before the current one are programs; it is one more, or the first that is refused.
+use Rattle.std.proofs.Common.{arith}
+use Rattle.std.proofs.lemmas.Grind.{common_steps}
 use Rattle.tomex_document.proofs.Studies.{all_programs, first_refusal, item_is, pushed, seen_is}
 use Rattle.tomex_document.proofs.study.programs_of.Goals as goal
 
@@ -27,3 +29,6 @@ loop-place-init g c = rw c.new-programs.ensures.items tt
 pub returns-clause-ok : goal.returns-clause-ok
 returns-clause-ok g c = all_programs _ c.loop-place.place c.args.entries.now c.args.files.now _ c.requires
     c.loop-place-test.false c.loop-place.invariant
+
+pub bounds-files-place : goal.bounds-files-place
+bounds-files-place = grind (arith, common_steps)

@@ -1,4 +1,5 @@
 -- A document has 1 to 8 programs, and as many files.
+use Rattle.std.proofs.lemmas.Grind.{common_steps}
 use Rattle.std.proofs.Common.{◌∙◌, ap, arith, length, inl, refl}
 use Rattle.std.proofs.lemmas.List.{length-map}
 use Rattle.std.proofs.lemmas.Result.{err_from_is_err_and}
@@ -40,3 +41,15 @@ returns-clause-ok g c =
       refl,
       ap (λ (d : Document). d.wide) c.outline.view_is,
     )
+
+pub returns-clause-count : goal.returns-clause-count
+returns-clause-count = grind (arith, common_steps)
+
+pub returns-in_err-clone-2-clause-count : goal.returns-in_err-clone-2-clause-count
+returns-in_err-clone-2-clause-count = grind (arith, common_steps)
+
+pub returns-in_err-new-clause-count : goal.returns-in_err-new-clause-count
+returns-in_err-new-clause-count = grind (arith, common_steps)
+
+pub returns-then-files-len-clause-err : goal.returns-then-files-len-clause-err
+returns-then-files-len-clause-err = grind (arith, common_steps)

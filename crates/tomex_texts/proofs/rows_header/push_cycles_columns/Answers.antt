@@ -1,4 +1,6 @@
 -- One more program's column.
+use Rattle.std.proofs.Common.{arith}
+use Rattle.std.proofs.lemmas.Grind.{common_steps}
 use Rattle.tomex_texts.specs.RowsReport.{cycles_column}
 use Rattle.tomex_texts.proofs.Lines.{one_column}
 use Rattle.tomex_texts.proofs.rows_header.push_cycles_columns.Goals as goal
@@ -10,3 +12,6 @@ loop-program-preserved g c = record {
       c.in_ok-push_cycles_column.ensures.fields;
   whole = c.in_ok-push_cycles_column.ensures.whole;
 }
+
+pub returns-clause-fields : goal.returns-clause-fields
+returns-clause-fields = grind (arith, common_steps)

@@ -1,5 +1,6 @@
 -- The next row has two flags.
-use Rattle.std.proofs.Common.{length}
+use Rattle.std.proofs.Common.{length, arith}
+use Rattle.std.proofs.lemmas.Grind.{common_steps}
 use Rattle.tomex_pareto.specs.declared.front_row.FrontRow.{FrontRow}
 use Rattle.tomex_pareto.specs.Hull.{hull_of}
 use Rattle.tomex_study.specs.StudyFront.{front_of_study}
@@ -32,3 +33,6 @@ put_row-requires-clause-hull g c =
     let s = c.args.surveyed.now in
     flag_there (hull_of (front_of_study s)) (length s.rows) c.args.on_hull.now _
     (c.rows-row-items.ensures.within c.loop-row.row-index none c.loop-row-test.true) c.requires.hull
+
+pub loop-row-preserved : goal.loop-row-preserved
+loop-row-preserved = grind (arith, common_steps)

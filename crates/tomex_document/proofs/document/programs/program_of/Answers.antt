@@ -1,4 +1,5 @@
 -- The result of a place: the fault of the first key that has one, or the values of its keys.
+use Rattle.std.proofs.lemmas.Grind.{common_steps}
 use Rattle.std.proofs.Common.{◌≡◌, ◌≤◌, ℕ, true, arith, sym, refl}
 use Rattle.std.proofs.lemmas.Result.{err_from_is_err_and}
 use Rattle.tomex_document.specs.Program.{program_of}
@@ -106,3 +107,9 @@ new-requires g c =
       least_weight = weight.0;
       most_weight = weight.1;
     }
+
+pub number_at-requires-2 : goal.number_at-requires-2
+number_at-requires-2 = grind (arith, common_steps)
+
+pub number_at-requires : goal.number_at-requires
+number_at-requires = grind (arith, common_steps)

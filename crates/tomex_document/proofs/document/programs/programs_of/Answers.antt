@@ -1,4 +1,5 @@
 -- A fault of one program is the fault of them all.
+use Rattle.std.proofs.lemmas.Grind.{common_steps}
 use Rattle.std.proofs.Common.{◌∙◌, add-one, arith, refl, sym}
 use Rattle.std.proofs.lemmas.Result.{err_from_is_err_and}
 use Rattle.toml.specs.View.{table_view}
@@ -42,3 +43,6 @@ pub returns : goal.returns
 returns g c = sym c.loop-value.invariant.1
     ∙ programs_of-end c.loop-value.number c.loop-value.value-index c.loop-value.entries.items c.args.values.now
     c.loop-value-test.false
+
+pub returns-in_default : goal.returns-in_default
+returns-in_default = grind (arith, common_steps)

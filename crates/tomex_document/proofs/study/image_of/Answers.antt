@@ -1,0 +1,6 @@
+-- Closed at once: a search by rules takes long before it fails.
+use Rattle.std.proofs.Common.{arith}
+use Rattle.tomex_document.proofs.study.image_of.Goals as goal
+
+pub returns-in-Err-clause-err : goal.returns-in-Err-clause-err
+returns-in-Err-clause-err = grind arith

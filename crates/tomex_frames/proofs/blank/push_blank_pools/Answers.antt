@@ -1,0 +1,7 @@
+-- Closed at once: a search by rules takes long before it fails.
+use Rattle.std.proofs.Common.{arith}
+use Rattle.std.proofs.lemmas.Grind.{common_steps}
+use Rattle.tomex_frames.proofs.blank.push_blank_pools.Goals as goal
+
+pub loop-pool-preserved : goal.loop-pool-preserved
+loop-pool-preserved = grind (arith, common_steps)
