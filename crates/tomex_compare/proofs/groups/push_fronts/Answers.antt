@@ -1,5 +1,6 @@
 -- The marks are those of the builds' own fronts.
-use Rattle.std.proofs.Common.{◌∙◌, ◌<◌, ap, codes, length, List, ℕ, subst, sym}
+use Rattle.std.proofs.Common.{◌∙◌, ◌<◌, ap, codes, length, List, ℕ, subst, sym, arith}
+use Rattle.std.proofs.lemmas.Grind.{common_steps}
 use Rattle.std.proofs.lemmas.List.Elements.{All-get_or}
 use Rattle.std.specs.Prelude.{All}
 use Rattle.tomex_compare.specs.Groups.{RowGroup, front_group, on_front, own_front}
@@ -39,3 +40,9 @@ returns g c =
     ∙ ap (λ (ps : List Pair). front_group (codes "both") (on_front on_new ps)) those in
     three_pushed c.args.groups.now.items _ _ _ _ _ _ _ _ _ c.in_ok-push.ensures.items c.in_ok-push-2.ensures.items
     c.in_ok-push-3.ensures.items old new both
+
+pub front_group-requires : goal.front_group-requires
+front_group-requires = grind (arith, common_steps)
+
+pub front_group-requires-2 : goal.front_group-requires-2
+front_group-requires-2 = grind (arith, common_steps)

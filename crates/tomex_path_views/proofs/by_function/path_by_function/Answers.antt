@@ -1,5 +1,6 @@
 -- The report of the functions, if the file has symbols.
-use Rattle.std.proofs.Common.{rules, ◌∙◌, ap, sym, subst, List}
+use Rattle.std.proofs.Common.{rules, ◌∙◌, ap, sym, subst, List, arith}
+use Rattle.std.proofs.lemmas.Grind.{common_steps}
 use Rattle.tomex_rvexec.specs.Run.{start_of}
 use Rattle.tomex_rvexec.specs.Trace.{steps_from}
 use Rattle.tomex_functions.specs.Functions.{function_key}
@@ -56,3 +57,36 @@ returns-then-not-has_symbols g c = record {
   refused = λ _. no_symbols c.args.file.now (sym c.has_symbols.ensures ∙ c.if-not-has_symbols.true);
   none = search rules;
 }
+
+pub returns-in_err-clone-6 : goal.returns-in_err-clone-6
+returns-in_err-clone-6 = grind arith
+
+pub count_links-requires-clause-short : goal.count_links-requires-clause-short
+count_links-requires-clause-short = grind arith
+
+pub count_links-requires-clause-steps : goal.count_links-requires-clause-steps
+count_links-requires-clause-steps = grind (arith, common_steps)
+
+pub returns-in_err-tally : goal.returns-in_err-tally
+returns-in_err-tally = grind arith
+
+pub new-requires : goal.new-requires
+new-requires = grind (arith, common_steps)
+
+pub returns-in_err-keys : goal.returns-in_err-keys
+returns-in_err-keys = grind arith
+
+pub returns-in_err-rows : goal.returns-in_err-rows
+returns-in_err-rows = grind arith
+
+pub returns-in_err-clone-4 : goal.returns-in_err-clone-4
+returns-in_err-clone-4 = grind arith
+
+pub returns-in_err-clone-5 : goal.returns-in_err-clone-5
+returns-in_err-clone-5 = grind arith
+
+pub returns-in_err-text_of_rows : goal.returns-in_err-text_of_rows
+returns-in_err-text_of_rows = grind arith
+
+pub returns-in_err-clone-7 : goal.returns-in_err-clone-7
+returns-in_err-clone-7 = grind arith

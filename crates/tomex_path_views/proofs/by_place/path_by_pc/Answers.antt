@@ -1,5 +1,6 @@
 -- What was counted by address is the report by place.
-use Rattle.std.proofs.Common.{◌∙◌, [], refl, subst, List}
+use Rattle.std.proofs.Common.{◌∙◌, [], refl, subst, List, arith}
+use Rattle.std.proofs.lemmas.Grind.{common_steps}
 use Rattle.std.proofs.lemmas.Result.{IfOk-weaker}
 use Rattle.tomex_rvexec.specs.Run.{start_of}
 use Rattle.tomex_rvexec.specs.Trace.{steps_from}
@@ -22,3 +23,9 @@ returns g c =
     places_if_made [] (λ step. []) config
     (steps_from c.args.program.now.limit (start_of c.args.program.now.image)) tally is c.text_of_places.result written
     c.text_of_places.ensures.order
+
+pub count_links-requires-clause-keys : goal.count_links-requires-clause-keys
+count_links-requires-clause-keys = grind (arith, common_steps)
+
+pub count_links-requires-clause-steps : goal.count_links-requires-clause-steps
+count_links-requires-clause-steps = grind (arith, common_steps)

@@ -1,4 +1,5 @@
 -- One link more is counted.
+use Rattle.std.proofs.lemmas.Grind.{common_steps}
 use Rattle.std.proofs.Common.{◌≡◌, ◌∙◌, ap, arith, sym, subst, refl, get_or, length, map, ℕ, ◌+◌, ◌-◌, ◌<◌, ◌≤◌, List}
 use Rattle.std.proofs.Common.{◌++◌, ◌∷◌, [], take}
 use Rattle.std.specs.Prelude.{All}
@@ -72,3 +73,9 @@ loop-link-preserved g c = λ key are.
     (c.in_ok-add.ensures key (visits_along c.args.steps.now (take i path)) (c.loop-link.invariant key are)
     (key_is c.args.steps.now path i c.loop-link-test.true c.requires.short.all c.requires.steps _
     c.index-steps-place.result c.index-steps-place.is key c.args.keys.now are))
+
+pub bounds-keys-place : goal.bounds-keys-place
+bounds-keys-place = grind (arith, common_steps)
+
+pub returns : goal.returns
+returns = grind (arith, common_steps)

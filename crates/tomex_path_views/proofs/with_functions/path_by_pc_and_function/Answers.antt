@@ -1,5 +1,6 @@
 -- The report of the places, if the file has symbols.
-use Rattle.std.proofs.Common.{rules, ◌∙◌, refl, sym, subst, List}
+use Rattle.std.proofs.Common.{rules, ◌∙◌, refl, sym, subst, List, arith}
+use Rattle.std.proofs.lemmas.Grind.{common_steps}
 use Rattle.tomex_rvexec.specs.Run.{start_of}
 use Rattle.tomex_rvexec.specs.Trace.{steps_from}
 use Rattle.tomex_functions.specs.ByPlace.{function_fields}
@@ -43,3 +44,12 @@ returns-then-not-has_symbols g c = record {
   refused = λ _. no_symbols c.args.file.now (sym c.has_symbols.ensures ∙ c.if-not-has_symbols.true);
   none = search rules;
 }
+
+pub returns-in_err-tally : goal.returns-in_err-tally
+returns-in_err-tally = grind arith
+
+pub returns-in_err-text_of_places : goal.returns-in_err-text_of_places
+returns-in_err-text_of_places = grind arith
+
+pub count_links-requires-clause-steps : goal.count_links-requires-clause-steps
+count_links-requires-clause-steps = grind (arith, common_steps)

@@ -1,5 +1,6 @@
 -- The links with the function of each, if the file has symbols.
-use Rattle.std.proofs.Common.{rules, ◌∙◌, refl, sym}
+use Rattle.std.proofs.Common.{rules, ◌∙◌, refl, sym, arith}
+use Rattle.std.proofs.lemmas.Grind.{common_steps}
 use Rattle.tomex_functions.specs.ByPlace.{function_fields}
 use Rattle.tomex_functions.proofs.Indexes.{all_addresses}
 use Rattle.tomex_functions.proofs.Texts.{no_symbols}
@@ -33,3 +34,9 @@ returns-then-not-has_symbols g c = record {
   refused = λ _. no_symbols c.args.file.now (sym c.has_symbols.ensures ∙ c.if-not-has_symbols.true);
   none = search rules;
 }
+
+pub text_of_links-requires-clause-pairs : goal.text_of_links-requires-clause-pairs
+text_of_links-requires-clause-pairs = grind (arith, common_steps)
+
+pub text_of_links-requires-clause-steps : goal.text_of_links-requires-clause-steps
+text_of_links-requires-clause-steps = grind (arith, common_steps)

@@ -1,4 +1,5 @@
 -- The program's part of the cycles is no more than all of them, and those are few.
+use Rattle.std.proofs.lemmas.Grind.{common_steps}
 use Rattle.std.proofs.Common.{◌∙◌, ap, arith, refl}
 use Rattle.tomex_study.specs.Study.{DesignSpace}
 use Rattle.tomex_weights.proofs.SmallRows.{part_small, row_of}
@@ -42,3 +43,9 @@ returns-clause-room g c =
     c.requires.row (c.programs.ensures.value ∙ ap (λ (s : DesignSpace). s.programs) c.study.ensures)
     c.index-programs-place.is (c.from-weight.ensures ∙ c.weight.ensures.value) c.own_cycles-times.ensures in
     omega (arith, part.few)
+
+pub offset_bounds-programs-place : goal.offset_bounds-programs-place
+offset_bounds-programs-place = grind (arith, common_steps)
+
+pub bounds-programs-place : goal.bounds-programs-place
+bounds-programs-place = grind (arith, common_steps)

@@ -1,4 +1,6 @@
 -- The line of one row more.
+use Rattle.std.proofs.Common.{arith}
+use Rattle.std.proofs.lemmas.Grind.{common_steps}
 use Rattle.tomex_layout.proofs.Loops.{item_more}
 use Rattle.tomex_pareto.specs.declared.front_row.FrontRow.{FrontRow}
 use Rattle.tomex_pareto.specs.Spans.{HasRoom}
@@ -16,3 +18,6 @@ loop-row-preserved g c =
       room = all_more HasRoom c.loop-row.lines.items c.push.new.self.items c.by_weight.result c.in_ok-push.ensures.items
           c.loop-row.invariant.room c.by_weight.ensures.room;
     }
+
+pub returns-clause-rows : goal.returns-clause-rows
+returns-clause-rows = grind (arith, common_steps)

@@ -1,4 +1,5 @@
 -- One more program.
+use Rattle.std.proofs.lemmas.Grind.{common_steps}
 use Rattle.std.proofs.Common.{◌≡◌, ◌<◌, arith, length, get_or}
 use Rattle.tomex_weights.proofs.Differences.{next_part}
 use Rattle.tomex_weights.proofs.percents.difference.Goals as goal
@@ -24,3 +25,9 @@ loop-place-preserved g c =
           c.weighted-sum.ensures.part c.loop-place.invariant.sum;
       bound = omega (arith, c.loop-place.invariant.bound, c.weighted-sum.ensures.few);
     }
+
+pub total-other-requires-clause-place : goal.total-other-requires-clause-place
+total-other-requires-clause-place = grind (arith, common_steps)
+
+pub total-own-requires-clause-place : goal.total-own-requires-clause-place
+total-own-requires-clause-place = grind (arith, common_steps)

@@ -1,5 +1,6 @@
 -- A place is added if its program is relevant.
-use Rattle.std.proofs.Common.{◌<◌, ◌∙◌, length, sym}
+use Rattle.std.proofs.Common.{◌<◌, ◌∙◌, length, sym, arith}
+use Rattle.std.proofs.lemmas.Grind.{common_steps}
 use Rattle.tomex_weights.specs.Programs.{is_relevant, relevant_programs_of}
 use Rattle.tomex_weights.proofs.Places.{place_added, place_left, place_within, places_found}
 use Rattle.tomex_weights.proofs.programs.relevant_programs.Goals as goal
@@ -34,3 +35,9 @@ returns-clause-places g c =
     places_found (is_relevant s) (length s.programs) c.loop-place.place
     (rw c.study.ensures at (rw c.programs-place-end.ensures.value at c.loop-place-test.false))
     c.loop-place.invariant.places
+
+pub returns-clause-within : goal.returns-clause-within
+returns-clause-within = grind (arith, common_steps)
+
+pub is_relevant-requires : goal.is_relevant-requires
+is_relevant-requires = grind (arith, common_steps)

@@ -1,5 +1,6 @@
 -- The entry of one row more.
-use Rattle.std.proofs.Common.{◌∙◌, ap}
+use Rattle.std.proofs.Common.{◌∙◌, ap, arith}
+use Rattle.std.proofs.lemmas.Grind.{common_steps}
 use Rattle.tomex_layout.specs.Table.{TableColumn}
 use Rattle.tomex_layout.proofs.Loops.{item_more}
 use Rattle.tomex_pareto.specs.declared.front_row.FrontRow.{FrontRow}
@@ -17,3 +18,6 @@ loop-row-preserved g c =
           c.loop-row.row-index none _ _ _ _ c.loop-row-test.true grown
           (c.in_ok-span_text.ensures ∙ ap span_text c.span_at-span.ensures) c.loop-row.invariant.entries;
     }
+
+pub span_at-span-requires-clause-row : goal.span_at-span-requires-clause-row
+span_at-span-requires-clause-row = grind (arith, common_steps)

@@ -1,0 +1,7 @@
+-- Closed at once: a search by rules takes long before it fails.
+use Rattle.std.proofs.Common.{arith}
+use Rattle.std.proofs.lemmas.Grind.{common_steps}
+use Rattle.tomex_compare.proofs.groups.entry_group.Goals as goal
+
+pub with_entry-requires : goal.with_entry-requires
+with_entry-requires = grind (arith, common_steps)

@@ -1,0 +1,7 @@
+-- Closed at once: a search by rules takes long before it fails.
+use Rattle.std.proofs.Common.{arith}
+use Rattle.std.proofs.lemmas.Grind.{common_steps}
+use Rattle.tomex_weights.proofs.records.push_span.Goals as goal
+
+pub returns : goal.returns
+returns = grind (arith, common_steps)

@@ -1,0 +1,10 @@
+-- Closed at once: a search by rules takes long before it fails.
+use Rattle.std.proofs.Common.{arith}
+use Rattle.std.proofs.lemmas.Grind.{common_steps}
+use Rattle.tomex_weights.proofs.table.all_text.Goals as goal
+
+pub returns-then-is_on : goal.returns-then-is_on
+returns-then-is_on = grind (arith, common_steps)
+
+pub returns-else-is_on : goal.returns-else-is_on
+returns-else-is_on = grind (arith, common_steps)
