@@ -1,5 +1,5 @@
-//! Tests of the recurrence: times, waits and needs of worked examples, floors and paths; of the loops of runs; and of
-//! what evaluates blocks once: what steps reserve, blocks, states, and the demands of runs by their blocks.
+//! Tests of the recurrence: times of worked examples, floors and paths; of the loops of runs; and of what evaluates
+//! blocks once: what steps reserve, blocks, states, and the demands of runs by their blocks.
 #![tactic(auto)]
 
 #[cfg(test)]
@@ -10,8 +10,6 @@ mod evaluations;
 mod floors;
 #[cfg(test)]
 mod loops;
-#[cfg(test)]
-mod needs;
 #[cfg(test)]
 mod paths;
 #[cfg(test)]
