@@ -4,7 +4,7 @@
 //! Both work on sets of numbers, a bit each: a machine's stations are numbered, and those that wait, are ready
 //! or are due in a cycle are a set of numbers. So a cycle's work grows with the members of a set,
 //! not with the number of stations. Sets of numbers below 64 are in `small`, others are of numbers below 128.
-//! Tests: tomex_tests_cycles.
+//! Tests: tomex_tests_timing.
 #![tactic(auto)]
 
 mod alone;

@@ -2,7 +2,7 @@
 //!
 //! Addresses are computed in program order. An access waits for the older ones that share a byte
 //! with it, if one of the two is a store; nothing is forwarded from a store to a load.
-//! Tests: tomex_tests_cycles.
+//! Tests: tomex_tests_timing.
 #![tactic(auto)]
 
 mod accesses;

@@ -7,7 +7,7 @@
 //! Sources: R. M. Tomasulo, "An Efficient Algorithm for Exploiting Multiple Arithmetic Units", 1967,
 //! and the chapter on Tomasulo's algorithm in Hennessy and Patterson's "Computer Architecture: A
 //! Quantitative Approach" (the fields Op, Vj, Vk, Qj, Qk, A and Qi).
-//! Tests: tomex_tests_cycles.
+//! Tests: tomex_tests_timing.
 #![tactic(auto)]
 
 mod broadcasting;

@@ -14,8 +14,6 @@ mod random;
 mod refusing;
 pub mod runs;
 pub mod studies;
-#[cfg(test)]
-mod tests;
 mod tries;
 
 pub use budget::Budget;

@@ -2,6 +2,5 @@
 //! and without memory.
 
 mod files;
-mod functions;
 mod refused_memory;
 mod shown_names;

@@ -1,49 +1,24 @@
-//! The demands of runs with loops, by their blocks and step by step.
+//! A run that is evaluated several times on a machine, from the third time on by its blocks.
 
 ghost use Rattle.std.specs.Prelude.{◌≡◌, ◌≤◌, length, IfOk};
 
-use crate::random_loops::{Body, random_loop, random_machine};
-use std::alloc::{AllocError, Global};
+use crate::programs::LOOP;
+use std::alloc::AllocError;
 use std::test::Fail;
 use tomex_config::Config;
-use tomex_evaluation::{Evaluator, demands_by_blocks};
-use tomex_repeats::Blocks;
+use tomex_evaluation::Evaluator;
 use tomex_rvexec::Step;
 use tomex_tests_fixtures::machines::one_unit_each;
-use tomex_tests_fixtures::{Attempt, Heap, Random, Try, refusals};
-use tomex_timing::{Demands, Run};
+use tomex_tests_fixtures::runs::run_of;
+use tomex_tests_fixtures::{Attempt, Heap, Try, refusals};
+use tomex_timing::Run;
 
-/// True if a run has the same demands both ways.
-fn is_same(alloc: Global, run: &Run, config: &Config) -> Result<bool, AllocError>
-    requires { length run.now ≤ 2000 }
-{
-    let blocks = Blocks::of(alloc, run.facts())?;
-    let by_blocks = demands_by_blocks(&alloc, run, &blocks, config)?;
-    Ok(by_blocks == run.demands(&alloc, config)?)
-}
-
-#[test]
-fn demands_by_blocks_are_those_by_steps(rt: HostRuntime) -> Result<(), Fail> {
-    let alloc = rt.alloc();
-    let mut random = Random::new(1);
-    for long in [1, 2, 3, 5, 8, 12, 15] {
-        for body in [Body::Mixed, Body::Straight] {
-            let run = random_loop(alloc, &mut random, body, long, 90)?;
-            for slowest in [1, 2, 4, 8, 20, 64] {
-                let config = random_machine(&mut random, slowest)?;
-                assert!(rt; is_same(alloc, &run, &config)?);
-            }
-        }
-    }
-    Ok(())
-}
-
-/// A run that is evaluated several times on a machine.
-#[derive(Drop)]
+/// A run that is evaluated on a machine, on which it takes these cycles.
+#[derive(Clone, Copy)]
 struct Evaluating<'a> {
     steps: &'a [Step],
     config: Config,
-    demands: Demands,
+    cycles: u64,
 }
 
 impl<'a> Evaluating<'a> {
@@ -56,7 +31,7 @@ impl<'a> Evaluating<'a> {
         Run::new(heap.clone()?, steps)
     }
 
-    /// True if its demands are right each time: it is cut into blocks after the second.
+    /// True if it takes the cycles each time.
     fn is_right(&self, heap: &Heap) -> Result<bool, AllocError> {
         let run = self.run_in(heap)?;
         if run.steps().len() > 2000 {
@@ -66,7 +41,7 @@ impl<'a> Evaluating<'a> {
         let mut is_right = true;
         for _ in 0..4 {
             let demands = evaluator.demands(heap, &self.config)?;
-            is_right = is_right && demands == self.demands;
+            is_right = is_right && demands.total == self.cycles;
         }
         Ok(is_right)
     }
@@ -78,18 +53,19 @@ impl<'a> Attempt for Evaluating<'a> {
     }
 }
 
+/// Latencies of the alu, and the cycles of the loop with them, by hand.
+static CYCLES: [(u8, u64); 2] = [(1, 2000), (10, 6500)];
+
 #[test]
-fn memory_is_refused(rt: HostRuntime) -> Result<(), Fail> {
-    let alloc = rt.alloc();
-    for latency in [1, 4] {
-        let config = one_unit_each([2; 6], [1, 3, 1, latency, 1], 1)?;
-        let run = random_loop(alloc, &mut Random::new(5), Body::Mixed, 6, 20)?;
+fn cycles_by_blocks_are_those_by_steps(rt: HostRuntime) -> Result<(), Fail> {
+    let run = run_of(rt.alloc(), &LOOP)?;
+    for (latency, cycles) in &CYCLES {
         let evaluating = Evaluating {
             steps: run.steps(),
-            config,
-            demands: run.demands(&alloc, &config)?,
+            config: one_unit_each([1; 6], [*latency, 1, 1, 1, 1], 1)?,
+            cycles: *cycles,
         };
-        assert!(rt; refusals(alloc, &evaluating)? > Some(0));
+        assert!(rt; refusals(rt.alloc(), &evaluating)? > Some(0));
     }
     Ok(())
 }

@@ -1,5 +1,5 @@
-//! Tests of the recurrence: times of worked examples, floors and paths; of the loops of runs; and of what evaluates
-//! blocks once: what steps reserve, blocks, states, and the demands of runs by their blocks.
+//! Tests of the recurrence and of the machine, by small programs: floors, paths, loops, blocks and what steps reserve,
+//! with each allocation refused in turn; needs and waits, by hand; the machine's cycles and faults.
 #![tactic(auto)]
 
 #[cfg(test)]
@@ -11,12 +11,14 @@ mod floors;
 #[cfg(test)]
 mod loops;
 #[cfg(test)]
+mod machine;
+#[cfg(test)]
+mod needs;
+#[cfg(test)]
 mod paths;
 #[cfg(test)]
-mod random_loops;
+mod programs;
+#[cfg(test)]
+mod refusing;
 #[cfg(test)]
 mod reservations;
-#[cfg(test)]
-mod states;
-#[cfg(test)]
-mod timings;

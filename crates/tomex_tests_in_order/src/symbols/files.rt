@@ -2,7 +2,7 @@
 
 use std::alloc::Global;
 use std::test::Fail;
-use tomex_symbols::{Binding, Kind, Symbol, name_of, symbols};
+use tomex_symbols::symbols;
 use tomex_tests_fixtures::programs::CALLS;
 
 /// The number of symbols in the file with these bytes, at their places, changed.
@@ -15,62 +15,6 @@ fn count_of(alloc: Global, changes: &[(usize, u8)]) -> Result<usize, Fail> {
         }
     }
     Ok(symbols(alloc, bytes.as_slice())?.len())
-}
-
-/// A function of the file.
-fn function(number: u32, address: u32, size: u32, binding: Binding, name: usize) -> Symbol {
-    Symbol {
-        number,
-        address,
-        size,
-        kind: Kind::Function,
-        binding,
-        name,
-        names_end: 146,
-    }
-}
-
-#[test]
-fn whole_file(rt: HostRuntime) -> Result<(), Fail> {
-    let found = symbols(rt.alloc(), CALLS.as_slice())?;
-    let known = [
-        function(1, 0x1000, 16, Binding::Global, 129),
-        function(2, 0x1010, 16, Binding::Global, 136),
-        function(3, 0x1020, 12, Binding::Other, 141),
-    ];
-    assert!(rt; found.as_slice() == known.as_slice());
-    Ok(())
-}
-
-#[test]
-fn names(rt: HostRuntime) -> Result<(), Fail> {
-    let bytes = CALLS.as_slice();
-    let start = function(1, 0x1000, 16, Binding::Global, 129);
-    assert!(rt; name_of(bytes, &start, 257) == b"_start".as_slice());
-    assert!(rt; name_of(bytes, &start, 6) == b"_start".as_slice());
-    assert!(rt; name_of(bytes, &start, 2) == b"_s".as_slice());
-    // names that overlap, that end where the names end, and of another file
-    assert!(rt; name_of(bytes, &Symbol { name: 131, ..start }, 257) == b"tart".as_slice());
-    assert!(rt;
-        name_of(
-            bytes,
-            &Symbol {
-                names_end: 132,
-                ..start
-            },
-            257
-        ) == b"_st".as_slice()
-    );
-    assert!(rt; name_of(&bytes[..130], &start, 257) == b"_".as_slice());
-    assert!(rt; name_of(&bytes[..84], &start, 257) == b"".as_slice());
-    Ok(())
-}
-
-#[test]
-fn flat_file(rt: HostRuntime) -> Result<(), Fail> {
-    assert!(rt; symbols(rt.alloc(), &CALLS.as_slice()[84..])?.is_empty());
-    assert!(rt; symbols(rt.alloc(), &[])?.is_empty());
-    Ok(())
 }
 
 #[test]

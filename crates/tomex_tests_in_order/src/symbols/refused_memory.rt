@@ -1,12 +1,30 @@
 //! Each growth of a call refused in turn: the call reports it, and with memory it gives the right
 //! answer.
 
-use crate::symbols::functions::numbers_at;
 use std::alloc::AllocError;
 use std::test::Fail;
-use tomex_symbols::symbols;
+use tomex_symbols::{functions_at, symbols};
 use tomex_tests_fixtures::programs::CALLS;
 use tomex_tests_fixtures::{Attempt, Heap, Try, refusals};
+
+/// The numbers of the functions of these addresses in a file, `None` if the addresses don't rise.
+fn numbers_at(
+    alloc: Heap,
+    bytes: &[u8],
+    addresses: &[u32],
+) -> Result<Vec<Option<u32>, Heap>, AllocError> {
+    let mut numbers = Vec::new(alloc.clone()?);
+    let table = symbols(alloc.clone()?, bytes)?;
+    if addresses.is_sorted() {
+        for function in &functions_at(alloc, table, addresses)? {
+            numbers.push(match function {
+                Some(symbol) => Some(symbol.number),
+                None => None,
+            })?;
+        }
+    }
+    Ok(numbers)
+}
 
 /// Reads the symbols.
 struct Reading;

@@ -1,4 +1,4 @@
-//! Runs of the machine, compared with worked examples, the in-order run and the recurrence.
+//! Runs of the machine, compared with worked examples.
 
 use std::alloc::{AllocError, Allocator, Global};
 use std::test::Fail;
@@ -9,11 +9,8 @@ use tomex_rvexec::End;
 use tomex_tests_fixtures::image_of;
 use tomex_tests_fixtures::machines::{PLAIN, config_of, unit};
 use tomex_tests_fixtures::programs::{LOOP_WORDS, PRODUCT_WORDS};
-use tomex_timing::Tables;
 
 mod faults;
-mod random;
-mod tables;
 
 /// The image of a program at address 0.
 fn image_at_0(rt: &HostRuntime, words: &[u32]) -> Result<Image, Fail> {
@@ -61,10 +58,6 @@ fn worked<A: Allocator>(machine: &Machine<A>) -> u64 {
     machine.worked()
 }
 
-fn tables_of<A: Allocator>(machine: &Machine<A>) -> Tables {
-    machine.tables()
-}
-
 /// True if the run ends by this cycle.
 fn ends_by<A: Allocator>(machine: &mut Machine<A>, to: u32) -> bool {
     matches!(machine.advance(u64::from(to)), Progress::Ended)
@@ -87,10 +80,6 @@ fn run_to<A: Allocator>(machine: &mut Machine<A>, total: u32) -> Result<(), Fail
     }
     let first = ends_at(machine, total);
     holds(first && ends_at(machine, total), "not ended at the total")
-}
-
-fn has_ended<A: Allocator>(machine: &Machine<A>) -> bool {
-    machine.ended()
 }
 
 fn end_of<A: Allocator>(machine: Machine<A>) -> Result<End<A>, Fail> {
@@ -224,5 +213,25 @@ fn a_long_wait_is_skipped(rt: HostRuntime) -> Result<(), Fail> {
     let image = image_at_0(&rt, WAITED_FOR.as_slice())?;
     let mut machine = machine_of(&rt, &image, &config)?;
     assert!(rt; is_skipped(&mut machine));
+    Ok(())
+}
+
+/// True if the run continues through a million ticks and one.
+fn continues<A: Allocator>(machine: &mut Machine<A>) -> bool {
+    for _ in 0..1000001 {
+        if !matches!(tick(machine), Progress::Running) {
+            return false;
+        }
+    }
+    cycle_of(machine) == 1000001
+}
+
+/// No machine can know this run in advance: `jal x0,0` has no end.
+#[test]
+fn a_jump_to_itself_runs_on(rt: HostRuntime) -> Result<(), Fail> {
+    let config = machine_config([1; 6], [1; 4], 1)?;
+    let image = image_at_0(&rt, &[0x0000006f])?;
+    let mut machine = machine_of(&rt, &image, &config)?;
+    assert!(rt; continues(&mut machine));
     Ok(())
 }

@@ -1,6 +1,6 @@
-use crate::{Budget, Refusing};
 use std::alloc::{Allocator, Global};
 use std::test::Fail;
+use tomex_tests_fixtures::{Budget, Refusing};
 
 /// The number of blocks that a list was granted, its first and one for each growth, until one was
 /// refused.

@@ -1,4 +1,4 @@
-//! The needs of small runs, compared with tables that were made by hand from the rules.
+//! The needs and waits of a small run, compared with tables that were made by hand from the rules.
 
 use std::alloc::{AllocError, Global};
 use std::test::Fail;
@@ -8,7 +8,7 @@ use tomex_tests_fixtures::machines::one_unit_each;
 use tomex_tests_fixtures::programs::PRODUCT_WORDS;
 use tomex_tests_fixtures::{Attempt, Heap, Try, image_of, refusals};
 use tomex_timing::evaluate::{needs, waits};
-use tomex_timing::{Need, Needs, Waits};
+use tomex_timing::{Needs, Waits};
 
 /// The trace of a program at address 0.
 fn trace_of(alloc: Global, words: &[u32]) -> Result<Vec<Step>, Fail> {
@@ -101,123 +101,6 @@ fn lacks(
     Ok(are_needs(&needs, config, table, rest) && are_waits(waits.as_slice(), waited))
 }
 
-static PRODUCT_NEEDS: Table = [
-    (2, 2, 0),
-    (1, 1, 0),
-    (1, 0, 0),
-    (1, 0, 0),
-    (1, 0, 0),
-    (1, 0, 0),
-    (1, 1, 0),
-    (1, 1, 0),
-    (1, 0, 0),
-    (1, 0, 0),
-    (1, 0, 0),
-    (1, 1, 0),
-    (1, 1, 3),
-];
-
-static PRODUCT_WAITS: [[u64; 8]; 4] = [
-    [0, 0, 0, 0, 0, 0, 0, 0],
-    [0, 1, 0, 0, 0, 0, 0, 0],
-    [0, 1, 0, 1, 0, 0, 0, 0],
-    [0, 1, 0, 0, 0, 0, 0, 0],
-];
-
-#[test]
-fn a_product_waits_for_its_last_factor(rt: HostRuntime) -> Result<(), Fail> {
-    let config = one_unit_each([2, 1, 1, 1, 1, 1], [1, 3, 1, 1, 1], 1)?;
-    let (needs, waits) = (&PRODUCT_NEEDS, &PRODUCT_WAITS);
-    assert!(rt;
-        lacks(
-            rt.alloc(),
-            &PRODUCT_WORDS,
-            &config,
-            needs,
-            &[0, 1, 0, 0, 4, 8],
-            waits
-        )?
-    );
-    Ok(())
-}
-
-/// `addi x8,x0,256; addi x1,x0,768; mul x3,x1,x1; sw x1,0(x8); lb x2,1(x8); add x4,x3,x2; ebreak`
-static FOLLOWED: [u32; 7] = [
-    0x10000413, 0x30000093, 0x021081b3, 0x00142023, 0x00140103, 0x00218233, 0x00100073,
-];
-
-static FOLLOWED_NEEDS: Table = [
-    (2, 2, 0),
-    (1, 1, 0),
-    (1, 0, 0),
-    (1, 1, 0),
-    (1, 1, 0),
-    (1, 0, 0),
-    (1, 1, 0),
-    (1, 1, 0),
-    (1, 0, 0),
-    (1, 1, 0),
-    (1, 0, 0),
-    (1, 1, 1),
-    (1, 1, 6),
-];
-
-static FOLLOWED_WAITS: [[u64; 8]; 7] = [
-    [0, 0, 0, 0, 0, 0, 0, 0],
-    [0, 1, 0, 0, 0, 0, 0, 0],
-    [0, 1, 0, 1, 0, 0, 0, 0],
-    [0, 1, 0, 0, 1, 0, 0, 0],
-    [0, 1, 0, 0, 1, 1, 0, 1],
-    [0, 1, 0, 5, 0, 0, 0, 0],
-    [0, 1, 0, 0, 0, 0, 0, 0],
-];
-
-#[test]
-fn the_followed_program_waits_for_its_load(rt: HostRuntime) -> Result<(), Fail> {
-    let config = one_unit_each([2, 1, 1, 1, 1, 1], [1, 5, 1, 2, 1], 1)?;
-    let (needs, waits) = (&FOLLOWED_NEEDS, &FOLLOWED_WAITS);
-    assert!(rt;
-        lacks(
-            rt.alloc(),
-            &FOLLOWED,
-            &config,
-            needs,
-            &[0, 6, 2, 1, 6, 13],
-            waits
-        )?
-    );
-    Ok(())
-}
-
-/// `mul x3,x3,x0; add x4,x0,x4; sw x4,264(x0); lw x4,256(x0); ebreak`
-static STORE_BEFORE_LOAD: [u32; 5] = [0x020181b3, 0x00400233, 0x10402423, 0x10002203, 0x00100073];
-
-/// True if a run has this total and these waits for operands, with these needs of the bus and of
-/// the memory's units.
-fn are_shared(needs: &Needs, total: u64, operand: u64, buses: [u64; 2], units: [u64; 2]) -> bool {
-    let need = |[peak, stalls]: [u64; 2]| Need { peak, stalls };
-    needs.total == total
-        && needs.operand == operand
-        && needs.buses == need(buses)
-        && needs.need(Part::ALL[9]) == need(units)
-}
-
-#[test]
-fn a_second_bus_may_cost_a_cycle(rt: HostRuntime) -> Result<(), Fail> {
-    let one_bus = one_unit_each([1; 6], [2, 3, 1, 2, 1], 1)?;
-    let two_buses = one_unit_each([1; 6], [2, 3, 1, 2, 1], 2)?;
-    let one = needs_of(rt.alloc(), &STORE_BEFORE_LOAD, &one_bus)?;
-    let two = needs_of(rt.alloc(), &STORE_BEFORE_LOAD, &two_buses)?;
-    // The sum waits for the bus, so the store takes the unit after the load.
-    assert!(rt; are_shared(&one, 8, 3, [1, 1], [1, 0]));
-    // With two buses it takes the unit before the load, which waits for it.
-    assert!(rt; are_shared(&two, 9, 2, [2, 0], [1, 1]));
-    // The needs on either configuration say that the other may have other times.
-    assert!(rt; !one.suffice(&one_bus, &two_buses));
-    assert!(rt; !two.suffice(&two_buses, &one_bus));
-    Ok(())
-}
-
 /// `addi x8,x0,256; mul x3,x8,x8; mul x5,x8,x8; sw x8,0(x8); lb x2,1(x8); addi x1,x2,0; addi x6,x0,0;`
 /// `bne x0,x0,8; mul x9,x0,x0; addi x10,x0,0; ebreak`
 static EACH_CAUSE: [u32; 11] = [
@@ -269,37 +152,6 @@ fn each_cause_is_charged(rt: HostRuntime) -> Result<(), Fail> {
             waits
         )?
     );
-    Ok(())
-}
-
-/// True if a part isn't needed at all.
-fn is_idle(needs: &Needs, part: Part) -> bool {
-    needs.need(part) == Need { peak: 0, stalls: 0 }
-}
-
-#[test]
-fn parts_without_stalls_may_be_fewer(rt: HostRuntime) -> Result<(), Fail> {
-    let large = one_unit_each([16; 6], [1, 5, 1, 2, 1], 8)?;
-    let enough = one_unit_each([2, 1, 1, 1, 1, 1], [1, 5, 1, 2, 1], 2)?;
-    let fewer = one_unit_each([1, 1, 1, 1, 1, 1], [1, 5, 1, 2, 1], 2)?;
-    let needs = needs_of(rt.alloc(), &FOLLOWED, &large)?;
-    // A program that doesn't divide takes no div station and no div unit.
-    assert!(rt; is_idle(&needs, Part::ALL[2]));
-    assert!(rt; is_idle(&needs, Part::ALL[8]));
-    // Its peaks are enough, and one alu station less isn't.
-    assert!(rt; needs.suffice(&large, &enough));
-    assert!(rt; !needs.suffice(&large, &fewer));
-    Ok(())
-}
-
-#[test]
-fn no_steps_lack_nothing(rt: HostRuntime) -> Result<(), Fail> {
-    let config = one_unit_each([1; 6], [1; 5], 1)?;
-    let none: Vec<Step> = Vec::new(rt.alloc());
-    let needs = needs(rt.alloc(), none.as_slice(), &config)?;
-    assert!(rt; needs.total == 0 && needs.drain() == 0);
-    let waits = waits(rt.alloc(), none.as_slice(), &config)?;
-    assert!(rt; waits.is_empty());
     Ok(())
 }
 
