@@ -6,7 +6,7 @@ ghost use Rattle.tomex_animate.specs.declared.animation_error.AnimationError.The
 use std::alloc::{AllocError, AllocFailed};
 
 /// Why a run has no page of some cycles.
-#[derive(Clone, Copy, Debug, Drop, PartialEq, Eq)]
+#[derive(Clone, Copy, Drop, PartialEq, Eq)]
 pub enum AnimationError {
     /// The run ends before the first of them.
     PastEnd,

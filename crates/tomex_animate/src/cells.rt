@@ -7,7 +7,7 @@ use crate::constants::{animate_css, animate_help, blank_css, blank_help};
 use std::alloc::{AllocError, Global};
 
 /// Whether the cells of a page's views are full.
-#[derive(Clone, Copy, Debug, PartialEq, Eq)]
+#[derive(Clone, Copy, PartialEq, Eq)]
 pub enum Cells {
     /// They have what the machine shows after the cycle.
     Filled,

@@ -1,7 +1,7 @@
 //! Marks of rows.
 
 /// The state of a row on a board.
-#[derive(Clone, Copy, Debug, PartialEq, Eq)]
+#[derive(Clone, Copy, PartialEq, Eq)]
 pub enum Mark {
     /// No seat has claimed it.
     Open,

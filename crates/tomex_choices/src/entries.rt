@@ -15,14 +15,14 @@ use tomex_config::{Config, Part, UnitOption, same_entry, with_count};
 use tomex_rvdec::UnitId;
 
 /// The most units that an option of a latency has, and the least price of such an option.
-#[derive(Clone, Copy, Debug, PartialEq, Eq)]
+#[derive(Clone, Copy, PartialEq, Eq)]
 pub(crate) struct MostUnits {
     pub units: u8,
     pub price: u32,
 }
 
 /// The entries of a study's rows in the list at a place.
-#[derive(Clone, Debug, Drop)]
+#[derive(Clone, Drop)]
 pub(crate) struct Entries<'s> {
     rows: &'s [Config],
     place: usize,

@@ -9,7 +9,7 @@ use std::alloc::{AllocError, Allocator};
 use tomex_config::Part;
 
 /// What was found of a list on some rows.
-#[derive(Debug, Drop)]
+#[derive(Drop)]
 pub(crate) struct ListFound<A: Allocator> {
     pub machines: Vec<NewMachine, A>,
     /// The greatest number with which some program takes other cycles than with the most, or 0.
@@ -17,7 +17,7 @@ pub(crate) struct ListFound<A: Allocator> {
 }
 
 /// What was found on some rows: the programs' totals on each, and what was found of each list.
-#[derive(Debug, Drop)]
+#[derive(Drop)]
 pub(crate) struct Found<A: Allocator> {
     pub totals: Vec<[u64; 8], A>,
     pub lists: Vec<ListFound<A>, A>,

@@ -1,7 +1,7 @@
 //! New machines of a list.
 
 /// A machine that a study lacks: a row's with another choice in one list.
-#[derive(Clone, Copy, Debug, Drop, PartialEq, Eq)]
+#[derive(Clone, Copy, Drop, PartialEq, Eq)]
 pub struct NewMachine {
     /// How many of the list's part it has.
     pub number: u8,

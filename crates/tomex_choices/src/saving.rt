@@ -11,7 +11,7 @@ use tomex_pareto::FrontRow;
 use tomex_survey::lesser;
 
 /// The fewest cycles that a cost buys: of a study's rows, and fewer of those with the new machines of a list.
-#[derive(Clone, Copy, Debug, Drop, PartialEq, Eq)]
+#[derive(Clone, Copy, Drop, PartialEq, Eq)]
 pub struct Saving {
     pub cost: u64,
     pub now: u64,

@@ -28,7 +28,7 @@ use tomex_study::{Gate, Study, Surveyed};
 use tomex_survey::{Floors, floors_of, surveyed};
 
 /// What a list lacks.
-#[derive(Debug, Drop)]
+#[derive(Drop)]
 pub(crate) struct WeighedList<A: Allocator> {
     /// The new machines that are of use.
     pub useful: Vec<NewMachine, A>,
@@ -38,7 +38,7 @@ pub(crate) struct WeighedList<A: Allocator> {
 
 /// A study with its survey, what each of its lists lacks, and its floors. Contracts see it as the study, since all the
 /// rest is determined by that.
-#[derive(Debug, Drop)]
+#[derive(Drop)]
 pub struct WeighedChoices<'s, A: Allocator = Global> {
     surveyed: Surveyed<'s, A>,
     lists: Vec<WeighedList<A>, A>,

@@ -4,7 +4,7 @@ ghost use Rattle.std.specs.Prelude.{◌≡◌};
 ghost use Rattle.tomex_choices_table.specs.ChoicesTable.{name_under};
 
 /// A column's heading: which property of a list it shows.
-#[derive(Clone, Copy, Debug, PartialEq, Eq)]
+#[derive(Clone, Copy, PartialEq, Eq)]
 pub(crate) enum Heading {
     List,
     /// The choices on the front, and the others.

@@ -22,7 +22,7 @@ use tomex_sweep::SweepError;
 use tomex_views::ViewError;
 
 /// Why a command was not done. Reported after `tomex: ` on the standard error.
-#[derive(Debug, Drop)]
+#[derive(Drop)]
 pub enum Failure {
     /// Base and size are no window.
     BadWindow,

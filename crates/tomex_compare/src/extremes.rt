@@ -9,7 +9,7 @@ use std::alloc::Allocator;
 use tomex_study::Surveyed;
 
 /// A row, with the cycles of a build on it.
-#[derive(Clone, Copy, Debug, PartialEq, Eq)]
+#[derive(Clone, Copy, PartialEq, Eq)]
 pub struct RowCycles {
     pub row: usize,
     pub cycles: u64,

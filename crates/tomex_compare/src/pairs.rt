@@ -10,7 +10,7 @@ use std::cmp::Ordering;
 use tomex_study::Surveyed;
 
 /// A row, with the cycles that the old build and the new one take on it.
-#[derive(Clone, Copy, Debug, PartialEq, Eq)]
+#[derive(Clone, Copy, PartialEq, Eq)]
 pub struct Pair {
     pub row: usize,
     pub old: u64,

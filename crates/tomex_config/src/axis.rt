@@ -13,7 +13,7 @@ use std::alloc::{Allocator, Global};
 /// A list of values for each part of a configuration: the stations of the six pools, the options
 /// for the five kinds of unit, the buses, and the issue width. The values may be out of the limits,
 /// and a value may occur twice.
-#[derive(Debug, Drop)]
+#[derive(Drop)]
 pub struct Axes<A: Allocator = Global> {
     pub alu: Vec<u8, A>,
     pub mul: Vec<u8, A>,

@@ -11,7 +11,7 @@ use tomex_rvdec::{PoolId, UnitId};
 
 /// A choice for one kind of functional unit: how many there are, the cycles that each takes for an
 /// operation, and the cost of the whole choice. It may be out of a configuration's limits.
-#[derive(Clone, Copy, Debug, PartialEq, Eq)]
+#[derive(Clone, Copy, PartialEq, Eq)]
 pub struct UnitOption {
     pub units: u8,
     pub latency: u8,
@@ -28,7 +28,7 @@ pub fn same_option(a: UnitOption, b: UnitOption) -> bool
 /// A configuration within the limits: 1 to 16 reservation stations in each pool, 1 to 8 units of
 /// each kind but only one branch unit, latencies of 1 to 64 cycles, 1 to 8 common data buses, and
 /// an issue width of 1 to 4.
-#[derive(Clone, Copy, Debug, PartialEq, Eq)]
+#[derive(Clone, Copy, PartialEq, Eq)]
 pub struct Config {
     stations: [u8; 6],
     units: [UnitOption; 5],

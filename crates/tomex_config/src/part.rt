@@ -9,7 +9,7 @@ use tomex_rvdec::{PoolId, UnitId};
 
 /// A part of a machine whose count a configuration gives: the stations of a pool, the units of a kind, the common data
 /// buses, and how many instructions issue in a cycle.
-#[derive(Clone, Copy, Debug, PartialEq, Eq)]
+#[derive(Clone, Copy, PartialEq, Eq)]
 pub enum Part {
     Stations(PoolId),
     Units(UnitId),

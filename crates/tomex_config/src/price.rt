@@ -11,7 +11,7 @@ use tomex_rvdec::{PoolId, UnitId};
 
 /// The price of one reservation station of each pool, of one common data bus, and of each
 /// instruction that may issue in a cycle: 0 to 1,000,000 each.
-#[derive(Clone, Copy, Debug, PartialEq, Eq)]
+#[derive(Clone, Copy, PartialEq, Eq)]
 pub struct Prices {
     stations: [u32; 6],
     bus: u32,

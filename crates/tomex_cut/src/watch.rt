@@ -7,7 +7,7 @@ pub trait Watch {
 }
 
 /// Nobody.
-#[derive(Clone, Copy, Debug)]
+#[derive(Clone, Copy)]
 pub struct NoWatch;
 
 impl Watch for NoWatch {

@@ -4,7 +4,7 @@
 //! state is met again; then states are looked for ever more seldom.
 
 /// The credit of an evaluation: blocks from the table earn some, and blocks that are evaluated cost some.
-#[derive(Clone, Copy, Debug)]
+#[derive(Clone, Copy)]
 pub(crate) struct Credit {
     left: u64,
     /// The number of blocks during which no states are looked for.

@@ -28,7 +28,7 @@ pub(crate) struct Task<'r, A: Allocator> {
 }
 
 /// In which state the run is.
-#[derive(Clone, Copy, Debug)]
+#[derive(Clone, Copy)]
 pub(crate) enum Standing {
     /// In the evaluator's. It may look like a kept one, which has this number.
     Evaluated(Option<usize>),

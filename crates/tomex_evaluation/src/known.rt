@@ -15,7 +15,7 @@ use tomex_states::State;
 const MOST: usize = 32;
 
 /// What follows a kept state and a block.
-#[derive(Clone, Copy, Debug)]
+#[derive(Clone, Copy)]
 pub(crate) struct Next {
     /// The number of the state after the block.
     pub state: usize,

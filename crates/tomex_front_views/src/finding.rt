@@ -9,7 +9,7 @@ use std::alloc::{AllocError, Allocator, Global};
 use tomex_study::Study;
 
 /// Why there is no table.
-#[derive(Debug, Drop)]
+#[derive(Drop)]
 pub enum FindError {
     /// No row has this choice; it is the first such one. Carries it as written.
     NoSuchChoice(String),

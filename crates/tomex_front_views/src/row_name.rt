@@ -18,7 +18,7 @@ pub enum RowName<'a> {
 }
 
 /// Why a name is that of no configuration.
-#[derive(Debug, Drop)]
+#[derive(Drop)]
 pub enum RowError {
     /// No row has this choice; it is the first such one. Carries it as written.
     NoSuchChoice(String),

@@ -6,7 +6,7 @@ ghost use Rattle.tomex_functions.specs.declared.functions_error.FunctionsError.T
 use std::alloc::{AllocError, AllocFailed};
 
 /// Why the functions of a run aren't reported.
-#[derive(Clone, Copy, Debug, Drop, PartialEq, Eq)]
+#[derive(Clone, Copy, Drop, PartialEq, Eq)]
 pub enum FunctionsError {
     /// The program's file has no symbol that names code.
     NoSymbols,

@@ -8,7 +8,7 @@ use std::marker::Model;
 
 /// A program in the memory of its window, before it runs: a byte of memory for each byte of the
 /// window, and the address of the first instruction, a word of the window.
-#[derive(Debug, Drop)]
+#[derive(Drop)]
 pub struct Image<A: Allocator = Global> {
     window: Window,
     memory: Vec<u8, A>,

@@ -9,7 +9,7 @@ const MOST_BYTES: u32 = 1_048_576;
 
 /// A window of memory: the bytes from `base` to `base + size`, exclusive. Both are multiples of 4,
 /// the size is 4 to 1,048,576 bytes, and the end is at most 2^32.
-#[derive(Clone, Copy, Debug, PartialEq, Eq)]
+#[derive(Clone, Copy, PartialEq, Eq)]
 pub struct Window {
     base: u32,
     size: u32,

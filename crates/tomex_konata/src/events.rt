@@ -10,7 +10,7 @@ use std::alloc::{AllocError, Allocator};
 use tomex_timing::Times;
 
 /// The kind of an event.
-#[derive(Clone, Copy, Debug, PartialEq, Eq)]
+#[derive(Clone, Copy, PartialEq, Eq)]
 pub enum Kind {
     /// It issues, begins a stage or gets an operand.
     Change,

@@ -14,7 +14,7 @@ use tomex_rvdec::Op;
 use tomex_rvexec::Step;
 
 /// How a run goes from one step to the next.
-#[derive(Clone, Copy, Debug, PartialEq, Eq)]
+#[derive(Clone, Copy, PartialEq, Eq)]
 pub enum Move {
     /// In the same call.
     On,
@@ -25,7 +25,7 @@ pub enum Move {
 }
 
 /// How a run reaches a step.
-#[derive(Clone, Copy, Debug, PartialEq, Eq)]
+#[derive(Clone, Copy, PartialEq, Eq)]
 pub struct Coming {
     pub by: Move,
     /// The number of the first step at the same address, counted from 0.

@@ -1,7 +1,7 @@
 //! Visits of loops, and their rounds.
 
 /// A visit of a loop.
-#[derive(Clone, Copy, Debug, PartialEq, Eq)]
+#[derive(Clone, Copy, PartialEq, Eq)]
 pub struct Visit {
     /// The head of its loop: the number of the first step there.
     pub head: u32,
@@ -16,7 +16,7 @@ pub struct Visit {
 }
 
 /// A visit that isn't over.
-#[derive(Clone, Copy, Debug, PartialEq, Eq)]
+#[derive(Clone, Copy, PartialEq, Eq)]
 pub struct Open {
     /// Its number.
     pub visit: u32,
@@ -27,7 +27,7 @@ pub struct Open {
 }
 
 /// A round: an iteration of a visit that another one follows in the same visit.
-#[derive(Clone, Copy, Debug, PartialEq, Eq)]
+#[derive(Clone, Copy, PartialEq, Eq)]
 pub struct Round {
     /// The number of the visit.
     pub visit: u32,

@@ -1,7 +1,7 @@
 //! Rows with their costs and cycles.
 
 /// A row of the front.
-#[derive(Clone, Copy, Debug, PartialEq, Eq)]
+#[derive(Clone, Copy, PartialEq, Eq)]
 pub struct FrontRow {
     /// Its number, from 0.
     pub row: usize,

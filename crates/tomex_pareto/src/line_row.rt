@@ -2,7 +2,7 @@
 
 /// A row with one measure, its cost or its cycles, as a line in a value that varies: `rest`, plus the value as often as
 /// `times` says.
-#[derive(Clone, Copy, Debug, PartialEq, Eq)]
+#[derive(Clone, Copy, PartialEq, Eq)]
 pub struct LineRow {
     /// Its number, from 0.
     pub row: usize,

@@ -7,7 +7,7 @@ ghost use Rattle.tomex_pareto.specs.Spans.{settled, span, stays};
 use crate::line_row::LineRow;
 
 /// The values from `first` to the one before `end`.
-#[derive(Clone, Copy, Debug, PartialEq, Eq)]
+#[derive(Clone, Copy, PartialEq, Eq)]
 pub struct ValueSpan {
     pub first: u64,
     pub end: u64,

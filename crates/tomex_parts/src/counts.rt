@@ -8,7 +8,7 @@ use std::alloc::{AllocError, Allocator};
 use tomex_image::Window;
 
 /// A word of the window, and the number of a stretch's steps that are at it.
-#[derive(Clone, Copy, Debug, PartialEq, Eq)]
+#[derive(Clone, Copy, PartialEq, Eq)]
 pub(crate) struct Entry {
     pub(crate) word: u32,
     pub(crate) count: u32,

@@ -10,7 +10,7 @@ use crate::stretches::Stretches;
 use std::alloc::{AllocError, Allocator};
 
 /// A leader, by the number of its stretch, the first being 0, and the distance of a stretch from it.
-#[derive(Clone, Copy, Debug, PartialEq, Eq)]
+#[derive(Clone, Copy, PartialEq, Eq)]
 pub(crate) struct Near {
     pub(crate) leader: u32,
     pub(crate) distance: u64,

@@ -6,7 +6,7 @@ ghost use Rattle.tomex_parts.specs.Parts.{heavier, heaviest, weight};
 ghost use Rattle.tomex_parts.specs.Stretches.{most_stretches};
 
 /// A part by the number of its first step, its steps, and the number of stretches for which it stands.
-#[derive(Clone, Copy, Debug, PartialEq, Eq)]
+#[derive(Clone, Copy, PartialEq, Eq)]
 pub(crate) struct Share {
     pub(crate) from: u64,
     pub(crate) steps: u32,

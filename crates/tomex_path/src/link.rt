@@ -13,7 +13,7 @@ use crate::reason::Reason;
 use tomex_rvdec::UnitId;
 
 /// A step on a path, with the cycles of the run that are its own.
-#[derive(Clone, Copy, Debug, PartialEq, Eq)]
+#[derive(Clone, Copy, PartialEq, Eq)]
 pub struct Link {
     /// The step's number in the run, from 1.
     pub step: u64,

@@ -7,7 +7,7 @@ use crate::note::Seen;
 use tomex_config::Part;
 
 /// What a step waited for last, before the first cycle of its link; `Order` if for nothing, except its turn.
-#[derive(Clone, Copy, Debug, PartialEq, Eq)]
+#[derive(Clone, Copy, PartialEq, Eq)]
 pub enum Reason {
     For(Part),
     Branch,

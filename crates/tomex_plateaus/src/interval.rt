@@ -6,7 +6,7 @@ ghost use Rattle.tomex_plateaus.specs.Plateaus.{is_within, counts_for, latencies
 use tomex_timing::Demand;
 
 /// The numbers from `least` to `most`.
-#[derive(Clone, Copy, Debug, PartialEq, Eq)]
+#[derive(Clone, Copy, PartialEq, Eq)]
 pub struct Interval {
     pub least: u8,
     pub most: u8,

@@ -15,7 +15,7 @@ const STRIDE: u64 = 1024;
 
 /// A row whose programs' totals are known. So nothing happens between two of its looks, and they
 /// differ only in the cycles that the row has made, which are the most at the last one.
-#[derive(Clone, Copy, Debug, PartialEq, Eq)]
+#[derive(Clone, Copy, PartialEq, Eq)]
 pub struct KnownRow {
     /// Its cycles: the weighted sum of its programs' cycles.
     pub cycles: u64,

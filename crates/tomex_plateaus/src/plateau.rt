@@ -11,7 +11,7 @@ use tomex_timing::Demands;
 
 /// A region of the design space, given by the counts of each part and the latencies of each kind of
 /// unit, and the cycles that a program takes on every configuration of it.
-#[derive(Clone, Copy, Debug, PartialEq, Eq)]
+#[derive(Clone, Copy, PartialEq, Eq)]
 pub struct Plateau {
     /// In the order of `PoolId::ALL` and of `UnitId::ALL`.
     pub stations: [Interval; 6],

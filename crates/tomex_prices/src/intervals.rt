@@ -17,7 +17,7 @@ use tomex_pareto::{FrontRow, LineRow, ValueSpan, span};
 use tomex_study::Study;
 
 /// The prices from `least` to `most`.
-#[derive(Clone, Copy, Debug, PartialEq, Eq)]
+#[derive(Clone, Copy, PartialEq, Eq)]
 pub struct PriceRange {
     pub least: u64,
     pub most: u64,

@@ -12,7 +12,7 @@ pub const GREATEST_PRICE: u64 = 1_000_000;
 
 /// A price of a study: that of a station of a pool, of an option for a kind of unit, of a bus, or of the width, for
 /// each instruction that may issue in a cycle.
-#[derive(Clone, Copy, Debug, PartialEq, Eq)]
+#[derive(Clone, Copy, PartialEq, Eq)]
 pub enum Price {
     Station(PoolId),
     Choice(UnitId, UnitOption),

@@ -12,7 +12,7 @@ use tomex_timing::Facts;
 
 /// A block: the steps of a run from the step with number `first` on, counted from 0, and before the one with number
 /// `end`.
-#[derive(Clone, Copy, Debug, PartialEq, Eq)]
+#[derive(Clone, Copy, PartialEq, Eq)]
 pub struct Block {
     pub first: u32,
     pub end: u32,
@@ -23,7 +23,7 @@ pub struct Block {
 
 /// The blocks of a run, in program order. Each goes up to and with the next conditional branch or JALR, and has at most
 /// 60 steps.
-#[derive(Debug, Drop)]
+#[derive(Drop)]
 pub struct Blocks<A: Allocator = Global> {
     blocks: Vec<Block, A>,
     different: u32,

@@ -6,7 +6,7 @@ ghost use Rattle.tomex_run_views.specs.declared.excerpt_error.ExcerptError.TheVa
 use std::alloc::{AllocError, AllocFailed};
 
 /// Why an excerpt of a run can't be made.
-#[derive(Clone, Copy, Debug, Drop, PartialEq, Eq)]
+#[derive(Clone, Copy, Drop, PartialEq, Eq)]
 pub enum ExcerptError {
     /// The run ends before the first of them.
     NoSuchStep,

@@ -8,7 +8,7 @@ use crate::excerpt_error::ExcerptError;
 use std::alloc::{AllocError, AllocFailed};
 
 /// Why steps of a run have no picture.
-#[derive(Clone, Copy, Debug, Drop, PartialEq, Eq)]
+#[derive(Clone, Copy, Drop, PartialEq, Eq)]
 pub enum PictureError {
     /// The run ends before the first of them.
     NoSuchStep,

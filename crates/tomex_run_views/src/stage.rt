@@ -7,7 +7,7 @@ ghost use Rattle.tomex_run_views.specs.Chart.{sign_in, sign_of, stage_in};
 use tomex_timing::Times;
 
 /// The activity of a step in a cycle, from its issue to its end.
-#[derive(Clone, Copy, Debug, PartialEq, Eq)]
+#[derive(Clone, Copy, PartialEq, Eq)]
 pub enum Stage {
     Issue,
     /// A load or store computes its address.

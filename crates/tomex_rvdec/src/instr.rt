@@ -11,7 +11,7 @@ use std::marker::Model;
 ///
 /// Registers are numbers from 0 to 31. The immediate is kept modulo 2^32, its sign extended; it
 /// also holds a shift's amount and FENCE's 12 bits. Fields that the operation doesn't use are zero.
-#[derive(Clone, Copy, Debug, PartialEq, Eq)]
+#[derive(Clone, Copy, PartialEq, Eq)]
 pub struct Instr {
     pub(crate) op: Op,
     pub(crate) rd: u8,
@@ -35,7 +35,7 @@ impl Model for Instr {
 
 /// The registers that an instruction reads. `j` is rs1 and `k` is rs2, as the reservation
 /// stations' fields Qj and Qk name them; x0 is read like any other.
-#[derive(Clone, Copy, Debug, PartialEq, Eq)]
+#[derive(Clone, Copy, PartialEq, Eq)]
 pub struct Sources {
     pub j: Option<u8>,
     pub k: Option<u8>,

@@ -5,7 +5,7 @@ ghost use Rattle.tomex_rvdec.specs.Meaning.{form_of};
 ghost use Rattle.tomex_rvdec.specs.Text.{name_of};
 
 /// An operation of RV32IM, named as the manual's assembler names it.
-#[derive(Clone, Copy, Debug, PartialEq, Eq)]
+#[derive(Clone, Copy, PartialEq, Eq)]
 pub enum Op {
     Lui,
     Auipc,
@@ -59,7 +59,7 @@ pub enum Op {
 
 /// The forms in which words hold operands: the manual's instruction formats, with the I format
 /// split by what its immediate means.
-#[derive(Clone, Copy, Debug, PartialEq, Eq)]
+#[derive(Clone, Copy, PartialEq, Eq)]
 pub enum Form {
     /// The R format: two source registers.
     Register,

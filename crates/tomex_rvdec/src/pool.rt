@@ -8,7 +8,7 @@ use std::fmt;
 
 /// A pool of reservation stations. The load and store pools are the machine's
 /// load and store buffers.
-#[derive(Clone, Copy, Debug, PartialEq, Eq)]
+#[derive(Clone, Copy, PartialEq, Eq)]
 pub enum PoolId {
     Alu,
     Mul,

@@ -6,14 +6,14 @@ ghost use Rattle.tomex_rvexec.specs.Steps.{access_size, bytes_at, shares_byte};
 use tomex_rvdec::{Instr, Op, PoolId, UnitId};
 
 /// A source register that an instruction reads, with its value at that step.
-#[derive(Clone, Copy, Debug, PartialEq, Eq)]
+#[derive(Clone, Copy, PartialEq, Eq)]
 pub struct Operand {
     pub register: u8,
     pub value: u32,
 }
 
 /// The bytes of an access: addresses from `from` to `to`, exclusive. They don't wrap.
-#[derive(Clone, Copy, Debug, PartialEq, Eq)]
+#[derive(Clone, Copy, PartialEq, Eq)]
 pub struct ByteRange {
     pub from: u64,
     pub to: u64,
@@ -61,7 +61,7 @@ impl ByteRange {
 ///
 /// Everything else that a timing model needs of a step follows from these, so no list of steps can
 /// contradict itself about an instruction.
-#[derive(Clone, Copy, Debug, PartialEq, Eq)]
+#[derive(Clone, Copy, PartialEq, Eq)]
 pub struct Step {
     // First, so that the machine's hot loop reads its fields as the words that it wrote.
     pub instr: Instr,

@@ -15,7 +15,7 @@ use tomex_config::Config;
 use tomex_timing::{Demands, Facts, Recent, ask_next, issue_from};
 
 /// The finishes of accesses, whether or not they are still under way.
-#[derive(Clone, Copy, Debug, PartialEq, Eq)]
+#[derive(Clone, Copy, PartialEq, Eq)]
 pub struct Window {
     /// Those of the last four accesses, the youngest first; 0 if there are fewer.
     pub finishes: [u64; 4],

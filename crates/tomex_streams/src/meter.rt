@@ -15,7 +15,7 @@ const PAUSE: u64 = 100;
 pub const HINT: &str = "tomex: `tomex explain` and these words say what it means\n";
 
 /// What progress counts.
-#[derive(Clone, Copy, Debug, PartialEq, Eq)]
+#[derive(Clone, Copy, PartialEq, Eq)]
 pub enum Counted {
     Configurations,
     /// The steps of a run.
@@ -25,7 +25,7 @@ pub enum Counted {
 }
 
 /// How much of long work is finished.
-#[derive(Clone, Copy, Debug, PartialEq, Eq)]
+#[derive(Clone, Copy, PartialEq, Eq)]
 pub struct Progress {
     pub done: u64,
     pub of: u64,
@@ -61,7 +61,7 @@ pub trait Meter {
 }
 
 /// A meter that shows nothing.
-#[derive(Clone, Copy, Debug)]
+#[derive(Clone, Copy)]
 pub struct NoMeter;
 
 impl Meter for NoMeter {

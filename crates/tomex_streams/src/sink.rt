@@ -6,7 +6,7 @@ ghost use Rattle.tomex_streams.specs.Sinks.{Rises, Seen};
 use std::io::Write;
 
 /// A sink failed, and took nothing of the piece.
-#[derive(Clone, Copy, Debug, PartialEq, Eq)]
+#[derive(Clone, Copy, PartialEq, Eq)]
 pub struct PutFault;
 
 /// A sink of bytes.
@@ -43,7 +43,7 @@ pub trait Sink {
 }
 
 /// A write stopped: the sink took only this number of first bytes.
-#[derive(Clone, Copy, Debug, PartialEq, Eq)]
+#[derive(Clone, Copy, PartialEq, Eq)]
 pub struct WriteFault {
     pub written: usize,
 }

@@ -12,7 +12,7 @@ use tomex_config::Config;
 use tomex_timing::{Run, Times};
 
 /// The cycles of the steps with each key, and what no machine saves of them.
-#[derive(Debug, Drop)]
+#[derive(Drop)]
 pub struct Accounts<A: Allocator = Global> {
     pub own: Sums<A>,
     pub floor: Sums<A>,

@@ -7,7 +7,7 @@ ghost use Rattle.tomex_stretches.specs.Cycles.{is_key, sum_where};
 use std::alloc::{AllocError, Allocator, Global};
 
 /// Sums by a key.
-#[derive(Debug, Drop)]
+#[derive(Drop)]
 pub struct Sums<A: Allocator = Global> {
     /// The sum for each key.
     pub by_key: Vec<u64, A>,

@@ -18,7 +18,7 @@ use tomex_timing::Run;
 /// A program whose run in order ends within its limit of 1 to 262,144 steps. At most 8 ranges of
 /// its memory are watched, each inside it, with at most 4,096 bytes together. Its cycles are
 /// weighted 1 to 1,000.
-#[derive(Debug, Drop)]
+#[derive(Drop)]
 pub struct Program<A: Allocator = Global> {
     name: String<A>,
     image: Image<A>,

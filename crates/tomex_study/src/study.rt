@@ -15,7 +15,7 @@ use tomex_config::{Config, Prices, cost};
 /// A study: 1 to 8 programs, 1 to 16,384 configurations in any order, the cost of each, the prices
 /// that the costs are computed from, and whether reports show widths and weights. A configuration's
 /// row is its place among them, counted from 0.
-#[derive(Debug, Drop)]
+#[derive(Drop)]
 pub struct Study<A: Allocator = Global> {
     programs: Vec<Program<A>, A>,
     rows: Vec<Config, A>,

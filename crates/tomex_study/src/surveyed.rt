@@ -15,7 +15,7 @@ use tomex_pareto::FrontRow;
 
 /// A study with each program's cycles on each row, all rows with their costs and cycles, and the
 /// front. Contracts see it as the study, since all the rest is determined by that.
-#[derive(Debug, Drop)]
+#[derive(Drop)]
 pub struct Surveyed<'s, A: Allocator = Global> {
     study: &'s Study<A>,
     /// For each row the programs' totals, in their order; the entries after them are unused.

@@ -6,7 +6,7 @@ ghost use Rattle.tomex_study.specs.Watch.{is_watchable, watched_bytes, IsWatch};
 use tomex_image::Window;
 
 /// `length` bytes of memory, from `address` on.
-#[derive(Clone, Copy, Debug, PartialEq, Eq)]
+#[derive(Clone, Copy, PartialEq, Eq)]
 pub struct WatchRange {
     pub address: u32,
     pub length: u32,

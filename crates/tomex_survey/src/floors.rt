@@ -19,7 +19,7 @@ use tomex_rvdec::UnitId;
 use tomex_study::{Program, Study, Surveyed};
 
 /// A program's floors for the widths from 1 to 4, with these latencies of the kinds of units that it uses.
-#[derive(Clone, Copy, Debug, Drop)]
+#[derive(Clone, Copy, Drop)]
 pub(crate) struct KnownFloors {
     /// 0 of a kind that it doesn't use.
     pub latencies: [u8; 5],
@@ -48,7 +48,7 @@ impl<'s, A: Allocator> Model for Floored<'s, A> {
 }
 
 /// The least floors of a study, in cycles times the programs' weights.
-#[derive(Clone, Copy, Debug, PartialEq, Eq)]
+#[derive(Clone, Copy, PartialEq, Eq)]
 pub struct Floors {
     /// Of a row at its own width.
     pub own: u64,

@@ -7,7 +7,7 @@ ghost use Rattle.tomex_survey.specs.Stretches.{IsWithin, stretches_of};
 use std::alloc::{AllocError, Allocator};
 
 /// Neighbouring rows, which one worker handles.
-#[derive(Clone, Copy, Debug, Drop)]
+#[derive(Clone, Copy, Drop)]
 pub struct Stretch {
     /// The worker's number, from 0.
     pub worker: usize,

@@ -9,7 +9,7 @@ use tomex_board::Mark;
 use tomex_pareto::FrontRow;
 
 /// The marks and the front of a study's rows.
-#[derive(Debug, Drop)]
+#[derive(Drop)]
 pub struct Outcome<A: Allocator = Global> {
     /// A mark for each row, in the order of the rows. Each is `Finished` or `Dropped`.
     pub marks: Vec<Mark, A>,

@@ -32,7 +32,7 @@ const SHF_EXECINSTR: u32 = 4;
 
 /// The fields of a section header that matter here. The size and the offset in the file are in
 /// bytes.
-#[derive(Clone, Copy, Debug, PartialEq, Eq)]
+#[derive(Clone, Copy, PartialEq, Eq)]
 pub struct Section {
     /// `sh_type`
     pub kind: u32,
@@ -49,7 +49,7 @@ pub struct Section {
 }
 
 /// A symbol table, and the table of its names.
-#[derive(Clone, Copy, Debug, PartialEq, Eq)]
+#[derive(Clone, Copy, PartialEq, Eq)]
 pub struct Tables {
     pub symbols: Section,
     pub names: Section,

@@ -3,7 +3,7 @@ ghost use Rattle.std.specs.Prelude.{◌≡◌};
 ghost use Rattle.tomex_symbols.specs.Functions.{holds, rank_of};
 
 /// The kind of thing that a symbol names.
-#[derive(Clone, Copy, Debug, PartialEq, Eq)]
+#[derive(Clone, Copy, PartialEq, Eq)]
 pub enum Kind {
     /// A function: `STT_FUNC`.
     Function,
@@ -12,7 +12,7 @@ pub enum Kind {
 }
 
 /// A symbol's binding: `STB_GLOBAL`, `STB_WEAK`, or anything else.
-#[derive(Clone, Copy, Debug, PartialEq, Eq)]
+#[derive(Clone, Copy, PartialEq, Eq)]
 pub enum Binding {
     Global,
     Weak,
@@ -20,7 +20,7 @@ pub enum Binding {
 }
 
 /// A symbol of a file that names code. Addresses and sizes are in bytes.
-#[derive(Clone, Copy, Debug, PartialEq, Eq)]
+#[derive(Clone, Copy, PartialEq, Eq)]
 pub struct Symbol {
     /// Its number in the table, from 0.
     pub number: u32,

@@ -23,10 +23,7 @@ static M: [Op; 8] = [
 /// Stops at the first operation of M that gives another value for these operands.
 fn check_m(rt: &impl Abort, a: u32, b: u32, wanted: &[u32; 8]) {
     for (op, value) in M.iter().zip(wanted) {
-        assert!(rt;
-            muldiv(*op, a, b) == *value,
-            "{op:?} of {a:08x} and {b:08x}"
-        );
+        assert!(rt; muldiv(*op, a, b) == *value, "{a:08x} and {b:08x}");
     }
 }
 
@@ -69,6 +66,9 @@ fn comparisons(rt: HostRuntime) {
     assert!(rt; alu(Op::Slt, HIGH, LOW) == 1);
     assert!(rt; alu(Op::Sltu, HIGH, LOW) == 0);
     for (op, left, right, wanted) in &BRANCHES {
-        assert!(rt; taken(*op, *left, *right) == *wanted, "{op:?}");
+        assert!(rt;
+            taken(*op, *left, *right) == *wanted,
+            "{left:08x} and {right:08x}"
+        );
     }
 }

@@ -11,14 +11,14 @@ use tomex_config::Part;
 use tomex_rvdec::{PoolId, UnitId};
 
 /// The most that a run takes of a part at once, and whether any step waits for it. `Need` has the number of cycles.
-#[derive(Clone, Copy, Debug, PartialEq, Eq)]
+#[derive(Clone, Copy, PartialEq, Eq)]
 pub struct Demand {
     pub peak: u64,
     pub waits: bool,
 }
 
 /// The demands of a run on a configuration's parts, and the cycles that it takes.
-#[derive(Clone, Copy, Debug, PartialEq, Eq)]
+#[derive(Clone, Copy, PartialEq, Eq)]
 pub struct Demands {
     /// In the order of `PoolId::ALL` and of `UnitId::ALL`.
     pub stations: [Demand; 6],

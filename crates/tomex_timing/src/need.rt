@@ -2,14 +2,14 @@
 
 /// The most that a run takes of a part at once, and the cycles that its steps wait for it: two that wait in one cycle
 /// count twice.
-#[derive(Clone, Copy, Debug, PartialEq, Eq)]
+#[derive(Clone, Copy, PartialEq, Eq)]
 pub struct Need {
     pub peak: u64,
     pub stalls: u64,
 }
 
 /// The cycles that a step waits, each charged to the first thing that is missing in it.
-#[derive(Clone, Copy, Debug, PartialEq, Eq)]
+#[derive(Clone, Copy, PartialEq, Eq)]
 pub struct Waits {
     /// To issue: for an older branch's finish, for the width, for a station of its pool.
     pub branch: u64,

@@ -17,7 +17,7 @@ use tomex_config::{Config, Part};
 use tomex_rvdec::{PoolId, UnitId};
 
 /// The needs of a run on a configuration: what it takes of the parts, and how long its steps wait for them, in cycles.
-#[derive(Clone, Copy, Debug, PartialEq, Eq)]
+#[derive(Clone, Copy, PartialEq, Eq)]
 pub struct Needs {
     /// In the order of `PoolId::ALL` and of `UnitId::ALL`.
     pub stations: [Need; 6],

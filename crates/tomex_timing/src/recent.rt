@@ -16,7 +16,7 @@ use tomex_rvdec::{PoolId, UnitId};
 use tomex_rvexec::{ByteRange, Operand, Step};
 
 /// The facts that a recurrence reads of a step, taken from its instruction only once.
-#[derive(Clone, Copy, Debug)]
+#[derive(Clone, Copy)]
 pub struct Facts {
     pub pool: Option<PoolId>,
     pub unit: Option<UnitId>,

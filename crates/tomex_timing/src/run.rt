@@ -16,7 +16,7 @@ use tomex_config::Config;
 use tomex_rvexec::Step;
 
 /// The steps of a run, in program order, with the facts of each.
-#[derive(Debug, Drop)]
+#[derive(Drop)]
 pub struct Run<A: Allocator = Global> {
     steps: Vec<Step, A>,
     facts: Vec<Facts, A>,

@@ -6,14 +6,14 @@ use std::marker::Model;
 use tomex_rvdec::{Instr, PoolId};
 
 /// A station's name, which waiting operands and registers carry.
-#[derive(Clone, Copy, Debug, PartialEq, Eq)]
+#[derive(Clone, Copy, PartialEq, Eq)]
 pub struct Tag {
     pub pool: PoolId,
     pub number: u8,
 }
 
 /// A station's field for an operand: V, or Q, or neither if the instruction doesn't read it.
-#[derive(Clone, Copy, Debug, PartialEq, Eq)]
+#[derive(Clone, Copy, PartialEq, Eq)]
 pub enum Field {
     Value(u32),
     Waits(Tag),
@@ -21,7 +21,7 @@ pub enum Field {
 }
 
 /// The fields of a busy station. Only loads and stores have A.
-#[derive(Clone, Copy, Debug, PartialEq, Eq)]
+#[derive(Clone, Copy, PartialEq, Eq)]
 pub struct Busy {
     pub tag: Tag,
     pub instr: Instr,

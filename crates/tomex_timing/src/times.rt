@@ -3,7 +3,7 @@
 use tomex_rvexec::Step;
 
 /// The cycles of one step, counted from 1, and its reservation station.
-#[derive(Clone, Copy, Debug, PartialEq, Eq)]
+#[derive(Clone, Copy, PartialEq, Eq)]
 pub struct Times {
     pub issue: u64,
     /// The cycle in which a load or store computes its address.
@@ -18,7 +18,7 @@ pub struct Times {
 }
 
 /// A step of a run with its times.
-#[derive(Clone, Copy, Debug, PartialEq, Eq)]
+#[derive(Clone, Copy, PartialEq, Eq)]
 pub struct Done {
     pub step: Step,
     pub at: Times,

@@ -7,7 +7,7 @@ use crate::place::{Key, Place};
 use std::alloc::{AllocError, AllocFailed};
 
 /// The first test that a study's document fails.
-#[derive(Debug, Drop)]
+#[derive(Drop)]
 pub enum DocumentError {
     /// The bytes aren't a TOML document.
     Syntax,

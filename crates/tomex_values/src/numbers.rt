@@ -10,7 +10,7 @@ use crate::table::value_at;
 use toml::{Table, Value};
 
 /// The multiples of `step` from `low` to `high`.
-#[derive(Clone, Copy, Debug, PartialEq, Eq)]
+#[derive(Clone, Copy, PartialEq, Eq)]
 pub struct Limits {
     pub low: u32,
     pub high: u32,

@@ -10,7 +10,7 @@ use tomex_front_views::RowError;
 use tomex_prices::PricesError;
 
 /// Why a study has no text in a view. It has no text of its own: whoever reports it writes that.
-#[derive(Debug, Drop)]
+#[derive(Drop)]
 pub enum ViewError {
     /// The bytes and the files are refused.
     Study(StudyError),

@@ -10,7 +10,7 @@ use tomex_pareto::FrontRow;
 use tomex_study::Surveyed;
 
 /// A row that differs from a machine in only one list.
-#[derive(Clone, Copy, Debug, PartialEq, Eq)]
+#[derive(Clone, Copy, PartialEq, Eq)]
 pub struct Change {
     /// The part of the list.
     pub part: Part,

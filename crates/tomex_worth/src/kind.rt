@@ -6,7 +6,7 @@ ghost use Rattle.tomex_worth.specs.WorthCsv.{kind_of, name_of_kind};
 use tomex_pareto::FrontRow;
 
 /// What another row is to a machine.
-#[derive(Clone, Copy, Debug, PartialEq, Eq)]
+#[derive(Clone, Copy, PartialEq, Eq)]
 pub enum Kind {
     /// One of the two costs more and takes fewer cycles.
     Trade,

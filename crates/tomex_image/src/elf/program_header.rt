@@ -15,7 +15,7 @@ const PT_LOAD: u32 = 1;
 const PT_INTERP: u32 = 3;
 
 /// The fields of a program header that matter here. Sizes and the offset in the file are in bytes.
-#[derive(Clone, Copy, Debug, PartialEq, Eq)]
+#[derive(Clone, Copy, PartialEq, Eq)]
 pub struct ProgramHeader {
     /// `p_type`
     pub kind: u32,

@@ -70,7 +70,7 @@ static CHANGED: [(&[(usize, u8)], usize); 28] = [
 fn changed_files(rt: HostRuntime) -> Result<(), Fail> {
     for (changes, count) in &CHANGED {
         let found = count_of(rt.alloc(), changes)?;
-        assert!(rt; found == *count, "{changes:?}: {found}");
+        assert!(rt; found == *count, "{found} in place of {count}");
     }
     Ok(())
 }
