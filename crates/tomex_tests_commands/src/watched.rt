@@ -1,17 +1,13 @@
 //! What can be seen of a command besides its output: how many configurations it begins, how far it says that it is,
 //! and whether it says where refusals are explained. So a row or a program that a study doesn't have is found before
 //! any row is evaluated.
+use crate::files::files;
 use crate::{Outcome, outcome_of, words_of};
 use std::sync::Wait;
 use std::sync::atomic::{AtomicU64, Ordering};
 use std::test::Fail;
 use std::thread::Threads;
 use tomex_streams::{Meter, Progress};
-use tomex_tests_fixtures::programs::PRODUCT;
-
-/// Two rows, of two alu stations and of one.
-pub const PRICED: &str = "[[program]]\nname = \"mul\"\nfile = \"mul.bin\"\n[prices]\nalu = 10\n\
-    [axes]\nalu = [2, 1]\n[[unit.mul]]\nlatency = 3\n";
 
 /// Keeps what it showed last, and how often it showed something, was cleared and was asked for a hint.
 #[derive(Drop)]
@@ -67,28 +63,24 @@ fn watched<R: AllocGlobal + Threads + Wait + Sync>(
     rt: &R,
     line: &str,
 ) -> Result<(Outcome, LastShown), Fail> {
-    let files = [
-        ("study", PRICED.as_bytes()),
-        ("mul.bin", PRODUCT.as_slice()),
-    ];
     let meter = LastShown::new();
     let words = words_of(rt.alloc(), line)?;
-    let outcome = outcome_of(rt, rt.alloc(), &files, words.as_slice(), &meter, 100_000)?;
+    let outcome = outcome_of(rt, rt.alloc(), &files(), words.as_slice(), &meter, 100_000)?;
     Ok((outcome, meter))
 }
 
 /// Lines that evaluate both rows, and how many they say are finished last: with one worker the first when the second
 /// begins, with two workers none.
 static DONE: [(&str, u64); 9] = [
-    ("tomex all study", 1),
-    ("tomex explore study", 1),
-    ("tomex rows study", 1),
-    ("tomex worth study 1", 1),
-    ("tomex worth study row=1", 1),
-    ("tomex compare study mul mul", 1),
-    ("tomex choices study", 1),
-    ("tomex choices study --workers 2", 0),
-    ("tomex page study --choices", 1),
+    ("tomex all priced", 1),
+    ("tomex explore priced", 1),
+    ("tomex rows priced", 1),
+    ("tomex worth priced 1", 1),
+    ("tomex worth priced row=1", 1),
+    ("tomex compare priced mul mul", 1),
+    ("tomex choices priced", 1),
+    ("tomex choices priced --workers 2", 0),
+    ("tomex page priced --choices", 1),
 ];
 
 #[test]
@@ -104,39 +96,39 @@ fn a_meter_hears_how_far_it_is(rt: HostRuntime) -> Result<(), Fail> {
 /// Lines that fail before any row begins, each with its status, the beginning of its error, and the number of hints
 /// after it: one after a command that failed, none after a line that asks for none.
 static REFUSED: [(&str, u8, &str, u64); 9] = [
-    ("tomex worth study 2", 1, "tomex: no such row\n", 1),
+    ("tomex worth priced 2", 1, "tomex: no such row\n", 1),
     (
-        "tomex worth study row=0,row=1",
+        "tomex worth priced row=0,row=1",
         1,
         "tomex: no such row\n",
         1,
     ),
     (
-        "tomex worth study alu=16",
+        "tomex worth priced alu=16",
         1,
         "tomex: no such choice: alu=16\n",
         1,
     ),
     (
-        "tomex worth study width=1",
+        "tomex worth priced width=1",
         1,
         "tomex: several rows: 2\n",
         1,
     ),
     (
-        "tomex compare study mul nope",
+        "tomex compare priced mul nope",
         1,
         "tomex: no such program\n",
         1,
     ),
     (
-        "tomex compare study nope mul",
+        "tomex compare priced nope mul",
         1,
         "tomex: no such program\n",
         1,
     ),
     (
-        "tomex find study alu=3",
+        "tomex find priced alu=3",
         1,
         "tomex: no such choice: alu=3\n",
         1,

@@ -1,6 +1,6 @@
 //! The commands on a whole study share its configurations among threads.
 
-use crate::watched::PRICED;
+use crate::files::files;
 use crate::{outcome_of, words_of};
 use std::sync::Wait;
 use std::sync::atomic::{AtomicU64, Ordering};
@@ -8,7 +8,6 @@ use std::test::Fail;
 use std::thread;
 use std::thread::Threads;
 use tomex_streams::{Meter, Progress};
-use tomex_tests_fixtures::programs::PRODUCT;
 
 /// The most turns that a thread is held.
 const TURNS: u32 = 10_000_000;
@@ -49,33 +48,29 @@ impl Meter for FirstWaits {
 /// True if a second thread took one configuration of the study of two while the first was held at
 /// the other.
 fn is_shared<R: AllocGlobal + Threads + Wait + Sync>(rt: &R, line: &str) -> Result<bool, Fail> {
-    let files = [
-        ("study", PRICED.as_bytes()),
-        ("mul.bin", PRODUCT.as_slice()),
-    ];
     let meter = FirstWaits {
         calls: AtomicU64::new(0),
         met: AtomicU64::new(0),
     };
     let words = words_of(rt.alloc(), line)?;
-    let outcome = outcome_of(rt, rt.alloc(), &files, words.as_slice(), &meter, 100_000)?;
+    let outcome = outcome_of(rt, rt.alloc(), &files(), words.as_slice(), &meter, 100_000)?;
     Ok(outcome.status == 0 && meter.met.load(Ordering::SeqCst) == 1)
 }
 
 /// The commands that explore a study, or find the cycles of all its rows, by two workers.
 static LINES: [&str; 12] = [
-    "tomex explore study --workers 2",
-    "tomex front study --workers 2",
-    "tomex plot study --workers 2",
-    "tomex rows study --workers 2",
-    "tomex worth study 0 --workers 2",
-    "tomex choices study --workers 2",
-    "tomex prices study --workers 2",
-    "tomex weights study --workers 2",
-    "tomex compare study mul mul --workers 2",
-    "tomex plot study --rows --workers 2",
-    "tomex page study --workers 2",
-    "tomex page study --choices --workers 2",
+    "tomex explore priced --workers 2",
+    "tomex front priced --workers 2",
+    "tomex plot priced --workers 2",
+    "tomex rows priced --workers 2",
+    "tomex worth priced 0 --workers 2",
+    "tomex choices priced --workers 2",
+    "tomex prices priced --workers 2",
+    "tomex weights priced --workers 2",
+    "tomex compare priced mul mul --workers 2",
+    "tomex plot priced --rows --workers 2",
+    "tomex page priced --workers 2",
+    "tomex page priced --choices --workers 2",
 ];
 
 #[test]
