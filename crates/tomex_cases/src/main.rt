@@ -2,10 +2,6 @@
 //! writes what the program prints into the archives.
 #![tactic(auto)]
 
-mod archive;
-mod archives;
-mod case;
-mod comparing;
 mod renewing;
 mod running;
 

@@ -1,12 +1,13 @@
 //! Cases run through the whole program, and counted.
-use crate::archives::{COMMANDS, archive_of, check_commands, check_names, is_asked, is_read};
-use crate::case::{Case, cases_of};
-use crate::comparing::case_difference;
 use anyhow::{Context, Result};
 use std::rt::Files;
 use std::str::from_utf8;
 use std::sync::Wait;
 use std::thread::Threads;
+use tomex_archives::{
+    COMMANDS, Case, archive_of, case_difference, cases_of, check_commands, check_names, is_asked,
+    is_read,
+};
 use tomex_streams::NoMeter;
 use tomex_tests_commands::{Outcome, outcome_of};
 
@@ -54,7 +55,9 @@ fn run_case<R: AllocGlobal + Threads + Wait + Sync + Print>(
 ) -> Result<()> {
     let name = case.name.as_str();
     let outcome = outcome_in(rt, case).context(format_args!("{name}"))?;
-    match case_difference(rt.alloc(), case, &outcome).context(format_args!("{name}"))? {
+    let (out, err) = (outcome.out.as_slice(), outcome.err.as_slice());
+    let difference = case_difference(rt.alloc(), case, outcome.status, out, err);
+    match difference.context(format_args!("{name}"))? {
         None => tally.passed = tally.passed.saturating_add(1),
         Some(text) => {
             println!(rt; "{name}: {text}")?;

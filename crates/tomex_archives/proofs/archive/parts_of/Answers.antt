@@ -1,6 +1,6 @@
 -- Parts are added in order.
-use Rattle.tomex_cases.proofs.Joins.{parts-begin, parts-join}
-use Rattle.tomex_cases.proofs.archive.parts_of.Goals as goal
+use Rattle.tomex_archives.proofs.Joins.{parts-begin, parts-join}
+use Rattle.tomex_archives.proofs.archive.parts_of.Goals as goal
 
 pub loop-rest-init : goal.loop-rest-init
 loop-rest-init c =

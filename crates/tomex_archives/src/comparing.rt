@@ -4,7 +4,6 @@ use crate::case::Case;
 use anyhow::Result;
 use std::alloc::{AllocError, Global};
 use std::str::from_utf8;
-use tomex_tests_commands::Outcome;
 
 /// A line of a stream that is another one than wanted: its number from 1, and both lines.
 #[derive(Clone, Copy)]
@@ -72,13 +71,19 @@ fn status_difference(alloc: Global, case: &Case, got: u8) -> Result<Option<Strin
     Ok(Some(format!(in alloc; "status\n  wanted {wanted}\n  got    {got}")?))
 }
 
-/// How a case's run differs from what it wants, if it does.
-pub fn case_difference(alloc: Global, case: &Case, outcome: &Outcome) -> Result<Option<String>> {
-    if let Some(text) = stream_difference(alloc, case, "stdout", outcome.out.as_slice())? {
+/// How a case's run differs from what it wants, if it does: by what it printed, or by its status.
+pub fn case_difference(
+    alloc: Global,
+    case: &Case,
+    status: u8,
+    out: &[u8],
+    err: &[u8],
+) -> Result<Option<String>> {
+    if let Some(text) = stream_difference(alloc, case, "stdout", out)? {
         return Ok(Some(text));
     }
-    if let Some(text) = stream_difference(alloc, case, "stderr", outcome.err.as_slice())? {
+    if let Some(text) = stream_difference(alloc, case, "stderr", err)? {
         return Ok(Some(text));
     }
-    status_difference(alloc, case, outcome.status)
+    status_difference(alloc, case, status)
 }

@@ -2,7 +2,7 @@
 -- `-- NAME --` and the lines up to the next header.
 
 use Rattle.std.specs.Prelude.{◌≡◌, ◌++◌, ℕ, List, [], ◌∷◌, codes}
-use Rattle.tomex_cases.specs.declared.archive.Part.{Part}
+use Rattle.tomex_archives.specs.declared.archive.Part.{Part}
 
 -- The header line of a name.
 abbrev pub header : List ℕ → List ℕ

@@ -1,7 +1,7 @@
 //! Text archives: a comment, and then parts, each of a header line `-- NAME --` and the lines up to
 //! the next header.
 ghost use Rattle.std.specs.Prelude.{◌≡◌, ◌+◌, ◌<◌, ◌++◌, length, IfSome, IfOk};
-ghost use Rattle.tomex_cases.specs.Archive.{IsArchive, header, part_text};
+ghost use Rattle.tomex_archives.specs.Archive.{IsArchive, header, part_text};
 
 use anyhow::{Result, bail};
 use std::alloc::Global;

@@ -1,8 +1,8 @@
 -- Lines, parts and archives from their pieces.
 use Rattle.std.proofs.Common.{ℕ, ◌≡◌, sym, ◌∙◌, ap, List, [], ◌∷◌, ◌++◌}
 use Rattle.std.proofs.lemmas.List.{append_assoc, append-nil}
-use Rattle.tomex_cases.specs.declared.archive.Part.{Part}
-use Rattle.tomex_cases.specs.Archive.{header, part_text, parts_text}
+use Rattle.tomex_archives.specs.declared.archive.Part.{Part}
+use Rattle.tomex_archives.specs.Archive.{header, part_text, parts_text}
 
 -- A line from its first characters, and the rest from its last ones.
 pub line-joins : (line rest name start stop : List ℕ) → line ≡ start ++ rest → rest ≡ name ++ stop

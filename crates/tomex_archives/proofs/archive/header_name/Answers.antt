@@ -2,8 +2,8 @@
 use Rattle.std.proofs.lemmas.Bool.Decides.{Decides-eqb}
 use Rattle.std.proofs.lemmas.Slice.Eq.{strip_prefix_is, strip_suffix_is}
 use Rattle.std.proofs.Common.{Some, codes}
-use Rattle.tomex_cases.proofs.Joins.{line-joins}
-use Rattle.tomex_cases.proofs.archive.header_name.Goals as goal
+use Rattle.tomex_archives.proofs.Joins.{line-joins}
+use Rattle.tomex_archives.proofs.archive.header_name.Goals as goal
 
 pub returns-else-is_empty : goal.returns-else-is_empty
 returns-else-is_empty c =
