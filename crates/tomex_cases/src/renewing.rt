@@ -23,6 +23,47 @@ fn renewal_of<R: AllocGlobal + Threads + Wait + Sync>(rt: &R, case: &Case) -> Re
     Renewal::new(rt.alloc(), case, outcome.status, outcome.out, outcome.err)
 }
 
+/// True if a case is to be renewed. A small one isn't, and must not be named by itself.
+fn is_renewed(case: &str, words: &[String]) -> Result<bool> {
+    ensure!(
+        !is_small(case) || !is_word(words, case),
+        "{case} is renewed by hand: it is small enough"
+    );
+    Ok(!is_small(case) && is_asked(words, case))
+}
+
+/// Adds what a case prints now, and prints the case's name, if it is something else than it wants.
+fn renew_case<R: AllocGlobal + Threads + Wait + Sync + Print>(
+    rt: &R,
+    case: &Case,
+    renewals: &mut Vec<Renewal>,
+) -> Result<()> {
+    let name = case.name.as_str();
+    let renewal = renewal_of(rt, case).context(format_args!("{name}"))?;
+    if renewal.changes(case) {
+        println!(rt; "{name}")?;
+        renewals.push(renewal)?;
+    }
+    Ok(())
+}
+
+/// What the cases of a command that are named print now, of those that want something else, and how many are named.
+fn renewals_of<R: AllocGlobal + Threads + Wait + Sync + Print>(
+    rt: &R,
+    cases: &[Case],
+    words: &[String],
+) -> Result<(Vec<Renewal>, u32)> {
+    let mut renewals = Vec::new(rt.alloc());
+    let mut named = 0u32;
+    for case in cases {
+        if is_renewed(case.name.as_str(), words)? {
+            renew_case(rt, case, &mut renewals)?;
+            named = named.saturating_add(1);
+        }
+    }
+    Ok((renewals, named))
+}
+
 /// Renews the cases of a command that are named.
 fn renew_archive<R: AllocGlobal + Threads + Wait + Sync + Print + Files>(
     rt: &R,
@@ -34,32 +75,16 @@ fn renew_archive<R: AllocGlobal + Threads + Wait + Sync + Print + Files>(
     let text = archive.text.as_slice();
     let cases = cases_of(rt.alloc(), text).context(format_args!("the archive of {command}"))?;
     check_names(command, cases.as_slice(), words)?;
-    let mut renewals = Vec::new(rt.alloc());
-    for case in &cases {
-        let name = case.name.as_str();
-        ensure!(
-            !is_small(name) || !is_word(words, name),
-            "{name} is renewed by hand: it is small enough"
-        );
-        if is_small(name) || !is_asked(words, name) {
-            continue;
-        }
-        let renewal = renewal_of(rt, case).context(format_args!("{name}"))?;
-        if renewal.changes(case) {
-            println!(rt; "{name}")?;
-            renewed.changed = renewed.changed.saturating_add(1);
-            renewals.push(renewal)?;
-        } else {
-            renewed.same = renewed.same.saturating_add(1);
-        }
+    let (renewals, named) = renewals_of(rt, cases.as_slice(), words)?;
+    let changed = renewals.len() as u32;
+    renewed.changed = renewed.changed.saturating_add(changed);
+    renewed.same = renewed.same.saturating_add(named.saturating_sub(changed));
+    if renewals.is_empty() {
+        return Ok(());
     }
-    if !renewals.is_empty() {
-        let text = renewed_text(rt.alloc(), text, renewals.as_slice())?;
-        fs::write(rt, archive.file.as_str(), text).context(format_args!(
-            "{}",
-            archive.file.as_str()
-        ))?;
-    }
+    let text = renewed_text(rt.alloc(), text, renewals.as_slice())?;
+    let file = archive.file.as_str();
+    fs::write(rt, file, text).context(format_args!("{file}"))?;
     Ok(())
 }
 

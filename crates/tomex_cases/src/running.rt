@@ -1,5 +1,6 @@
 //! Cases run through the whole program, and counted.
 use anyhow::{Context, Result};
+use std::alloc::{AllocError, Global};
 use std::rt::Files;
 use std::str::from_utf8;
 use std::sync::Wait;
@@ -21,30 +22,33 @@ pub struct Tally {
     pub failed: u32,
 }
 
-/// Runs a case, on a standard output that takes nothing if the case says so.
-pub fn outcome_in<R: AllocGlobal + Threads + Wait + Sync>(rt: &R, case: &Case) -> Result<Outcome> {
-    let alloc = rt.alloc();
+/// The words of a case's command line, the program's name first.
+fn words_of(alloc: Global, case: &Case) -> Result<Vec<&str>> {
     let mut words = vec![in alloc; "tomex"]?;
     for word in from_utf8(case.required("cmd")?)?.split_terminator('\n') {
         words.push(word)?;
     }
+    Ok(words)
+}
+
+/// The names and the bytes of a case's files.
+fn files_of(alloc: Global, case: &Case) -> Result<Vec<(&str, &[u8])>, AllocError> {
     let mut files = Vec::new(alloc);
     for file in &case.files {
         files.push((file.name.as_str(), file.bytes.as_slice()))?;
     }
-    let room = if case.names("full", "stdout")? {
-        0
-    } else {
-        ROOM
-    };
-    Ok(outcome_of(
-        rt,
-        alloc,
-        files.as_slice(),
-        words.as_slice(),
-        &NoMeter,
-        room,
-    )?)
+    Ok(files)
+}
+
+/// Runs a case, on a standard output that takes nothing if the case says so.
+pub fn outcome_in<R: AllocGlobal + Threads + Wait + Sync>(rt: &R, case: &Case) -> Result<Outcome> {
+    let alloc = rt.alloc();
+    let words = words_of(alloc, case)?;
+    let files = files_of(alloc, case)?;
+    let is_full = case.names("full", "stdout")?;
+    let room = if is_full { 0 } else { ROOM };
+    let (files, words) = (files.as_slice(), words.as_slice());
+    Ok(outcome_of(rt, alloc, files, words, &NoMeter, room)?)
 }
 
 /// Runs a case, prints how it differs if it does, and counts it.

@@ -1,4 +1,6 @@
 -- The sums fit.
+use Rattle.std.proofs.Common.{arith}
+use Rattle.std.proofs.lemmas.Grind.{common_steps}
 use Rattle.std.proofs.Common.{◌≡◌, ◌∙◌}
 use Rattle.tomex_loop_views.specs.PathCycles.{cycles_for}
 use Rattle.tomex_loop_views.proofs.PathKeys.{cycles_fit}
@@ -9,3 +11,6 @@ sums_by_key-requires-clause-few g c =
     let is : c.deref.result.now ≡ cycles_for c.args.reason c.args.links.now =
     c.deref.ensures.value ∙ c.in_ok-cycles.ensures in
     rw is (cycles_fit c.args.reason c.args.links.now c.requires.short)
+
+pub sums_by_key-requires-clause-pairs : goal.sums_by_key-requires-clause-pairs
+sums_by_key-requires-clause-pairs = grind (arith, common_steps)

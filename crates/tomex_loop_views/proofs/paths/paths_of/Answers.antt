@@ -1,4 +1,5 @@
 -- The cycles for one reason more.
+use Rattle.std.proofs.lemmas.Grind.{common_steps}
 use Rattle.std.proofs.Common.{◌≡◌, ◌∙◌, arith, map, refl}
 use Rattle.std.specs.Prelude.{is_none}
 use Rattle.std.proofs.lemmas.List.{length-map}
@@ -38,3 +39,6 @@ loop-reason-preserved g c =
           c.loop-reason.reason-index _ _ _ _ c.loop-reason-test.true refl c.loop-reason.invariant.total
           c.in_ok-add.ensures.total;
     }
+
+pub loop-reason-init : goal.loop-reason-init
+loop-reason-init = grind (arith, common_steps)

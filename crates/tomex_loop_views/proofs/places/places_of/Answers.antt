@@ -1,4 +1,6 @@
 -- Each column has the entry of each loop.
+use Rattle.std.proofs.Common.{arith}
+use Rattle.std.proofs.lemmas.Grind.{common_steps}
 use Rattle.std.proofs.Common.{◌≡◌, ◌∙◌, ℕ, List, ap, length, map, slice_index}
 use Rattle.std.proofs.lemmas.List.{length-map}
 use Rattle.tomex_symbols.specs.Symbols.{symbols_of}
@@ -35,3 +37,9 @@ returns g c =
     (rw c.deref-2.ensures.value at c.in_ok-functions.ensures) c.in_ok-extents.ensures.count
     (rw addresses-4 at c.in_ok-extents.ensures.extents) c.in_ok-around.ensures.count
     (rw addresses-5 at c.in_ok-around.ensures.groups)
+
+pub at_steps-requires : goal.at_steps-requires
+at_steps-requires = grind (arith, common_steps)
+
+pub extents_in-requires-clause-pairs : goal.extents_in-requires-clause-pairs
+extents_in-requires-clause-pairs = grind (arith, common_steps)

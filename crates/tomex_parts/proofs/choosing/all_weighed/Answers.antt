@@ -1,3 +1,4 @@
+use Rattle.std.proofs.lemmas.Grind.{common_steps}
 use Rattle.std.proofs.Common.{arith}
 use Rattle.tomex_parts.proofs.Weighing.{most_is}
 use Rattle.tomex_parts.proofs.choosing.all_weighed.Goals as goal
@@ -22,3 +23,9 @@ weighed-requires-clause-most g c =
     let f = most_is c.args.shares.now _ c.heaviest-most.result c.heaviest-most.ensures c.requires
     (c.requires.each 0 _ (omega (arith, there))) in
     f.0.each c.loop-share.share-index _ (omega arith)
+
+pub loop-share-preserved : goal.loop-share-preserved
+loop-share-preserved = grind (arith, common_steps)
+
+pub returns : goal.returns
+returns = grind

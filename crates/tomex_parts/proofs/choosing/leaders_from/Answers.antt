@@ -1,3 +1,4 @@
+use Rattle.std.proofs.lemmas.Grind.{common_steps}
 use Rattle.std.proofs.Common.{◌≡◌, ◌<◌, ◌∙◌, ◌∷◌, [], List, ap, arith, length, subst, sym, ℕ}
 use Rattle.tomex_parts.specs.Leaders.{and_farthest, in_order}
 use Rattle.tomex_parts.proofs.Renewed.{can_as}
@@ -25,3 +26,6 @@ leaders_after-requires-clause-can g c =
     ∙ (ap (λ n. in_order n c.as_slice.result.now) all
     ∙ ap (in_order (length parts)) (c.as_slice.ensures.value ∙ c.in_ok-spread.ensures r.0 r.1)))
     (order_can parts (and_farthest r.0 7 (c.args.first ∷ [])) far)
+
+pub spread-requires-clause-inside : goal.spread-requires-clause-inside
+spread-requires-clause-inside = grind (arith, common_steps)

@@ -1,3 +1,4 @@
+use Rattle.std.proofs.lemmas.Grind.{common_steps}
 use Rattle.std.proofs.Common.{◌∙◌, ap, arith}
 use Rattle.std.proofs.lemmas.List.{take_all}
 use Rattle.std.specs.Prelude.{map}
@@ -15,3 +16,9 @@ returns g c = λ run of.
     (take_all c.loop-leader.leader-index leaders (omega arith))
     ∙ ap (λ gs. map (share_of run gs steps) leaders)
     (groups_are run c.in_ok-near.near.items leaders c.requires.some (c.in_ok-near.ensures run of)))
+
+pub nearest_of-requires-clause-inside : goal.nearest_of-requires-clause-inside
+nearest_of-requires-clause-inside = grind (arith, common_steps)
+
+pub loop-leader-preserved : goal.loop-leader-preserved
+loop-leader-preserved = grind (arith, common_steps)

@@ -1,3 +1,4 @@
+use Rattle.std.proofs.lemmas.Grind.{common_steps}
 use Rattle.std.proofs.Common.{◌<◌, List, arith, length, subst}
 use Rattle.std.proofs.lemmas.List.{drop_more}
 use Rattle.std.specs.Prelude.{slice_index_or}
@@ -13,3 +14,15 @@ loop-entry-preserved c = λ counts s size.
     rw (c.from.ensures) (adding_more (slice_index_or c.args.row.now k none) _ counts _ _
     (subst (λ (es : List Entry). IsAdding es counts c.args.sums.now c.loop-entry.sums)
     (drop_more c.args.row.now k none here) (c.loop-entry.invariant counts s size)))
+
+pub overflow_add-sums : goal.overflow_add-sums
+overflow_add-sums = grind (arith, common_steps)
+
+pub bounds-sums-entry : goal.bounds-sums-entry
+bounds-sums-entry = grind (arith, common_steps)
+
+pub returns : goal.returns
+returns = grind (arith, common_steps)
+
+pub bounds-sums-entry-in-loop-entry : goal.bounds-sums-entry-in-loop-entry
+bounds-sums-entry-in-loop-entry = grind (arith, common_steps)

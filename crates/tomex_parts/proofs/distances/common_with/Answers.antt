@@ -1,3 +1,4 @@
+use Rattle.std.proofs.lemmas.Grind.{common_steps}
 use Rattle.std.proofs.Common.{◌<◌, List, arith, length, subst}
 use Rattle.std.proofs.lemmas.List.{drop_all, drop_more}
 use Rattle.std.specs.Prelude.{slice_index_or}
@@ -44,3 +45,6 @@ returns c = λ counts s size.
     common_all c.loop-entry.common c.args.times counts c.args.sums.now
     (subst (λ (es : List Entry). IsCommon c.loop-entry.common es c.args.times counts c.args.sums.now) all
     (c.loop-entry.invariant counts s size))
+
+pub bounds-sums-entry : goal.bounds-sums-entry
+bounds-sums-entry = grind (arith, common_steps)

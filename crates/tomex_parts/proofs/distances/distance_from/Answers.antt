@@ -1,3 +1,4 @@
+use Rattle.std.proofs.lemmas.Grind.{common_steps}
 use Rattle.std.proofs.Common.{◌≡◌, ◌*◌, arith, length, ap}
 use Rattle.std.specs.Prelude.{slice_index}
 use Rattle.tomex_parts.specs.Numbers.{sum_below}
@@ -25,3 +26,6 @@ returns-clause-value c = λ counts row.
       c.requires.sums,
       differences c.args.times counts c.args.sums.now (length c.args.sums.now),
     ))
+
+pub common_with-requires : goal.common_with-requires
+common_with-requires = grind (arith, common_steps)

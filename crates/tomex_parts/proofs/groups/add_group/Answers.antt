@@ -1,3 +1,4 @@
+use Rattle.std.proofs.lemmas.Grind.{common_steps}
 use Rattle.std.proofs.Common.{◌≡◌, ℕ, ◌+◌, ◌*◌, ◌<◌, ◌≤◌, List, length, ◌∙◌, arith, subst, sym}
 use Rattle.std.proofs.lemmas.List.{get_or_default}
 use Rattle.std.proofs.lemmas.Nat.{mul-le}
@@ -54,3 +55,6 @@ loop-k-preserved g c = λ run of.
           subst (λ (xs : List ℕ). AreGroupSums run c.args.near.now c.args.leader (k + 1) xs) (sym w.sums-is)
           (grouped_no run c.args.near.now c.args.leader k c.loop-k.sums r s within read w.if-near-k.false)
     ]
+
+pub index-requires : goal.index-requires
+index-requires = grind (arith, common_steps)

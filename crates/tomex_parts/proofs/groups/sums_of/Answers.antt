@@ -1,3 +1,4 @@
+use Rattle.std.proofs.lemmas.Grind.{common_steps}
 use Rattle.std.proofs.Common.{rules, ◌≡◌, ℕ, ◌∙◌, List, ap, arith, drop, length, subst, sym}
 use Rattle.std.proofs.lemmas.List.{length-replicate, take_at}
 use Rattle.std.specs.Prelude.{replicate}
@@ -19,3 +20,6 @@ returns-clause-sums g c = λ run of.
     subst (λ (xs : List ℕ). AreGroupSums run c.args.near.now c.args.leader (length c.args.near.now) xs)
     (sym (take_at c.add_group.new.sums (drop (length c.add_group.new.sums) c.in_ok-sums.sums.items)
     c.in_ok-sums.sums.len all)) (c.add_group.ensures run of)
+
+pub returns-clause-words : goal.returns-clause-words
+returns-clause-words = grind (arith, common_steps)

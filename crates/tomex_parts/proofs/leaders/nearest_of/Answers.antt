@@ -1,3 +1,4 @@
+use Rattle.std.proofs.lemmas.Grind.{common_steps}
 use Rattle.std.proofs.Common.{◌<◌, ◌∙◌, List, arith, length, subst, sym, ℕ}
 use Rattle.std.proofs.lemmas.List.{take_more}
 use Rattle.tomex_parts.specs.Near.{AreNearest}
@@ -14,3 +15,9 @@ loop-leader-preserved g c =
           (sym (take_more c.args.leaders.now i 0 here))
           (c.in_ok-approach.ensures.near run _ of (c.loop-leader.invariant.nearest run of));
     }
+
+pub loop-leader-init : goal.loop-leader-init
+loop-leader-init = grind (arith, common_steps)
+
+pub returns : goal.returns
+returns = grind (arith, common_steps)

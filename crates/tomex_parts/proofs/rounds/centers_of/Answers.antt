@@ -1,3 +1,4 @@
+use Rattle.std.proofs.lemmas.Grind.{common_steps}
 use Rattle.std.proofs.Common.{◌<◌, ◌∙◌, ◌++◌, ◌∷◌, [], ap, arith, length, sym, take}
 use Rattle.std.proofs.lemmas.List.{map_push, take_more}
 use Rattle.std.specs.Prelude.{map, slice_index}
@@ -26,3 +27,6 @@ loop-leader-preserved g c =
           (can_more c.args.stretches.now.parts.items c.loop-leader.centers.items c.in_ok-center.center
           c.loop-leader.invariant.can c.in_ok-center.ensures.can);
     }
+
+pub returns-clause-centers : goal.returns-clause-centers
+returns-clause-centers = grind (arith, common_steps)

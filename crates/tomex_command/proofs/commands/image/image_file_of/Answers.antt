@@ -1,7 +1,6 @@
 -- Closed at once: searching by rules first takes long.
 use Rattle.std.proofs.Common.{arith}
-use Rattle.std.proofs.lemmas.Grind.{common_steps}
 use Rattle.tomex_command.proofs.commands.image.image_file_of.Goals as goal
 
 pub returns-in_err-image-clause-failure : goal.returns-in_err-image-clause-failure
-returns-in_err-image-clause-failure = grind (arith, common_steps)
+returns-in_err-image-clause-failure = grind arith

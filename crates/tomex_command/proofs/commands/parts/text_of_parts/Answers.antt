@@ -1,7 +1,6 @@
 -- Closed at once: searching by rules first takes long.
 use Rattle.std.proofs.Common.{arith}
-use Rattle.std.proofs.lemmas.Grind.{common_steps}
 use Rattle.tomex_command.proofs.commands.parts.text_of_parts.Goals as goal
 
 pub returns-in_err-found-clause-failure : goal.returns-in_err-found-clause-failure
-returns-in_err-found-clause-failure = grind (arith, common_steps)
+returns-in_err-found-clause-failure = grind arith

@@ -1,6 +1,4 @@
 -- What is shown is of the configuration, the program and the file that the study has.
-use Rattle.std.proofs.Common.{arith}
-use Rattle.std.proofs.lemmas.Grind.{common_steps}
 use Rattle.std.proofs.Common.{map}
 use Rattle.std.proofs.lemmas.Result.{IfErr-weaker, IfOk-weaker, err_from_is_err_and}
 use Rattle.tomex_command.specs.Chosen.{choice_of}
@@ -39,6 +37,3 @@ returns-clause-failure g c =
       chosen = rw c.run_of-run.ensures at c.in_ok-chosen.ensures.chosen;
       holds = why;
     })) c.shown.ensures.failure
-
-pub returns-in_err-studied-clause-failure : goal.returns-in_err-studied-clause-failure
-returns-in_err-studied-clause-failure = grind (arith, common_steps)

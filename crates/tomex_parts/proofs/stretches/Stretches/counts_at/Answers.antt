@@ -1,3 +1,4 @@
+use Rattle.std.proofs.lemmas.Grind.{common_steps}
 use Rattle.std.proofs.Common.{rules, ◌≡◌, ◌∙◌, ap, arith, length, sym}
 use Rattle.std.proofs.lemmas.List.{length-replicate}
 use Rattle.std.specs.Prelude.{replicate}
@@ -37,3 +38,6 @@ returns g c = λ run of.
     c.in_ok-counts.counts.len c.args.self.now.words row.size none
     (c.add_row.ensures (counts_at run c.args.stretch) row.sparse (row.size ∙ sym size)) c.add_row.auto.sums
     (omega arith)
+
+pub index-requires : goal.index-requires
+index-requires = grind (arith, common_steps)

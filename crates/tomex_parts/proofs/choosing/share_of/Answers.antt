@@ -1,7 +1,10 @@
 -- Closed at once: searching by rules first takes long.
 use Rattle.std.proofs.Common.{arith}
 use Rattle.std.proofs.lemmas.Grind.{common_steps}
-use Rattle.tomex_page_tables.proofs.settings.push_front_heads.Goals as goal
+use Rattle.tomex_parts.proofs.choosing.share_of.Goals as goal
+
+pub overflow_cast-result : goal.overflow_cast-result
+overflow_cast-result = grind (arith, common_steps)
 
 pub returns : goal.returns
 returns = grind (arith, common_steps)

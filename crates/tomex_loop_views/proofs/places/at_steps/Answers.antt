@@ -1,7 +1,10 @@
 -- Closed at once: searching by rules first takes long.
 use Rattle.std.proofs.Common.{arith}
 use Rattle.std.proofs.lemmas.Grind.{common_steps}
-use Rattle.tomex_page_tables.proofs.steps.push_steps_sentence.Goals as goal
+use Rattle.tomex_loop_views.proofs.places.at_steps.Goals as goal
+
+pub loop-step-preserved : goal.loop-step-preserved
+loop-step-preserved = grind (arith, common_steps)
 
 pub returns : goal.returns
 returns = grind (arith, common_steps)

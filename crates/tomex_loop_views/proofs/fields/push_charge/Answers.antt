@@ -1,7 +1,7 @@
 -- Closed at once: searching by rules first takes long.
 use Rattle.std.proofs.Common.{arith}
 use Rattle.std.proofs.lemmas.Grind.{common_steps}
-use Rattle.tomex_page_tables.proofs.front.push_front_row.Goals as goal
+use Rattle.tomex_loop_views.proofs.fields.push_charge.Goals as goal
 
 pub returns : goal.returns
 returns = grind (arith, common_steps)

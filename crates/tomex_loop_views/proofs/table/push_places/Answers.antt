@@ -1,0 +1,7 @@
+-- Closed at once: searching by rules first takes long.
+use Rattle.std.proofs.Common.{arith}
+use Rattle.std.proofs.lemmas.Grind.{common_steps}
+use Rattle.tomex_loop_views.proofs.table.push_places.Goals as goal
+
+pub returns-clause-fields : goal.returns-clause-fields
+returns-clause-fields = grind (arith, common_steps)
