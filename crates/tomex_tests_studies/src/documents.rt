@@ -3,8 +3,6 @@
 use std::process::Abort;
 use std::test::Fail;
 use tomex_document::{StudyError, file_names};
-use tomex_image::ImageError;
-use tomex_rvexec::{Fault, FaultKind};
 
 mod reading;
 mod studies;
@@ -206,28 +204,5 @@ fn refused_options(rt: HostRuntime) -> Result<(), Fail> {
         }
         option_is_refused(&rt, kind, above, "units out of range")?;
     }
-    Ok(())
-}
-
-/// True if a refusal has this text.
-fn reads<R: AllocGlobal>(rt: &R, error: StudyError, wanted: &str) -> Result<bool, Fail> {
-    let text = format!(in rt.alloc(); "{error}")?;
-    Ok(text.as_str() == wanted)
-}
-
-#[test]
-fn texts_of_the_programs_refusals(rt: HostRuntime) -> Result<(), Fail> {
-    let name = || String::from_str(rt.alloc(), "loop");
-    let fault = Fault {
-        kind: FaultKind::MisalignedTarget,
-        pc: 12,
-    };
-    assert!(rt; reads(&rt, StudyError::Files, "study: wrong number of files")?);
-    let image = StudyError::Image(name()?, ImageError::NotRiscv);
-    assert!(rt; reads(&rt, image, "program loop: image: not RISC-V")?);
-    let said = "program loop: fault: misaligned target at 0000000c";
-    assert!(rt; reads(&rt, StudyError::Fault(name()?, fault), said)?);
-    assert!(rt; reads(&rt, StudyError::TooLong(name()?), "program loop: too long")?);
-    assert!(rt; reads(&rt, StudyError::Memory, "out of memory")?);
     Ok(())
 }

@@ -43,11 +43,3 @@ pub fn surveyed<'s, R: Threads + Sync>(
     }
     Ok(survey(rt, alloc, study, workers, &OpenGate)?)
 }
-
-/// Fails, and names the study, if this is false.
-pub fn holds_for(turn: u32, is_so: bool) -> Result<(), Fail> {
-    if is_so {
-        return Ok(());
-    }
-    Err(Fail::new(format_args!("study {turn}")))
-}

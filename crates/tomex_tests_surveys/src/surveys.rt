@@ -1,4 +1,4 @@
-//! The survey of a worked study by several workers. The modules below are of random studies.
+//! The survey of a worked study by several workers. The modules below: what is evaluated, and studies that are too large.
 
 use crate::{program_of, study_on, surveyed};
 use std::alloc::Global;
@@ -10,9 +10,6 @@ use tomex_tests_fixtures::programs::PRODUCT_WORDS;
 use tomex_texts::rows_report;
 
 mod evaluated;
-mod hulls;
-mod intervals;
-mod plain_runs;
 mod too_large;
 
 /// 1, 2 or 4 alu stations, a fast and expensive or a slow and cheap multiplier, and 1 or 2 buses.
