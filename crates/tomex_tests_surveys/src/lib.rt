@@ -12,4 +12,4 @@ mod surveys;
 mod weights;
 
 #[cfg(test)]
-use studies::{program_of, study_on, surveyed};
+use studies::{study_in, surveyed};

@@ -1,45 +1,33 @@
-//! Studies, and surveys of them.
+//! Studies, read from their documents in memory that never runs out, and surveys of them.
 
-use std::alloc::Global;
-use std::test::Fail;
+use std::alloc::{AllocError, Global};
 use std::thread::Threads;
-use tomex_config::{Config, Prices};
-use tomex_study::{OpenGate, Program, Study, Surveyed};
+use tomex_document::read_study;
+use tomex_study::{OpenGate, Study, Surveyed};
 use tomex_survey::survey;
-use tomex_tests_fixtures::image_of;
+use tomex_tests_fixtures::{Heap, ample};
 
-/// A program of this weight.
-pub fn program_of(alloc: Global, name: &str, words: &[u32], weight: u32) -> Result<Program, Fail> {
-    if weight == 0 || 1_000 < weight {
-        return Err("no weight")?;
+/// The bytes of files.
+fn copies(other: Global, files: &[&[u8]]) -> Result<Vec<Vec<u8, Heap>>, AllocError> {
+    let mut copies = Vec::new(other);
+    for file in files {
+        copies.push(file.to_vec(ample(other)?)?)?;
     }
-    let image = image_of(alloc, 0, 4096, words)?;
-    let name = String::from_str(alloc, name)?;
-    Ok(Program::new(alloc, name, image, 262_144, Vec::new(alloc), weight)?)
+    Ok(copies)
 }
 
-/// The study of these programs on these rows, at these prices.
-pub fn study_on(
-    alloc: Global,
-    programs: Vec<Program>,
-    rows: Vec<Config>,
-    prices: Prices,
-) -> Result<Study, Fail> {
-    if rows.is_empty() || rows.len() > 16_384 || programs.is_empty() || programs.len() > 8 {
-        return Err("too few or too many")?;
-    }
-    Ok(Study::new(alloc, programs, rows, prices, false)?)
+/// The study of a document and its programs' files.
+pub fn study_in(other: Global, document: &str, files: &[&[u8]]) -> Result<Study<Heap>, AllocError> {
+    let files = copies(other, files)?;
+    read_study(ample(other)?, other, document.as_bytes(), files.as_slice()).map_err(|_| AllocError)
 }
 
-/// The survey of a study by this number of workers.
+/// Its survey by this number of workers, from 1 to 32.
 pub fn surveyed<'s, R: Threads + Sync>(
     rt: &R,
-    alloc: Global,
-    study: &'s Study,
+    other: Global,
+    study: &'s Study<Heap>,
     workers: usize,
-) -> Result<Surveyed<'s>, Fail> {
-    if workers < 1 || workers > 32 {
-        return Err("no such number of workers")?;
-    }
-    Ok(survey(rt, alloc, study, workers, &OpenGate)?)
+) -> Result<Surveyed<'s, Heap>, AllocError> {
+    survey(rt, ample(other)?, study, workers.max(1).min(32), &OpenGate)
 }

@@ -1,11 +1,10 @@
 //! The table of a worked study, and what it is made of, with each allocation refused in turn.
 
+use crate::{study_in, surveyed};
 use std::alloc::{AllocError, Global};
 use std::test::Fail;
-use tomex_document::read_study;
-use tomex_study::{OpenGate, Study, Surveyed};
-use tomex_survey::survey;
-use tomex_tests_fixtures::{Attempt, Heap, Try, ample, refusals};
+use tomex_study::Surveyed;
+use tomex_tests_fixtures::{Heap, Try, refusals_of};
 use tomex_weights::{
     listed_rows, relevant_programs, rows_by_weight, weight_columns, weights_table,
 };
@@ -34,82 +33,72 @@ now     -       -    -       2       1\n\
 \x20 3    10      53  78%  0.24..  ..8.49\n\
 \x20 5    12      49  99%     any     any\n";
 
-/// The cycles of the products on each row, and of the sums. With one station a product takes six cycles, and a sum
-/// three, one after another.
-const TIMES: [u64; 12] = [36, 19, 36, 19, 36, 19, 27, 27, 15, 15, 11, 11];
-
-/// The study, in ample memory.
-fn study_in(other: Global) -> Result<Study<Heap>, Fail> {
-    let heap = ample(other)?;
-    let files = vec![in other;
-        PRODUCTS.as_slice().to_vec(heap.clone()?)?,
-        SUMS.as_slice().to_vec(heap.clone()?)?,
-    ]?;
-    Ok(read_study(heap, other, TWO.as_bytes(), files.as_slice())?)
+/// True if the table is right.
+fn is_table(heap: Heap, other: Global, surveyed: &Surveyed<'_, Heap>) -> Result<bool, AllocError> {
+    let text = weights_table(heap, other, surveyed)?;
+    Ok(text.as_slice() == TABLE.as_bytes())
 }
 
-/// The table.
-#[derive(Clone, Copy)]
-struct Table<'a> {
+/// True if all rows are listed.
+fn are_listed(
+    heap: Heap,
     other: Global,
-    surveyed: &'a Surveyed<'a, Heap>,
+    surveyed: &Surveyed<'_, Heap>,
+) -> Result<bool, AllocError> {
+    let columns = weight_columns(other, surveyed)?;
+    let listed = listed_rows(heap, surveyed, columns.as_slice())?;
+    Ok(listed.len() == 6)
 }
 
-impl<'a> Attempt for Table<'a> {
-    fn attempt(&self, heap: Heap) -> Result<Try, AllocError> {
-        match weights_table(heap, self.other, self.surveyed) {
-            Ok(text) => Ok(Try::right_if(text.as_slice() == TABLE.as_bytes())),
-            Err(AllocError) => Ok(Try::Refused),
-        }
+/// True if both programs have a column.
+fn are_relevant(heap: Heap, surveyed: &Surveyed<'_, Heap>) -> Result<bool, AllocError> {
+    Ok(relevant_programs(heap, surveyed)?.len() == 2)
+}
+
+/// True if each row has a line by the first program's weight.
+fn are_by_weight(heap: Heap, surveyed: &Surveyed<'_, Heap>) -> Result<bool, AllocError> {
+    if surveyed.study().programs().is_empty() {
+        return Ok(false);
+    }
+    Ok(rows_by_weight(heap, surveyed, 0)?.len() == 6)
+}
+
+/// The outcome of one of these in this memory.
+fn outcome(part: u32, heap: Heap, other: Global, surveyed: &Surveyed<'_, Heap>) -> Try {
+    let is_right = match part {
+        0 => is_table(heap, other, surveyed),
+        1 => are_listed(heap, other, surveyed),
+        2 => are_relevant(heap, surveyed),
+        _ => are_by_weight(heap, surveyed),
+    };
+    match is_right {
+        Ok(is_right) => Try::right_if(is_right),
+        Err(AllocError) => Try::Refused,
     }
 }
 
-/// The programs with a column, the rows by their weights, and the rows that are listed.
-#[derive(Clone, Copy)]
-struct Parts<'a> {
+/// The number of blocks that it takes.
+fn blocks(
+    part: u32,
     other: Global,
-    surveyed: &'a Surveyed<'a, Heap>,
+    surveyed: &Surveyed<'_, Heap>,
+) -> Result<Option<u64>, AllocError> {
+    Ok(refusals_of!(other, heap => outcome(part, heap, other, surveyed)))
 }
 
-impl<'a> Parts<'a> {
-    /// True if these parts are right.
-    fn are_right(&self, heap: Heap) -> Result<bool, AllocError> {
-        let surveyed = self.surveyed;
-        let columns = weight_columns(self.other, surveyed)?;
-        let listed = listed_rows(heap.clone()?, surveyed, columns.as_slice())?;
-        let relevant = relevant_programs(heap.clone()?, surveyed)?;
-        let mut times = Vec::new(self.other);
-        for place in 0..surveyed.study().programs().len() {
-            for row in rows_by_weight(heap.clone()?, surveyed, place)? {
-                times.push(row.times)?;
-            }
-        }
-        Ok(
-            relevant.iter().copied().eq([0, 1])
-                && listed.iter().map(|row| row.row).eq([0, 2, 1, 4, 3, 5])
-                && times.iter().copied().eq(TIMES),
-        )
+/// True if each of these reports each refusal.
+fn are_reported(other: Global, surveyed: &Surveyed<'_, Heap>) -> Result<bool, AllocError> {
+    let mut all = true;
+    for part in 0..4 {
+        all = blocks(part, other, surveyed)? > Some(0) && all;
     }
-}
-
-impl<'a> Attempt for Parts<'a> {
-    fn attempt(&self, heap: Heap) -> Result<Try, AllocError> {
-        match self.are_right(heap) {
-            Ok(is_right) => Ok(Try::right_if(is_right)),
-            Err(AllocError) => Ok(Try::Refused),
-        }
-    }
+    Ok(all)
 }
 
 #[test]
 fn a_worked_table(rt: HostRuntime) -> Result<(), Fail> {
-    let other = rt.alloc();
-    let study = study_in(other)?;
-    let surveyed = survey(&rt, ample(other)?, &study, 2, &OpenGate)?;
-    let surveyed = &surveyed;
-    let of_table = refusals(other, &Table { other, surveyed })?;
-    assert!(rt; of_table.is_some_and(|n| n > 0));
-    let of_parts = refusals(other, &Parts { other, surveyed })?;
-    assert!(rt; of_parts.is_some_and(|n| n > 0));
+    let study = study_in(rt.alloc(), TWO, &[PRODUCTS.as_slice(), SUMS.as_slice()])?;
+    let surveyed = surveyed(&rt, rt.alloc(), &study, 2)?;
+    assert!(rt; are_reported(rt.alloc(), &surveyed)?);
     Ok(())
 }

@@ -1,44 +1,47 @@
 //! Studies that have too many intervals for a table of prices.
 
-use crate::{program_of, study_on, surveyed};
-use std::alloc::Global;
+use crate::{study_in, surveyed};
+use std::alloc::{AllocError, Global};
 use std::test::Fail;
 use std::thread::Threads;
-use tomex_config::{Config, Prices};
 use tomex_prices::{PricesError, prices_table};
-use tomex_study::Study;
-use tomex_tests_fixtures::machines::{PLAIN, config_of, priced};
-use tomex_tests_fixtures::programs::PRODUCT_WORDS;
+use tomex_tests_fixtures::ample;
+use tomex_tests_fixtures::programs::PRODUCT;
 
-/// This number of rows, all of which are on the front: they differ only in the prices of four
-/// options each, which no other row has, and the sum of these is the same. So there are four
-/// relevant prices for each row.
-fn equals(alloc: Global, count: u32) -> Result<Study, Fail> {
-    let mut rows = Vec::new(alloc);
-    for price in 0..count.min(1_000) {
-        let (a, b) = (priced(1, price), priced(1, 1_000 - price));
-        rows.push(config_of([1; 6], [a, b, a, b, PLAIN], 1, 1)?)?;
-    }
-    let programs = vec![in alloc; program_of(alloc, "mul", PRODUCT_WORDS.as_slice(), 1)?]?;
-    study_on(alloc, programs, rows, Prices::new([0; 6], 0, 0))
+/// Adds an option of a divider. The first 512 differ in units or latency, and cost nothing.
+fn push_option(text: &mut String, other: Global, place: u32) -> Result<(), AllocError> {
+    let (units, latency, price) = (place / 64 % 8 + 1, place % 64 + 1, place / 512);
+    let option = format!(in other; "{{units = {units}, latency = {latency}, price = {price}}},")?;
+    text.push_str(option.as_str())
 }
 
-/// The number of lines in the table of this number of equal rows; `None` if it is too large.
-fn lines<R: Threads + Sync>(rt: &R, alloc: Global, count: u32) -> Result<Option<usize>, Fail> {
-    let study = equals(alloc, count)?;
-    let surveyed = surveyed(rt, alloc, &study, 2)?;
-    match prices_table(alloc, alloc, &surveyed) {
-        Ok(text) => Ok(Some(text.iter().filter(|byte| **byte == b'\n').count())),
-        Err(PricesError::TooLarge) => Ok(None),
-        Err(error) => Err(error)?,
+/// The product, which doesn't divide, on this number of dividers. There is a price for each.
+fn document(other: Global, count: u32) -> Result<String, AllocError> {
+    let mut text = String::from_str(other, "[unit]\ndiv = [")?;
+    for place in 0..count {
+        push_option(&mut text, other, place)?;
+    }
+    text.push_str("]\n[[program]]\nname = \"mul\"\nfile = \"mul.bin\"\n")?;
+    Ok(text)
+}
+
+/// True if the table of this number of dividers is too large.
+fn is_too_large<R: Threads + Sync>(rt: &R, other: Global, count: u32) -> Result<bool, AllocError> {
+    let text = document(other, count)?;
+    let study = study_in(other, text.as_str(), &[PRODUCT.as_slice()])?;
+    let surveyed = surveyed(rt, other, &study, 2)?;
+    match prices_table(ample(other)?, other, &surveyed) {
+        Ok(_) => Ok(false),
+        Err(PricesError::TooLarge) => Ok(true),
+        Err(PricesError::Memory) => Err(AllocError),
     }
 }
 
-/// 256 rows have 256 times 1,024 intervals, which is the most, 262,144; with 257 there are more.
+/// 512 rows of the front have 512 times 512 intervals, which is the most, 262,144. With a price more, of a row that
+/// isn't on the front, there are more.
 #[test]
 fn too_many_intervals_are_refused(rt: HostRuntime) -> Result<(), Fail> {
-    assert!(rt; lines(&rt, rt.alloc(), 40)? == Some(42));
-    assert!(rt; lines(&rt, rt.alloc(), 256)? == Some(258));
-    assert!(rt; lines(&rt, rt.alloc(), 257)? == None);
+    assert!(rt; !is_too_large(&rt, rt.alloc(), 512)?);
+    assert!(rt; is_too_large(&rt, rt.alloc(), 513)?);
     Ok(())
 }
