@@ -1,7 +1,7 @@
 //! What a study's lists lack: what is known isn't asked again, and each allocation refused in turn, of what finds the
 //! new machines, of the table's text, and of what keeps floors.
 
-use crate::study_in;
+use crate::{Counted, OF_PRODUCT, count};
 use std::alloc::{AllocError, Global};
 use std::test::Fail;
 use std::thread::Threads;
@@ -10,7 +10,6 @@ use tomex_choices_table::choices_table;
 use tomex_config::Config;
 use tomex_study::{OpenGate, Study};
 use tomex_survey::{Floored, all_floored};
-use tomex_tests_fixtures::programs::PRODUCT;
 use tomex_tests_fixtures::studies::PRODUCT_STUDY;
 use tomex_tests_fixtures::{Heap, Try, ample, refusals_of};
 
@@ -33,7 +32,7 @@ fn try_to_find<R: Threads + Sync>(rt: &R, heap: Heap, study: &Study<Heap>, worke
 }
 
 /// The number of blocks that it takes.
-fn blocks<R: Threads + Sync>(
+pub fn blocks_of_finding<R: Threads + Sync>(
     rt: &R,
     other: Global,
     study: &Study<Heap>,
@@ -50,8 +49,8 @@ const FOUR: &str = "[[program]]\nname = \"mul\"\nfile = \"mul.bin\"\n[axes]\ndiv
 
 /// The number of blocks that it takes on such machines.
 fn blocks_on<R: Threads + Sync>(rt: &R, other: Global, document: &str) -> Result<u64, Fail> {
-    let study = study_in(other, document, &[PRODUCT.as_slice()])?;
-    Ok(blocks(rt, other, &study, 1)?.ok_or("another answer")?)
+    let blocks = count(rt, other, Counted::Finding(1), document, &OF_PRODUCT)?;
+    Ok(blocks.ok_or("another answer")?)
 }
 
 /// Memory shows it: it grows with the rows only as lists of what is found do.
@@ -62,7 +61,7 @@ fn rows_that_cannot_differ_are_asked_once(rt: HostRuntime) -> Result<(), Fail> {
     // Lists that grow with the rows take a block each time that their number doubles, which it does twice. They are
     // eleven: that of the programs' cycles, and those of new machines, except divide stations, of which four rows have
     // no more than one. Nothing else grows: no program is evaluated again, and no floor.
-    assert!(rt; four <= one.saturating_add(2 * 11), "{one} {four}");
+    assert!(rt; four <= one.saturating_add(2 * 11));
     Ok(())
 }
 
@@ -93,11 +92,21 @@ fn try_to_write(heap: Heap, other: Global, weighed: &WeighedChoices<'_, Heap>) -
 }
 
 /// The number of blocks that the text takes.
-fn blocks_of_writing(
+fn blocks_of_text(
     other: Global,
     weighed: &WeighedChoices<'_, Heap>,
 ) -> Result<Option<u64>, AllocError> {
     Ok(refusals_of!(other, heap => try_to_write(heap, other, weighed)))
+}
+
+/// The same for what is found on a study.
+pub fn blocks_of_writing<R: Threads + Sync>(
+    rt: &R,
+    other: Global,
+    study: &Study<Heap>,
+) -> Result<Option<u64>, AllocError> {
+    let weighed = found(rt, ample(other)?, study, 1)?;
+    blocks_of_text(other, &weighed)
 }
 
 /// The floor of the first program on a row, or 0 if there is none.
@@ -113,40 +122,40 @@ fn first_floor(
 }
 
 /// The same for programs of whose floors nothing is known.
-fn floor_in(heap: Heap, study: &Study<Heap>, row: &Config) -> Result<u64, AllocError> {
+fn floor_in(heap: &Heap, study: &Study<Heap>, row: &Config) -> Result<u64, AllocError> {
     let mut programs = all_floored(heap.clone()?, study.programs())?;
-    first_floor(&heap, programs.as_mut_slice(), row)
+    first_floor(heap, programs.as_mut_slice(), row)
 }
 
 /// Whether the floor is found in this memory. It is that of the table.
 fn try_to_keep(heap: Heap, study: &Study<Heap>, row: &Config) -> Try {
-    match floor_in(heap, study, row) {
+    match floor_in(&heap, study, row) {
         Ok(floor) => Try::right_if(floor == 8),
         Err(AllocError) => Try::Refused,
     }
 }
 
 /// The number of blocks that it takes.
-fn blocks_of_keeping(study: &Study<Heap>, other: Global) -> Result<Option<u64>, AllocError> {
+pub fn blocks_of_keeping(other: Global, study: &Study<Heap>) -> Result<Option<u64>, AllocError> {
     match study.config(0) {
         Some(row) => Ok(refusals_of!(other, heap => try_to_keep(heap, study, row))),
         None => Ok(None),
     }
 }
 
-#[test]
-fn each_refusal_of_memory_is_reported(rt: HostRuntime) -> Result<(), Fail> {
-    let study = study_in(rt.alloc(), PRODUCT_STUDY, &[PRODUCT.as_slice()])?;
-    assert!(rt; blocks(&rt, rt.alloc(), &study, 1)? > Some(13));
-    assert!(rt; blocks(&rt, rt.alloc(), &study, 2)? > Some(26));
-    assert!(rt; blocks_of_keeping(&study, rt.alloc())? > Some(1));
-    Ok(())
-}
+/// What takes more blocks than these.
+static LEAST: [(Counted, u64); 4] = [
+    (Counted::Finding(1), 13),
+    (Counted::Finding(2), 26),
+    (Counted::Writing, 0),
+    (Counted::Keeping, 1),
+];
 
 #[test]
-fn each_refusal_of_the_text_is_reported(rt: HostRuntime) -> Result<(), Fail> {
-    let study = study_in(rt.alloc(), PRODUCT_STUDY, &[PRODUCT.as_slice()])?;
-    let weighed = found(&rt, ample(rt.alloc())?, &study, 1)?;
-    assert!(rt; blocks_of_writing(rt.alloc(), &weighed)? > Some(0));
+fn each_refusal_is_reported(rt: HostRuntime) -> Result<(), Fail> {
+    for (counted, least) in &LEAST {
+        let blocks = count(&rt, rt.alloc(), *counted, PRODUCT_STUDY, &OF_PRODUCT)?;
+        assert!(rt; blocks > Some(*least));
+    }
     Ok(())
 }

@@ -12,4 +12,4 @@ mod surveys;
 mod weights;
 
 #[cfg(test)]
-use studies::{study_in, surveyed};
+use studies::{Claim, Counted, OF_PRODUCT, count, holds};

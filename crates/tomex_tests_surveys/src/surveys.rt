@@ -1,17 +1,18 @@
 //! The survey of a worked study by several workers. The modules below: what is evaluated, and studies that are too
 //! large.
 
-use crate::{study_in, surveyed};
+use crate::{Claim, OF_PRODUCT, holds};
 use std::alloc::{AllocError, Global};
 use std::test::Fail;
-use std::thread::Threads;
-use tomex_study::Study;
-use tomex_tests_fixtures::programs::PRODUCT;
+use tomex_study::Surveyed;
 use tomex_tests_fixtures::{Heap, ample};
 use tomex_texts::rows_report;
 
 mod evaluated;
 mod too_large;
+
+pub use evaluated::evaluations;
+pub use too_large::is_too_large;
 
 /// The product on 1, 2 or 4 alu stations, a fast and expensive or a slow and cheap multiplier, and 1 or 2 buses.
 const STUDY: &str = "[[program]]\nname = \"mul\"\nfile = \"mul.bin\"\n\
@@ -35,23 +36,16 @@ div_units,div_latency,mem_units,mem_latency,bru_units,bru_latency,buses,mul_cycl
 10,80,11,4,1,1,1,1,1,1,1,1,6,1,1,1,1,1,1,1,11,0,0\n\
 11,105,11,4,1,1,1,1,1,1,1,1,6,1,1,1,1,1,1,2,11,0,0\n";
 
-/// True if the rows are those by this number of workers.
-fn are_these<R: Threads + Sync>(
-    rt: &R,
-    other: Global,
-    study: &Study<Heap>,
-    workers: usize,
-) -> Result<bool, AllocError> {
-    let surveyed = surveyed(rt, other, study, workers)?;
-    let text = rows_report(ample(other)?, other, &surveyed)?;
+/// True if a survey has those rows.
+pub fn are_rows(other: Global, surveyed: &Surveyed<'_, Heap>) -> Result<bool, AllocError> {
+    let text = rows_report(ample(other)?, other, surveyed)?;
     Ok(text.as_slice() == ROWS.as_bytes())
 }
 
 #[test]
 fn rows_are_those_of_the_independent_implementation(rt: HostRuntime) -> Result<(), Fail> {
-    let study = study_in(rt.alloc(), STUDY, &[PRODUCT.as_slice()])?;
     for workers in [1, 2, 5, 12, 32] {
-        assert!(rt; are_these(&rt, rt.alloc(), &study, workers)?);
+        assert!(rt; holds(&rt, rt.alloc(), Claim::Rows, STUDY, &OF_PRODUCT, workers)?);
     }
     Ok(())
 }

@@ -1,6 +1,6 @@
 //! The table of a worked study, and what it is made of, with each allocation refused in turn.
 
-use crate::{study_in, surveyed};
+use crate::{Claim, holds};
 use std::alloc::{AllocError, Global};
 use std::test::Fail;
 use tomex_study::Surveyed;
@@ -57,9 +57,7 @@ fn are_relevant(heap: Heap, surveyed: &Surveyed<'_, Heap>) -> Result<bool, Alloc
 
 /// True if each row has a line by the first program's weight.
 fn are_by_weight(heap: Heap, surveyed: &Surveyed<'_, Heap>) -> Result<bool, AllocError> {
-    if surveyed.study().programs().is_empty() {
-        return Ok(false);
-    }
+    surveyed.keeps_limits();
     Ok(rows_by_weight(heap, surveyed, 0)?.len() == 6)
 }
 
@@ -87,7 +85,7 @@ fn blocks(
 }
 
 /// True if each of these reports each refusal.
-fn are_reported(other: Global, surveyed: &Surveyed<'_, Heap>) -> Result<bool, AllocError> {
+pub fn are_reported(other: Global, surveyed: &Surveyed<'_, Heap>) -> Result<bool, AllocError> {
     let mut all = true;
     for part in 0..4 {
         all = blocks(part, other, surveyed)? > Some(0) && all;
@@ -95,10 +93,11 @@ fn are_reported(other: Global, surveyed: &Surveyed<'_, Heap>) -> Result<bool, Al
     Ok(all)
 }
 
+/// The files of the study.
+static FILES: [&[u8]; 2] = [PRODUCTS, SUMS];
+
 #[test]
 fn a_worked_table(rt: HostRuntime) -> Result<(), Fail> {
-    let study = study_in(rt.alloc(), TWO, &[PRODUCTS.as_slice(), SUMS.as_slice()])?;
-    let surveyed = surveyed(&rt, rt.alloc(), &study, 2)?;
-    assert!(rt; are_reported(rt.alloc(), &surveyed)?);
+    assert!(rt; holds(&rt, rt.alloc(), Claim::Reported, TWO, &FILES, 2)?);
     Ok(())
 }

@@ -1,6 +1,6 @@
 //! The programs that a survey evaluates: what is known of one row isn't evaluated again on another.
 
-use crate::study_in;
+use crate::{Counted, count};
 use std::alloc::{AllocError, Global};
 use std::sync::atomic::{AtomicU64, Ordering};
 use std::test::Fail;
@@ -31,22 +31,25 @@ const ALIKE: &str = "[[program]]\nname = \"mul\"\nfile = \"mul.bin\"\n\
 [axes]\ndiv = [1, 2, 3, 4, 5, 6, 7, 8, 9, 10, 11, 12, 13, 14, 15, 16]\nstore = [1, 2, 3, 4]\n\
 [[unit.mul]]\nlatency = 3\n";
 
+/// Their files.
+static FILES: [&[u8]; 2] = [PRODUCT, LOOP];
+
 /// The number of evaluations by one worker.
-fn evaluated<R: Threads + Sync>(
+pub fn evaluations<R: Threads + Sync>(
     rt: &R,
     other: Global,
     study: &Study<Heap>,
-) -> Result<u64, AllocError> {
+) -> Result<Option<u64>, AllocError> {
+    let heap = ample(other)?;
     let gate = Counting {
         evaluated: AtomicU64::new(0),
     };
-    survey(rt, ample(other)?, study, 1, &gate)?;
-    Ok(gate.evaluated.load(Ordering::SeqCst))
+    survey(rt, heap, study, 1, &gate)?;
+    Ok(Some(gate.evaluated.load(Ordering::SeqCst)))
 }
 
 #[test]
 fn each_program_is_evaluated_once_on_rows_that_cannot_differ(rt: HostRuntime) -> Result<(), Fail> {
-    let study = study_in(rt.alloc(), ALIKE, &[PRODUCT.as_slice(), LOOP.as_slice()])?;
-    assert!(rt; evaluated(&rt, rt.alloc(), &study)? == 2);
+    assert!(rt; count(&rt, rt.alloc(), Counted::Evaluations, ALIKE, &FILES)? == Some(2));
     Ok(())
 }
