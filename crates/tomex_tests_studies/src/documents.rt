@@ -38,32 +38,31 @@ fn are_said<R: Abort + AllocGlobal>(rt: &R, studies: &[(&str, &str)]) -> Result<
 const STUDY_OF_TWO: &str = "[[program]]\nname = \"a\"\nfile = \"z.bin\"\n\
     [[program]]\nname = \"b\"\nfile = \"y.bin\"\n";
 
-/// Studies and the names of their files.
-static NAMES: [(&str, &[&str]); 3] = [
-    (STUDY_M, &["mul.bin"]),
-    (STUDY_L, &["loop.bin"]),
-    (STUDY_OF_TWO, &["z.bin", "y.bin"]),
+/// Studies, and the place and the name of their last file.
+static NAMES: [(&str, usize, &str); 3] = [
+    (STUDY_M, 0, "mul.bin"),
+    (STUDY_L, 0, "loop.bin"),
+    (STUDY_OF_TWO, 1, "y.bin"),
 ];
 
-/// True if the names are these.
-fn are_these(names: &[String], files: &[&str]) -> bool {
-    let mut same = names.len() == files.len();
-    for (name, file) in names.iter().zip(files) {
-        same = same && name.as_str() == *file;
+/// True if the last name is this one, at this place.
+fn is_last(names: &[String], place: usize, wanted: &str) -> bool {
+    match names.get(place) {
+        Some(name) => names.len() == place.saturating_add(1) && name.as_str() == wanted,
+        None => false,
     }
-    same
 }
 
-/// True if a study's files have these names.
-fn are_named<R: AllocGlobal>(rt: &R, study: &str, files: &[&str]) -> Result<bool, Fail> {
+/// True if that is so of a study's files.
+fn is_named<R: AllocGlobal>(rt: &R, study: &str, place: usize, name: &str) -> Result<bool, Fail> {
     let names = file_names(rt.alloc(), rt.alloc(), study.as_bytes())?;
-    Ok(are_these(names.as_slice(), files))
+    Ok(is_last(names.as_slice(), place, name))
 }
 
 #[test]
 fn names_of_files(rt: HostRuntime) -> Result<(), Fail> {
-    for (study, files) in &NAMES {
-        assert!(rt; are_named(&rt, study, files)?);
+    for (study, place, name) in &NAMES {
+        assert!(rt; is_named(&rt, study, *place, name)?);
     }
     Ok(())
 }

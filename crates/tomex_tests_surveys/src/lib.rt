@@ -12,4 +12,4 @@ mod surveys;
 mod weights;
 
 #[cfg(test)]
-use studies::{Claim, Counted, OF_PRODUCT, count, holds};
+use studies::{Asked, OF_PRODUCT, ask, outcome_of};

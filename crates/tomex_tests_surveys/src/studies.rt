@@ -2,15 +2,15 @@
 //! has a study, and one a survey, and they lend it to what a test names.
 
 use crate::choices::{blocks_of_finding, blocks_of_keeping, blocks_of_writing};
-use crate::surveys::{are_rows, evaluations, is_too_large};
-use crate::weights::are_reported;
+use crate::surveys::{evaluations, length_of_prices, number_of_rows};
+use crate::weights::fewest_blocks;
 use std::alloc::{AllocError, Global};
 use std::thread::Threads;
 use tomex_document::read_study;
 use tomex_study::{OpenGate, Study, Surveyed};
 use tomex_survey::survey;
 use tomex_tests_fixtures::programs::PRODUCT;
-use tomex_tests_fixtures::{Heap, ample};
+use tomex_tests_fixtures::{Heap, Try, ample};
 
 /// The file of a study of the product.
 pub static OF_PRODUCT: [&[u8]; 1] = [PRODUCT];
@@ -30,21 +30,46 @@ fn study_in(other: Global, document: &str, files: &[&[u8]]) -> Result<Study<Heap
     read_study(ample(other)?, other, document.as_bytes(), files.as_slice()).map_err(|_| AllocError)
 }
 
-/// What a test counts on a study.
+/// What a test asks of a study. Each is a number; there is none if something is wrong.
 #[derive(Clone, Copy)]
-pub enum Counted {
-    /// The blocks in which this number of workers finds the new machines.
+pub enum Asked {
+    /// The number of blocks in which this number of workers finds the new machines.
     Finding(usize),
-    /// Those of the text of the table of the lists.
+    /// That of the text of the table of the lists.
     Writing,
-    /// Those in which a floor is kept.
+    /// That in which a floor is kept.
     Keeping,
-    /// The evaluations of a survey.
+    /// The number of evaluations of a survey.
     Evaluations,
+    /// The number of rows of a survey by this number of workers, if they are those of the worked study.
+    Rows(usize),
+    /// The length of the table of prices, unless it is too large.
+    Prices,
+    /// The fewest blocks that a part of the weights takes.
+    Weights,
 }
 
-impl Counted {
-    /// The number, or `None` if an answer is wrong.
+/// The answer of a survey by this number of workers, from 1 to 32.
+fn answer_of_survey<R: Threads + Sync>(
+    rt: &R,
+    other: Global,
+    study: &Study<Heap>,
+    workers: usize,
+    asked: Asked,
+) -> Result<Option<u64>, AllocError> {
+    let surveyed = survey(rt, ample(other)?, study, workers.max(1).min(32), &OpenGate)?;
+    asked.of(other, &surveyed)
+}
+
+impl Asked {
+    fn of(self, other: Global, surveyed: &Surveyed<'_, Heap>) -> Result<Option<u64>, AllocError> {
+        match self {
+            Asked::Prices => length_of_prices(other, surveyed),
+            Asked::Weights => fewest_blocks(other, surveyed),
+            _ => number_of_rows(other, surveyed),
+        }
+    }
+
     fn on<R: Threads + Sync>(
         self,
         rt: &R,
@@ -52,68 +77,32 @@ impl Counted {
         study: &Study<Heap>,
     ) -> Result<Option<u64>, AllocError> {
         match self {
-            Counted::Finding(workers) => blocks_of_finding(rt, other, study, workers),
-            Counted::Writing => blocks_of_writing(rt, other, study),
-            Counted::Keeping => blocks_of_keeping(other, study),
-            Counted::Evaluations => evaluations(rt, other, study),
+            Asked::Finding(workers) => blocks_of_finding(rt, other, study, workers),
+            Asked::Writing => blocks_of_writing(rt, other, study),
+            Asked::Keeping => blocks_of_keeping(other, study),
+            Asked::Evaluations => evaluations(rt, other, study),
+            Asked::Rows(workers) => answer_of_survey(rt, other, study, workers, self),
+            _ => answer_of_survey(rt, other, study, 2, self),
         }
     }
 }
 
-/// The number on the study of a document.
-pub fn count<R: Threads + Sync>(
+/// The answer of the study of a document and its programs' files.
+pub fn ask<R: Threads + Sync>(
     rt: &R,
     other: Global,
-    counted: Counted,
+    asked: Asked,
     document: &str,
     files: &[&[u8]],
 ) -> Result<Option<u64>, AllocError> {
     let study = study_in(other, document, files)?;
-    counted.on(rt, other, &study)
+    asked.on(rt, other, &study)
 }
 
-/// What a test claims of a survey.
-#[derive(Clone, Copy)]
-pub enum Claim {
-    /// It has the rows of the worked study.
-    Rows,
-    /// The table of prices is refused.
-    TooLarge,
-    /// Weights are right, and what makes them reports each refusal of memory.
-    Reported,
-}
-
-impl Claim {
-    fn is_true(self, other: Global, surveyed: &Surveyed<'_, Heap>) -> Result<bool, AllocError> {
-        match self {
-            Claim::Rows => are_rows(other, surveyed),
-            Claim::TooLarge => is_too_large(other, surveyed),
-            Claim::Reported => are_reported(other, surveyed),
-        }
+/// The outcome of a call that makes this text.
+pub fn outcome_of(text: Result<Vec<u8, Heap>, AllocError>, wanted: &str) -> Try {
+    match text {
+        Ok(text) => Try::right_if(text.as_slice() == wanted.as_bytes()),
+        Err(AllocError) => Try::Refused,
     }
-}
-
-/// True if that is so of the survey of a study by this number of workers, from 1 to 32.
-fn holds_on<R: Threads + Sync>(
-    rt: &R,
-    other: Global,
-    claim: Claim,
-    study: &Study<Heap>,
-    workers: usize,
-) -> Result<bool, AllocError> {
-    let surveyed = survey(rt, ample(other)?, study, workers.max(1).min(32), &OpenGate)?;
-    claim.is_true(other, &surveyed)
-}
-
-/// True if it is so of the study of a document.
-pub fn holds<R: Threads + Sync>(
-    rt: &R,
-    other: Global,
-    claim: Claim,
-    document: &str,
-    files: &[&[u8]],
-    workers: usize,
-) -> Result<bool, AllocError> {
-    let study = study_in(other, document, files)?;
-    holds_on(rt, other, claim, &study, workers)
 }

@@ -1,8 +1,9 @@
 //! The table of a worked study, and what it is made of, with each allocation refused in turn.
 
-use crate::{Claim, holds};
+use crate::{Asked, ask, outcome_of};
 use std::alloc::{AllocError, Global};
 use std::test::Fail;
+use tomex_pareto::FrontRow;
 use tomex_study::Surveyed;
 use tomex_tests_fixtures::{Heap, Try, refusals_of};
 use tomex_weights::{
@@ -33,45 +34,33 @@ now     -       -    -       2       1\n\
 \x20 3    10      53  78%  0.24..  ..8.49\n\
 \x20 5    12      49  99%     any     any\n";
 
-/// True if the table is right.
-fn is_table(heap: Heap, other: Global, surveyed: &Surveyed<'_, Heap>) -> Result<bool, AllocError> {
-    let text = weights_table(heap, other, surveyed)?;
-    Ok(text.as_slice() == TABLE.as_bytes())
-}
-
-/// True if all rows are listed.
-fn are_listed(
+/// The rows that are listed.
+fn listed(
     heap: Heap,
     other: Global,
     surveyed: &Surveyed<'_, Heap>,
-) -> Result<bool, AllocError> {
+) -> Result<Vec<FrontRow, Heap>, AllocError> {
     let columns = weight_columns(other, surveyed)?;
-    let listed = listed_rows(heap, surveyed, columns.as_slice())?;
-    Ok(listed.len() == 6)
+    listed_rows(heap, surveyed, columns.as_slice())
 }
 
-/// True if both programs have a column.
-fn are_relevant(heap: Heap, surveyed: &Surveyed<'_, Heap>) -> Result<bool, AllocError> {
-    Ok(relevant_programs(heap, surveyed)?.len() == 2)
-}
-
-/// True if each row has a line by the first program's weight.
-fn are_by_weight(heap: Heap, surveyed: &Surveyed<'_, Heap>) -> Result<bool, AllocError> {
-    surveyed.keeps_limits();
-    Ok(rows_by_weight(heap, surveyed, 0)?.len() == 6)
-}
-
-/// The outcome of one of these in this memory.
-fn outcome(part: u32, heap: Heap, other: Global, surveyed: &Surveyed<'_, Heap>) -> Try {
-    let is_right = match part {
-        0 => is_table(heap, other, surveyed),
-        1 => are_listed(heap, other, surveyed),
-        2 => are_relevant(heap, surveyed),
-        _ => are_by_weight(heap, surveyed),
-    };
-    match is_right {
-        Ok(is_right) => Try::right_if(is_right),
+/// The outcome of a call that makes a list of this length.
+fn outcome_of_list<T: Copy>(list: Result<Vec<T, Heap>, AllocError>, length: usize) -> Try {
+    match list {
+        Ok(list) => Try::right_if(list.len() == length),
         Err(AllocError) => Try::Refused,
+    }
+}
+
+/// The outcome of one part in this memory: the table, the rows that are listed, the programs with a column, and the
+/// rows by the first program's weight.
+fn outcome(part: u32, heap: Heap, other: Global, surveyed: &Surveyed<'_, Heap>) -> Try {
+    surveyed.keeps_limits();
+    match part {
+        0 => outcome_of(weights_table(heap, other, surveyed), TABLE),
+        1 => outcome_of_list(listed(heap, other, surveyed), 6),
+        2 => outcome_of_list(relevant_programs(heap, surveyed), 2),
+        _ => outcome_of_list(rows_by_weight(heap, surveyed, 0), 6),
     }
 }
 
@@ -84,13 +73,19 @@ fn blocks(
     Ok(refusals_of!(other, heap => outcome(part, heap, other, surveyed)))
 }
 
-/// True if each of these reports each refusal.
-pub fn are_reported(other: Global, surveyed: &Surveyed<'_, Heap>) -> Result<bool, AllocError> {
-    let mut all = true;
+/// The fewest blocks that a part takes, if each is right.
+pub fn fewest_blocks(
+    other: Global,
+    surveyed: &Surveyed<'_, Heap>,
+) -> Result<Option<u64>, AllocError> {
+    let mut fewest = Some(1000);
     for part in 0..4 {
-        all = blocks(part, other, surveyed)? > Some(0) && all;
+        let blocks = blocks(part, other, surveyed)?;
+        if blocks < fewest {
+            fewest = blocks;
+        }
     }
-    Ok(all)
+    Ok(fewest)
 }
 
 /// The files of the study.
@@ -98,6 +93,6 @@ static FILES: [&[u8]; 2] = [PRODUCTS, SUMS];
 
 #[test]
 fn a_worked_table(rt: HostRuntime) -> Result<(), Fail> {
-    assert!(rt; holds(&rt, rt.alloc(), Claim::Reported, TWO, &FILES, 2)?);
+    assert!(rt; ask(&rt, rt.alloc(), Asked::Weights, TWO, &FILES)? > Some(0));
     Ok(())
 }

@@ -1,6 +1,6 @@
 //! The programs that a survey evaluates: what is known of one row isn't evaluated again on another.
 
-use crate::{Counted, count};
+use crate::{Asked, ask};
 use std::alloc::{AllocError, Global};
 use std::sync::atomic::{AtomicU64, Ordering};
 use std::test::Fail;
@@ -50,6 +50,6 @@ pub fn evaluations<R: Threads + Sync>(
 
 #[test]
 fn each_program_is_evaluated_once_on_rows_that_cannot_differ(rt: HostRuntime) -> Result<(), Fail> {
-    assert!(rt; count(&rt, rt.alloc(), Counted::Evaluations, ALIKE, &FILES)? == Some(2));
+    assert!(rt; ask(&rt, rt.alloc(), Asked::Evaluations, ALIKE, &FILES)? == Some(2));
     Ok(())
 }

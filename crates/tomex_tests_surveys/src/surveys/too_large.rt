@@ -1,51 +1,36 @@
 //! Studies that have too many intervals for a table of prices.
 
-use crate::{Claim, OF_PRODUCT, holds};
+use crate::{Asked, OF_PRODUCT, ask};
 use std::alloc::{AllocError, Global};
 use std::test::Fail;
-use std::thread::Threads;
 use tomex_prices::{PricesError, prices_table};
 use tomex_study::Surveyed;
+use tomex_tests_fixtures::studies::PRODUCT_STUDY;
 use tomex_tests_fixtures::{Heap, ample};
 
-/// Adds one of 512 options that differ in units or latency, and cost nothing.
-fn push_option(text: &mut String, other: Global, place: u32) -> Result<(), AllocError> {
-    let (units, latency) = (place / 64 + 1, place % 64 + 1);
-    let option = format!(in other; "{{units = {units}, latency = {latency}}},")?;
-    text.push_str(option.as_str())
-}
+/// The product, which doesn't divide, load or store, on 16,384 machines that differ only in stations and units for
+/// that. All of these cost nothing, so each row is on the front, and there are 18 prices: too many by 32,768 intervals.
+const LARGE: &str = "[[program]]\nname = \"mul\"\nfile = \"mul.bin\"\n[axes]\n\
+load = [1, 2, 3, 4, 5, 6, 7, 8, 9, 10, 11, 12, 13, 14, 15, 16]\n\
+store = [1, 2, 3, 4, 5, 6, 7, 8, 9, 10, 11, 12, 13, 14, 15, 16]\n[unit]\n\
+div = [{}, {units = 2}, {units = 3}, {units = 4}, {units = 5}, {units = 6}, {units = 7}, {units = 8}]\n\
+mem = [{}, {units = 2}, {units = 3}, {units = 4}, {units = 5}, {units = 6}, {units = 7}, {units = 8}]\n";
 
-/// The product, which doesn't divide, on those dividers and on `more`.
-fn document(other: Global, more: &str) -> Result<String, AllocError> {
-    let mut text = String::from_str(other, "[unit]\ndiv = [")?;
-    for place in 0..512u32 {
-        push_option(&mut text, other, place)?;
-    }
-    text.push_str(more)?;
-    text.push_str("]\n[[program]]\nname = \"mul\"\nfile = \"mul.bin\"\n")?;
-    Ok(text)
-}
-
-/// True if the table of a survey is too large.
-pub fn is_too_large(other: Global, surveyed: &Surveyed<'_, Heap>) -> Result<bool, AllocError> {
+/// The length of the table of a survey, unless it is too large.
+pub fn length_of_prices(
+    other: Global,
+    surveyed: &Surveyed<'_, Heap>,
+) -> Result<Option<u64>, AllocError> {
     match prices_table(ample(other)?, other, surveyed) {
-        Ok(_) => Ok(false),
-        Err(PricesError::TooLarge) => Ok(true),
+        Ok(text) => Ok(Some(text.len() as u64)),
+        Err(PricesError::TooLarge) => Ok(None),
         Err(PricesError::Memory) => Err(AllocError),
     }
 }
 
-/// True if that of those dividers is.
-fn is_refused<R: Threads + Sync>(rt: &R, other: Global, more: &str) -> Result<bool, AllocError> {
-    let text = document(other, more)?;
-    holds(rt, other, Claim::TooLarge, text.as_str(), &OF_PRODUCT, 2)
-}
-
-/// 512 rows of the front have 512 times 512 intervals, which is the most, 262,144. With a price more, of a row that
-/// isn't on the front, there are more.
 #[test]
 fn too_many_intervals_are_refused(rt: HostRuntime) -> Result<(), Fail> {
-    assert!(rt; !is_refused(&rt, rt.alloc(), "")?);
-    assert!(rt; is_refused(&rt, rt.alloc(), "{price = 1}")?);
+    assert!(rt; ask(&rt, rt.alloc(), Asked::Prices, PRODUCT_STUDY, &OF_PRODUCT)? > Some(0));
+    assert!(rt; ask(&rt, rt.alloc(), Asked::Prices, LARGE, &OF_PRODUCT)? == None);
     Ok(())
 }
