@@ -138,7 +138,7 @@ static LEAST: [(Asked, u64); 4] = [
     (Asked::Finding(1), 13),
     (Asked::Finding(2), 26),
     (Asked::Writing, 0),
-    (Asked::Keeping, 1),
+    (Asked::Keeping, 0),
 ];
 
 #[test]
