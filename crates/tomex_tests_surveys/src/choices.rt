@@ -39,8 +39,8 @@ fn blocks_of_text(
     Ok(refusals_of!(other, heap => outcome_of(choices_table(heap, other, weighed), TABLE)))
 }
 
-/// Finds the new machines in this memory, by this number of workers, from 1 to 32. The number of blocks that the table's
-/// text takes then.
+/// Finds the new machines in this memory, by this number of workers, from 1 to 32. Then the number of blocks that the
+/// table's text takes.
 fn found<R: Threads + Sync>(
     rt: &R,
     heap: Heap,

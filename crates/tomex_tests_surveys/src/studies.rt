@@ -1,5 +1,5 @@
-//! Studies, read from their documents in memory that never runs out, and what tests find out about them: one function
-//! has a study, and one a survey, and they lend it to what a test names.
+//! Studies, read from their documents in memory that never runs out, and what tests ask of them. One function has a
+//! study, and one its survey, and they lend it to what gives the answer.
 
 use crate::choices::{blocks_of_finding, blocks_of_keeping, blocks_of_writing};
 use crate::surveys::{evaluations, length_of_prices, number_of_rows};
