@@ -76,7 +76,7 @@ fn renew_archive<R: AllocGlobal + Threads + Wait + Sync + Print + Files>(
     let cases = cases_of(rt.alloc(), text).context(format_args!("the archive of {command}"))?;
     check_names(command, cases.as_slice(), words)?;
     let (renewals, named) = renewals_of(rt, cases.as_slice(), words)?;
-    let changed = renewals.len() as u32;
+    let changed = u32::try_from(renewals.len()).unwrap_or(u32::MAX);
     renewed.changed = renewed.changed.saturating_add(changed);
     renewed.same = renewed.same.saturating_add(named.saturating_sub(changed));
     if renewals.is_empty() {

@@ -3,7 +3,7 @@
 //!
 //! Spans: rows one measure of which, cost or cycles, grows with a value, such as a price or a weight, and for which
 //! values of it a row is on the front. And by how much all such values may be wrong at once.
-//! Tests: tomex_tests_sweeps, tomex_tests_surveys.
+//! Tests: tomex_cases, tomex_tests_sweeps.
 #![tactic(auto)]
 
 mod front_row;

@@ -1,6 +1,6 @@
 //! Prices: the values of one price, all others as stated, for which a row of the front stays on it;
 //! the percentage by which all may be wrong at once; and the table of both, also as CSV.
-//! Tests: tomex_tests_surveys.
+//! Tests: tomex_cases, tomex_tests_surveys.
 #![tactic(auto)]
 
 mod counts;

@@ -31,11 +31,6 @@ impl Random {
         self.word() % bound
     }
 
-    /// A number from 0 to this one.
-    pub fn to(&mut self, greatest: u64) -> u64 {
-        u64::from(self.word()) % greatest.saturating_add(1).max(1)
-    }
-
     /// A number from 1 to 4, mostly a low one: of parts, or of cycles.
     pub fn few(&mut self) -> u8 {
         let most = if self.below(3) == 0 { 4 } else { 2 };

@@ -1,9 +1,8 @@
-//! Grids of rows and their costs: the calls succeed if there is memory; and the errors' texts. Each
-//! worked grid is made once.
+//! The largest grids: they are made if there is memory, and no larger one is.
 
 use std::alloc::{AllocError, Global};
 use std::test::Fail;
-use tomex_config::{Axes, Config, GridError, Prices, UnitOption, cost, grid};
+use tomex_config::{Axes, Config, GridError, grid};
 use tomex_tests_fixtures::machines::PLAIN;
 
 /// No value for any part.
@@ -127,21 +126,6 @@ fn rows_of(alloc: Global, axes: &Axes) -> Result<Vec<Config>, GridError> {
     grid(alloc, axes)
 }
 
-/// True if the axes have two rows of these costs.
-fn cost_these(
-    alloc: Global,
-    axes: &Axes,
-    prices: &Prices,
-    costs: [u64; 2],
-) -> Result<bool, GridError> {
-    let rows = rows_of(alloc, axes)?;
-    let mut same = rows.len() == 2;
-    for (config, wanted) in rows.iter().zip(costs) {
-        same = same && cost(config, prices) == wanted;
-    }
-    Ok(same)
-}
-
 /// Rows of the largest grid, each with its place and its parts.
 static PLACES: [(usize, [u8; 4]); 6] = [
     (0, [1, 1, 1, 1]),
@@ -186,98 +170,6 @@ fn each_list_at_its_longest(rt: HostRuntime) -> Result<(), Fail> {
     for list in 0..12 {
         let axes = longest(rt.alloc(), list)?;
         assert!(rt; gives(rt.alloc(), &axes, 16_384, [1; 4])?);
-    }
-    Ok(())
-}
-
-#[test]
-fn a_value_twice_gives_two_rows(rt: HostRuntime) -> Result<(), Fail> {
-    let mut axes = single(rt.alloc())?;
-    axes.mul = vec![in rt.alloc(); 2, 2]?;
-    assert!(rt; gives(rt.alloc(), &axes, 2, [1, 2, 1, 1])?);
-    Ok(())
-}
-
-#[test]
-fn refusals_in_order(rt: HostRuntime) -> Result<(), Fail> {
-    let mut axes = single(rt.alloc())?;
-    axes.bru_units = vec![in rt.alloc(); UnitOption { units: 2, ..PLAIN }]?;
-    assert!(rt; is_refused(rt.alloc(), &axes, GridError::OutOfRange));
-    axes.buses.clear();
-    assert!(rt; is_refused(rt.alloc(), &axes, GridError::EmptyAxis));
-    assert!(rt; !axes.is_too_large());
-    Ok(())
-}
-
-/// One value for each part; the multiplier costs 50, and there are two buses.
-fn priced(alloc: Global) -> Result<Axes, AllocError> {
-    let mut axes = single(alloc)?;
-    axes.mul_units = vec![in alloc; UnitOption { price: 50, ..PLAIN }]?;
-    axes.buses = vec![in alloc; 2]?;
-    Ok(axes)
-}
-
-#[test]
-fn costs_of_two_rows(rt: HostRuntime) -> Result<(), Fail> {
-    let mut axes = priced(rt.alloc())?;
-    axes.alu = vec![in rt.alloc(); 2, 1]?;
-    let prices = Prices::new([10, 100, 0, 0, 0, 0], 7, 0);
-    assert!(rt; cost_these(rt.alloc(), &axes, &prices, [184, 174])?);
-    Ok(())
-}
-
-/// Buses and widths, in the rows' order.
-static WIDTHS: [(u8, u8); 4] = [(1, 4), (1, 2), (3, 4), (3, 2)];
-
-/// True if rows have those buses and widths.
-fn are_of_widths(rows: &[Config]) -> bool {
-    let mut same = rows.len() == 4;
-    for (config, wanted) in rows.iter().zip(&WIDTHS) {
-        same = same && (config.buses(), config.width()) == *wanted;
-    }
-    same
-}
-
-#[test]
-fn widths_vary_the_fastest(rt: HostRuntime) -> Result<(), Fail> {
-    let mut axes = single(rt.alloc())?;
-    axes.buses = vec![in rt.alloc(); 1, 3]?;
-    axes.width = vec![in rt.alloc(); 4, 2]?;
-    assert!(rt; are_of_widths(rows_of(rt.alloc(), &axes)?.as_slice()));
-    axes.width.push(5)?;
-    assert!(rt; is_refused(rt.alloc(), &axes, GridError::OutOfRange));
-    axes.width.clear();
-    assert!(rt; is_refused(rt.alloc(), &axes, GridError::EmptyAxis));
-    Ok(())
-}
-
-#[test]
-fn widths_cost_their_price(rt: HostRuntime) -> Result<(), Fail> {
-    let mut axes = priced(rt.alloc())?;
-    axes.width = vec![in rt.alloc(); 1, 4]?;
-    let prices = Prices::new([10, 100, 0, 0, 0, 0], 7, 1000);
-    assert!(rt; cost_these(rt.alloc(), &axes, &prices, [1174, 4174])?);
-    Ok(())
-}
-
-/// The errors and their texts.
-static TEXTS: [(GridError, &str); 4] = [
-    (GridError::EmptyAxis, "an axis is empty"),
-    (GridError::OutOfRange, "a value is out of range"),
-    (GridError::TooMany, "too many configurations"),
-    (GridError::Memory, "out of memory"),
-];
-
-/// True if an error has this text.
-fn is_shown(alloc: Global, error: GridError, text: &str) -> Result<bool, AllocError> {
-    let shown = format!(in alloc; "{error}")?;
-    Ok(shown.as_str() == text)
-}
-
-#[test]
-fn texts_of_errors(rt: HostRuntime) -> Result<(), Fail> {
-    for (error, text) in &TEXTS {
-        assert!(rt; is_shown(rt.alloc(), *error, text)?);
     }
     Ok(())
 }

@@ -1,5 +1,5 @@
-//! Tests of grids, programs, studies and their documents: of what no contract says. Which documents are read, what
-//! they contain, and the texts of the refusals.
+//! Tests of studies, their documents and their files, and of the largest grids: of what no contract says. Which
+//! documents are read, what they contain, and the texts of the refusals.
 #![tactic(auto)]
 
 #[cfg(test)]
@@ -7,4 +7,4 @@ mod documents;
 #[cfg(test)]
 mod grids;
 #[cfg(test)]
-mod programs;
+mod texts;

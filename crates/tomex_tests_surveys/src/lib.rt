@@ -1,13 +1,9 @@
-//! Tests of surveys, of what lists lack, and of prices and weights: for which of them rows are on the front. Studies
-//! are made at random, and their rows' costs, cycles and dominations computed without a survey.
+//! Tests of surveys, of what lists lack, and of prices and weights: what is evaluated and asked, and how often; worked
+//! examples; and each allocation refused in turn.
 #![tactic(auto)]
 
 #[cfg(test)]
-mod by_hand;
-#[cfg(test)]
 mod choices;
-#[cfg(test)]
-mod random;
 #[cfg(test)]
 mod studies;
 #[cfg(test)]
@@ -16,6 +12,4 @@ mod surveys;
 mod weights;
 
 #[cfg(test)]
-use random::{price, random_study};
-#[cfg(test)]
-use studies::{holds_for, program_of, study_on, surveyed};
+use studies::{Asked, OF_PRODUCT, ask, outcome_of};

@@ -1,39 +1,23 @@
-//! The survey of a worked study by several workers. The modules below are of random studies.
+//! The survey of a worked study by several workers. The modules below: what is evaluated, and studies that are too
+//! large.
 
-use crate::{program_of, study_on, surveyed};
-use std::alloc::Global;
+use crate::{Asked, OF_PRODUCT, ask, outcome_of};
+use std::alloc::{AllocError, Global};
 use std::test::Fail;
-use tomex_config::{Config, Prices};
-use tomex_study::Study;
-use tomex_tests_fixtures::machines::{PLAIN, config_of, priced};
-use tomex_tests_fixtures::programs::PRODUCT_WORDS;
+use tomex_study::Surveyed;
+use tomex_tests_fixtures::{Heap, Try, ample};
 use tomex_texts::rows_report;
 
 mod evaluated;
-mod hulls;
-mod intervals;
-mod plain_runs;
 mod too_large;
 
-/// 1, 2 or 4 alu stations, a fast and expensive or a slow and cheap multiplier, and 1 or 2 buses.
-fn rows_of(alloc: Global) -> Result<Vec<Config>, Fail> {
-    let mut rows = Vec::new(alloc);
-    for row in 0..12usize {
-        let alu = [1, 2, 4][row / 4];
-        let mul = [priced(3, 40), priced(6, 15)][row % 4 / 2];
-        let buses = [1, 2][row % 2];
-        let units = [PLAIN, mul, PLAIN, PLAIN, PLAIN];
-        rows.push(config_of([alu, 1, 1, 1, 1, 1], units, buses, 1)?)?;
-    }
-    Ok(rows)
-}
+pub use evaluated::evaluations;
+pub use too_large::length_of_prices;
 
-/// The product on these rows, at 10 for an alu station and 25 for a bus.
-fn study_of(alloc: Global) -> Result<Study, Fail> {
-    let programs = vec![in alloc; program_of(alloc, "mul", PRODUCT_WORDS.as_slice(), 1)?]?;
-    let prices = Prices::new([10, 0, 0, 0, 0, 0], 25, 0);
-    study_on(alloc, programs, rows_of(alloc)?, prices)
-}
+/// The product on 1, 2 or 4 alu stations, a fast and expensive or a slow and cheap multiplier, and 1 or 2 buses.
+const STUDY: &str = "[[program]]\nname = \"mul\"\nfile = \"mul.bin\"\n\
+[prices]\nalu = 10\nbus = 25\n[axes]\nalu = [1, 2, 4]\nbuses = [1, 2]\n\
+[[unit.mul]]\nlatency = 3\nprice = 40\n[[unit.mul]]\nlatency = 6\nprice = 15\n";
 
 /// The output of an independent implementation.
 const ROWS: &str =
@@ -52,13 +36,22 @@ div_units,div_latency,mem_units,mem_latency,bru_units,bru_latency,buses,mul_cycl
 10,80,11,4,1,1,1,1,1,1,1,1,6,1,1,1,1,1,1,1,11,0,0\n\
 11,105,11,4,1,1,1,1,1,1,1,1,6,1,1,1,1,1,1,2,11,0,0\n";
 
+/// The number of rows of a survey, if they are those.
+pub fn number_of_rows(
+    other: Global,
+    surveyed: &Surveyed<'_, Heap>,
+) -> Result<Option<u64>, AllocError> {
+    match outcome_of(rows_report(ample(other)?, other, surveyed), ROWS) {
+        Try::Answered => Ok(Some(12)),
+        _ => Ok(None),
+    }
+}
+
 #[test]
 fn rows_are_those_of_the_independent_implementation(rt: HostRuntime) -> Result<(), Fail> {
-    let study = study_of(rt.alloc())?;
     for workers in [1, 2, 5, 12, 32] {
-        let surveyed = surveyed(&rt, rt.alloc(), &study, workers)?;
-        let text = rows_report(rt.alloc(), rt.alloc(), &surveyed)?;
-        assert!(rt; text.as_slice() == ROWS.as_bytes(), "{workers} workers");
+        let rows = ask(&rt, rt.alloc(), Asked::Rows(workers), STUDY, &OF_PRODUCT)?;
+        assert!(rt; rows == Some(12));
     }
     Ok(())
 }

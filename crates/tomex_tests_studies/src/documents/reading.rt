@@ -1,33 +1,41 @@
 //! Whole studies, with their programs' files: their results, and damaged ones.
 
 use super::studies::{STUDY_L, STUDY_M};
-use std::alloc::Global;
+use std::alloc::{AllocError, Global};
 use std::test::Fail;
 use tomex_config::Config;
-use tomex_document::{StudyError, file_names, read_study};
+use tomex_document::{StudyError, read_study};
 use tomex_rvdec::PoolId;
 use tomex_study::{Program, Study, WatchRange};
 use tomex_tests_fixtures::programs::{ELF, LOOP, PRODUCT};
 
-/// The result of reading a study and its files.
-fn reading<R: AllocGlobal>(
-    rt: &R,
-    study: &[u8],
-    files: &[&[u8]],
-) -> Result<Result<Study, StudyError>, Fail> {
-    let mut copies = Vec::new(rt.alloc());
+/// The bytes of files.
+fn copies(alloc: Global, files: &[&[u8]]) -> Result<Vec<Vec<u8>>, AllocError> {
+    let mut copies = Vec::new(alloc);
     for file in files {
-        copies.push(file.to_vec(rt.alloc())?)?;
+        copies.push(file.to_vec(alloc)?)?;
     }
-    Ok(read_study(rt.alloc(), rt.alloc(), study, copies.as_slice()))
+    Ok(copies)
+}
+
+/// The study of these bytes and these files.
+fn reading(alloc: Global, study: &[u8], files: &[&[u8]]) -> Result<Study, StudyError> {
+    let copies = copies(alloc, files)?;
+    read_study(alloc, alloc, study, copies.as_slice())
 }
 
 /// The text of the refusal of a study and its files, empty for a study that is read.
-fn refusal<R: AllocGlobal>(rt: &R, study: &str, files: &[&[u8]]) -> Result<String, Fail> {
-    match reading(rt, study.as_bytes(), files)? {
-        Ok(_) => Ok(String::new(rt.alloc())),
-        Err(error) => Ok(format!(in rt.alloc(); "{error}")?),
+fn refusal(alloc: Global, study: &[u8], files: &[&[u8]]) -> Result<String, AllocError> {
+    match reading(alloc, study, files) {
+        Ok(_) => Ok(String::new(alloc)),
+        Err(error) => format!(in alloc; "{error}"),
     }
+}
+
+/// True if that is this text.
+fn is_said(alloc: Global, study: &str, files: &[&[u8]], wanted: &str) -> Result<bool, AllocError> {
+    let text = refusal(alloc, study.as_bytes(), files)?;
+    Ok(text.as_str() == wanted)
 }
 
 const WHOLE: &str = "[[program]]\nname = \"first\"\nfile = \"a\"\nlimit = 4\nwatch = [[8, 4]]\n\
@@ -70,31 +78,22 @@ fn are_its_programs(programs: &[Program]) -> bool {
     }
 }
 
-#[test]
-fn a_study_has_what_its_document_says(rt: HostRuntime) -> Result<(), Fail> {
-    let study = reading(
-        &rt,
-        WHOLE.as_bytes(),
-        &[PRODUCT.as_slice(), LOOP.as_slice()],
-    )??;
-    assert!(rt; study.costs() == [184, 174].as_slice());
-    assert!(rt; study.rows().len() == 2);
-    assert!(rt; is_row(study.config(0), 2));
-    assert!(rt; is_row(study.config(1), 1));
-    assert!(rt; are_its_programs(study.programs()));
-    Ok(())
+/// True if the study is as stated.
+fn is_whole(study: &Study) -> bool {
+    study.costs() == [184, 174].as_slice()
+        && study.rows().len() == 2
+        && is_row(study.config(0), 2)
+        && is_row(study.config(1), 1)
+        && are_its_programs(study.programs())
 }
 
+/// Its files.
+static FILES: [&[u8]; 2] = [PRODUCT, LOOP];
+
 #[test]
-fn files_are_as_many_as_programs(rt: HostRuntime) -> Result<(), Fail> {
-    let product = PRODUCT.as_slice();
-    let wrong = "study: wrong number of files";
-    assert!(rt; refusal(&rt, STUDY_M, &[product])?.as_str() == "");
-    assert!(rt; refusal(&rt, STUDY_M, &[])?.as_str() == wrong);
-    assert!(rt; refusal(&rt, STUDY_M, &[product, product])?.as_str() == wrong);
-    // The document is tested first, the files after they are counted.
-    assert!(rt; refusal(&rt, "", &[])?.as_str() == "study: top: program missing");
-    assert!(rt; refusal(&rt, STUDY_M, &[b"", b""])?.as_str() == wrong);
+fn a_study_has_what_its_document_says(rt: HostRuntime) -> Result<(), Fail> {
+    let study = reading(rt.alloc(), WHOLE.as_bytes(), &FILES)?;
+    assert!(rt; is_whole(&study));
     Ok(())
 }
 
@@ -103,98 +102,122 @@ const LIMITED: &str = "[[program]]\nname = \"first\"\nfile = \"a\"\nlimit = 4\n\
 
 const ZEROS: &[u8; 4] = b"\x00\x00\x00\x00";
 
-/// The files of its programs, and the text of its refusal, empty if it is read.
-static FAILING: [(&[u8], &[u8], &str); 7] = [
-    (PRODUCT, PRODUCT, ""),
-    (b"", ZEROS, "program first: image: empty"),
-    (PRODUCT, b"\x7fELF", "program second: image: truncated"),
-    (PRODUCT, ZEROS, "program second: fault: illegal at 00000000"),
-    (PRODUCT, LOOP, "program second: too long"),
-    (LOOP, ZEROS, "program first: too long"),
+/// Why the number of files is refused.
+const NUMBER: &str = "study: wrong number of files";
+
+/// Studies, their files, and the text of the refusal, empty if the study is read. The document is tested first, the
+/// files after they are counted, and the first program that fails is named.
+static FAILING: [(&str, &[&[u8]], &str); 12] = [
+    (STUDY_M, &[PRODUCT], ""),
+    (STUDY_M, &[], NUMBER),
+    (STUDY_M, &[PRODUCT, PRODUCT], NUMBER),
+    (STUDY_M, &[b"", b""], NUMBER),
+    ("", &[], "study: top: program missing"),
+    (LIMITED, &[PRODUCT, PRODUCT], ""),
+    (LIMITED, &[b"", ZEROS], "program first: image: empty"),
     (
-        ZEROS,
-        b"\x7fELF",
+        LIMITED,
+        &[PRODUCT, b"\x7fELF"],
+        "program second: image: truncated",
+    ),
+    (
+        LIMITED,
+        &[PRODUCT, ZEROS],
+        "program second: fault: illegal at 00000000",
+    ),
+    (LIMITED, &[PRODUCT, LOOP], "program second: too long"),
+    (LIMITED, &[LOOP, ZEROS], "program first: too long"),
+    (
+        LIMITED,
+        &[ZEROS, b"\x7fELF"],
         "program first: fault: illegal at 00000000",
     ),
 ];
 
 #[test]
-fn the_first_program_that_fails_is_named(rt: HostRuntime) -> Result<(), Fail> {
-    for (first, second, wanted) in &FAILING {
-        let said = refusal(&rt, LIMITED, &[*first, *second])?;
-        assert!(rt; said.as_str() == *wanted);
+fn each_refusal_of_files_is_named(rt: HostRuntime) -> Result<(), Fail> {
+    for (study, files, wanted) in &FAILING {
+        assert!(rt; is_said(rt.alloc(), study, files, wanted)?, "{wanted}");
     }
     Ok(())
 }
 
-/// The file with this byte at this place, and `more` program headers after the first one, each
-/// `apart` bytes of memory after the one before.
-fn elf_with(alloc: Global, place: usize, byte: u8, more: u8, apart: u8) -> Result<Vec<u8>, Fail> {
-    let elf = ELF.as_slice();
-    let mut file = elf[..84].to_vec(alloc)?;
-    for number in 1..=more {
-        file.extend_from_slice(&elf[52..84])?;
-        let address = 52 + 32 * usize::from(number) + 8;
-        let [low, high] = (u16::from(apart) * u16::from(number)).to_le_bytes();
-        *file.get_mut(address).ok_or("no header")? = low;
-        *file.get_mut(address + 1).ok_or("no header")? = high;
+/// A file with this byte at this place.
+fn damaged(alloc: Global, file: &[u8], place: usize, byte: u8) -> Result<Vec<u8>, AllocError> {
+    let mut damaged = file.to_vec(alloc)?;
+    if place < damaged.len() {
+        damaged[place] = byte;
     }
-    file.extend_from_slice(&elf[84..])?;
-    *file.get_mut(44).ok_or("no count")? = more.wrapping_add(1);
-    *file.get_mut(place).ok_or("no such place")? = byte;
-    Ok(file)
+    Ok(damaged)
 }
-
-/// A place in the file and the byte there, the number of further segments, their distance, and the
-/// text of the refusal, empty if it is read.
-static IMAGES: [(usize, u8, u8, u8, &str); 9] = [
-    (0, 0x7f, 0, 0, ""),
-    (18, 0x3e, 0, 0, "program a: image: not RISC-V"),
-    (16, 3, 0, 0, "program a: image: not executable"),
-    (42, 31, 0, 0, "program a: image: header size"),
-    (52, 3, 0, 0, "program a: image: dynamic"),
-    (72, 15, 0, 0, "program a: image: segment"),
-    (24, 2, 0, 0, "program a: image: entry"),
-    (0, 0x7f, 1, 0, "program a: image: overlap"),
-    (0, 0x7f, 16, 32, "program a: image: too many segments"),
-];
 
 /// One program at the ELF file's address.
 const ONE_IMAGE: &str = "[[program]]\nname = \"a\"\nfile = \"a\"\nbase = 65536\nsize = 4096\n";
 
+/// True if this file of that program is refused with this text, or read if the text is empty.
+fn is_image(alloc: Global, file: Vec<u8>, wanted: &str) -> Result<bool, AllocError> {
+    is_said(alloc, ONE_IMAGE, &[file.as_slice()], wanted)
+}
+
+/// Bytes at places of the ELF file, and the text of the refusal, empty if it is read.
+static IMAGES: [(usize, u8, &str); 7] = [
+    (0, 0x7f, ""),
+    (18, 0x3e, "program a: image: not RISC-V"),
+    (16, 3, "program a: image: not executable"),
+    (42, 31, "program a: image: header size"),
+    (52, 3, "program a: image: dynamic"),
+    (72, 15, "program a: image: segment"),
+    (24, 2, "program a: image: entry"),
+];
+
 #[test]
 fn each_refusal_of_an_image_is_named(rt: HostRuntime) -> Result<(), Fail> {
-    for (place, byte, more, apart, wanted) in &IMAGES {
-        let file = elf_with(rt.alloc(), *place, *byte, *more, *apart)?;
-        let said = refusal(&rt, ONE_IMAGE, &[file.as_slice()])?;
-        assert!(rt; said.as_str() == *wanted, "{said}");
+    for (place, byte, wanted) in &IMAGES {
+        let file = damaged(rt.alloc(), ELF.as_slice(), *place, *byte)?;
+        assert!(rt; is_image(rt.alloc(), file, wanted)?, "{wanted}");
     }
-    let long = vec![in rt.alloc(); 0u8; 4100]?;
-    let said = refusal(&rt, ONE_IMAGE, &[long.as_slice()])?;
-    assert!(rt; said.as_str() == "program a: image: too large");
     Ok(())
 }
 
-/// True if two refusals of a study have the same text.
-fn are_alike<R: AllocGlobal>(
-    rt: &R,
-    refused: &StudyError,
-    named: &StudyError,
-) -> Result<bool, Fail> {
-    let said = format!(in rt.alloc(); "{refused}")?;
-    let same = said == format!(in rt.alloc(); "{named}")?;
-    Ok(same && said.starts_with("study: "))
+/// A program header of four bytes of memory at 65536.
+const SEGMENT: [u8; 32] = [
+    1, 0, 0, 0, 0, 0, 0, 0, 0, 0, 1, 0, 0, 0, 1, 0, 0, 0, 0, 0, 4, 0, 0, 0, 5, 0, 0, 0, 4, 0, 0, 0,
+];
+
+/// Adds that header, but this many bytes above.
+fn push_segment(file: &mut Vec<u8>, above: u8) -> Result<(), AllocError> {
+    let mut segment = SEGMENT;
+    segment[8] = above;
+    file.extend_from_slice(&segment)
 }
 
-/// True if a damaged study of one program is read with a file that runs, or refused with the same
-/// text as its document without files.
-fn is_answered<R: AllocGlobal>(rt: &R, study: &[u8]) -> Result<bool, Fail> {
-    let read = reading(rt, study, &[LOOP.as_slice()])?;
-    match (read, file_names(rt.alloc(), rt.alloc(), study)) {
-        (Ok(read), Ok(names)) => Ok(names.len() == 1 && read.programs().len() == 1),
-        (Err(refused), Err(named)) => are_alike(rt, &refused, &named),
-        _ => Ok(false),
+/// The ELF file's headers and `more` program headers, each four bytes of memory after the one before.
+fn with_segments(alloc: Global, more: u8, first: u8) -> Result<Vec<u8>, AllocError> {
+    let mut file = damaged(alloc, &ELF[..84], 44, more.wrapping_add(1))?;
+    for number in 0..more {
+        push_segment(&mut file, first.wrapping_add(number.wrapping_mul(4)))?;
     }
+    Ok(file)
+}
+
+#[test]
+fn segments_and_sizes_of_an_image(rt: HostRuntime) -> Result<(), Fail> {
+    let overlapping = with_segments(rt.alloc(), 1, 28)?;
+    assert!(rt; is_image(rt.alloc(), overlapping, "program a: image: overlap")?);
+    let many = with_segments(rt.alloc(), 16, 32)?;
+    assert!(rt; is_image(rt.alloc(), many, "program a: image: too many segments")?);
+    let long = vec![in rt.alloc(); 0u8; 4100]?;
+    assert!(rt; is_image(rt.alloc(), long, "program a: image: too large")?);
+    Ok(())
+}
+
+/// True if a damaged study of one program is read with a file that runs, or refused with the same text as its document
+/// without files.
+fn is_answered<R: AllocGlobal>(rt: &R, study: &[u8]) -> Result<bool, Fail> {
+    let read = refusal(rt.alloc(), study, &[LOOP.as_slice()])?;
+    let named = super::refusal(rt, study)?;
+    let is_read = read.as_str() == "";
+    Ok(read.as_str() == named.as_str() && (is_read || read.as_str().starts_with("study: ")))
 }
 
 #[test]
@@ -206,16 +229,17 @@ fn every_beginning_is_answered(rt: HostRuntime) -> Result<(), Fail> {
     Ok(())
 }
 
+/// The same with one byte replaced.
+fn is_answered_with<R: AllocGlobal>(rt: &R, place: usize, byte: u8) -> Result<bool, Fail> {
+    let damaged = damaged(rt.alloc(), STUDY_L.as_bytes(), place, byte)?;
+    is_answered(rt, damaged.as_slice())
+}
+
 #[test]
 fn every_damaged_byte_is_answered(rt: HostRuntime) -> Result<(), Fail> {
-    let study = STUDY_L.as_bytes();
     for value in [0x00, 0x22, 0xff] {
-        for place in 0..study.len() {
-            let mut damaged = study.to_vec(rt.alloc())?;
-            if place < damaged.len() {
-                damaged[place] = value;
-            }
-            assert!(rt; is_answered(&rt, &damaged)?, "{value} at {place}");
+        for place in 0..STUDY_L.len() {
+            assert!(rt; is_answered_with(&rt, place, value)?, "{value} at {place}");
         }
     }
     Ok(())

@@ -329,24 +329,3 @@ pub static WIDE: [(&str, &str); 16] = [
         "study: program 2: weight out of range",
     ),
 ];
-
-/// Ranges that a program can't watch, and what is wrong with them.
-pub static WATCHED: [(&str, &str); 14] = [
-    ("3", "of wrong kind"),
-    ("[1]", "of wrong kind"),
-    ("[[1, 2], \"a\"]", "of wrong kind"),
-    ("[[1, 2.0]]", "of wrong kind"),
-    ("[[65532, 8]]", "out of range"),
-    ("[[1]]", "out of range"),
-    ("[[]]", "out of range"),
-    ("[[0, 1, 2]]", "out of range"),
-    ("[[0, 0]]", "out of range"),
-    ("[[-1, 1]]", "out of range"),
-    ("[[65536, 1]]", "out of range"),
-    ("[[0, 4097]]", "out of range"),
-    ("[[0, 4096], [0, 1]]", "out of range"),
-    (
-        "[[0, 1], [0, 1], [0, 1], [0, 1], [0, 1], [0, 1], [0, 1], [0, 1], [0, 1]]",
-        "out of range",
-    ),
-];

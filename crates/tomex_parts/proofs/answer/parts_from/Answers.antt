@@ -14,6 +14,3 @@ all_weighed-requires g c =
     (subst (λ (ls : List ℕ). AllCan c.args.stretches.now.parts.items ls) (sym c.as_slice.ensures.value)
     c.in_ok-leaders.ensures.can)
     c.requires.lengths)
-
-pub returns : goal.returns
-returns = grind

@@ -26,6 +26,3 @@ weighed-requires-clause-most g c =
 
 pub loop-share-preserved : goal.loop-share-preserved
 loop-share-preserved = grind (arith, common_steps)
-
-pub returns : goal.returns
-returns = grind

@@ -1,6 +1,0 @@
--- The allocator frees what its inner one does.
-use Rattle.std.proofs.Crossing.{frees}
-use Rattle.tomex_tests_surveys.proofs.weights.worked.a_worked_table.Goals as goal
-
-pub survey-requires-frees-A-Allocator : goal.survey-requires-frees-A-Allocator
-survey-requires-frees-A-Allocator g c κs = record { frees = λ a τ p. frees.frees a.inner τ p }
