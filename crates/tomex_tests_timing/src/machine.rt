@@ -216,14 +216,14 @@ fn a_long_wait_is_skipped(rt: HostRuntime) -> Result<(), Fail> {
     Ok(())
 }
 
-/// True if the run continues through a million ticks and one.
+/// True if the run continues through a million ticks and one, and the tables are those of this cycle.
 fn continues<A: Allocator>(machine: &mut Machine<A>) -> bool {
     for _ in 0..1000001 {
         if !matches!(tick(machine), Progress::Running) {
             return false;
         }
     }
-    cycle_of(machine) == 1000001
+    machine.tables().cycle() == 1000001
 }
 
 /// No machine can know this run in advance: `jal x0,0` has no end.

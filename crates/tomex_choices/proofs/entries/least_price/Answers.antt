@@ -1,4 +1,6 @@
 -- After the last row.
+use Rattle.std.proofs.Common.{arith}
+use Rattle.std.proofs.lemmas.Grind.{common_steps}
 use Rattle.std.proofs.Common.{◌∙◌, ap, ℕ, Option}
 use Rattle.std.specs.Prelude.{unwrap_or}
 use Rattle.tomex_survey.proofs.Leasts.{last_least}
@@ -13,3 +15,6 @@ returns-clause-price c =
     c.args.rows.now c.loop-config.config-index c.loop-config-test.false
     ∙ c.loop-config.invariant.least)
     ∙ least_price_is c.args.rows.now c.args.unit c.args.latency c.args.units c.requires)
+
+pub loop-config-preserved : goal.loop-config-preserved
+loop-config-preserved = grind (arith, common_steps)

@@ -1,4 +1,6 @@
 -- No part yet, one more, and all of them.
+use Rattle.std.proofs.Common.{arith}
+use Rattle.std.proofs.lemmas.Grind.{common_steps}
 use Rattle.std.proofs.Common.{◌≡◌, ◌∙◌, ◌++◌, All, List, ap, append_assoc, length, rules, subst, sym, ℕ}
 use Rattle.std.specs.List.{flat_map}
 use Rattle.std.specs.Vec.Iter.{into_iter_items}
@@ -55,3 +57,6 @@ returns-clause-lists g c =
     search rules in
     all_so_far c.args.parts.items (into_iter_items c.loop-part.part-iterator) c.loop-part.all.lists.items
     (nil_from_length (into_iter_items c.loop-part.part-iterator) none) c.loop-part.invariant.lists
+
+pub returns-clause-totals : goal.returns-clause-totals
+returns-clause-totals = grind (arith, common_steps)

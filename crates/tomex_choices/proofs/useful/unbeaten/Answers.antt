@@ -10,3 +10,6 @@ returns g c =
     let e : passing None c.sort_machines.new.machines.items ≡ c.loop-x.unbeaten.items = grind (arith, common_steps) in
     subst (AreUnbeaten c.args.machines.items) e (passed c.args.machines.items c.sort_machines.new.machines.items
     c.sort_machines.ensures.moved c.sort_machines.ensures.order)
+
+pub loop-x-preserved : goal.loop-x-preserved
+loop-x-preserved = grind (arith, common_steps)

@@ -5,6 +5,3 @@ use Rattle.tomex_parts.proofs.choosing.share_of.Goals as goal
 
 pub overflow_cast-result : goal.overflow_cast-result
 overflow_cast-result = grind (arith, common_steps)
-
-pub returns : goal.returns
-returns = grind (arith, common_steps)

@@ -5,6 +5,3 @@ use Rattle.tomex_worth.proofs.records.shown_programs.Goals as goal
 
 pub returns-then-programs-gt1 : goal.returns-then-programs-gt1
 returns-then-programs-gt1 = grind (arith, common_steps)
-
-pub returns-else-programs-gt1 : goal.returns-else-programs-gt1
-returns-else-programs-gt1 = grind (arith, common_steps)

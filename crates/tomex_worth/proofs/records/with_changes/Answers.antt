@@ -5,6 +5,3 @@ use Rattle.tomex_worth.proofs.records.with_changes.Goals as goal
 
 pub returns : goal.returns
 returns = grind (arith, common_steps)
-
-pub loop-change-preserved : goal.loop-change-preserved
-loop-change-preserved = grind (arith, common_steps)

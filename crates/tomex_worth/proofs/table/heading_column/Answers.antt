@@ -5,6 +5,3 @@ use Rattle.tomex_worth.proofs.table.heading_column.Goals as goal
 
 pub loop-change-preserved : goal.loop-change-preserved
 loop-change-preserved = grind (arith, common_steps)
-
-pub returns : goal.returns
-returns = grind (arith, common_steps)

@@ -5,12 +5,3 @@ use Rattle.tomex_worth.proofs.table.program_column.Goals as goal
 
 pub loop-change-preserved : goal.loop-change-preserved
 loop-change-preserved = grind (arith, common_steps)
-
-pub total-total-requires-clause-place : goal.total-total-requires-clause-place
-total-total-requires-clause-place = grind (arith, common_steps)
-
-pub total-other-requires-clause-place : goal.total-other-requires-clause-place
-total-other-requires-clause-place = grind (arith, common_steps)
-
-pub returns : goal.returns
-returns = grind (arith, common_steps)
