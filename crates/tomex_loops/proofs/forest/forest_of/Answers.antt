@@ -1,4 +1,4 @@
--- Closed at once: a search by rules takes long before it fails.
+-- Closed at once: searching by rules first takes long.
 use Rattle.std.proofs.Common.{arith}
 use Rattle.tomex_loops.proofs.forest.forest_of.Goals as goal
 

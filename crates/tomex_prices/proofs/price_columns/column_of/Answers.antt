@@ -1,4 +1,4 @@
--- Closed at once: a search by rules takes long before it fails.
+-- Closed at once: searching by rules first takes long.
 use Rattle.std.proofs.Common.{arith}
 use Rattle.std.proofs.lemmas.Grind.{common_steps}
 use Rattle.tomex_prices.proofs.price_columns.column_of.Goals as goal

@@ -1,4 +1,4 @@
--- Closed at once: a search by rules takes long before it fails.
+-- Closed at once: searching by rules first takes long.
 use Rattle.std.proofs.Common.{arith}
 use Rattle.std.proofs.lemmas.Grind.{common_steps}
 use Rattle.tomex_front_views.proofs.plot.points.push_circles.Goals as goal
