@@ -6,7 +6,7 @@ ghost use Rattle.tomex_prices.specs.declared.prices_error.PricesError.TheVariant
 use std::alloc::{AllocError, AllocFailed};
 
 /// Why a study has no table of its prices.
-#[derive(Clone, Copy, Drop, PartialEq, Eq)]
+#[derive(Clone, Copy, Debug, Drop, PartialEq, Eq)]
 pub enum PricesError {
     /// Too many rows of the front times relevant prices.
     TooLarge,

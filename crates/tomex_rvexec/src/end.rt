@@ -19,7 +19,7 @@ pub struct End<A: Allocator = Global> {
 }
 
 /// Why a run has no end.
-#[derive(Clone, Copy, Drop, PartialEq, Eq)]
+#[derive(Clone, Copy, Debug, Drop, PartialEq, Eq)]
 pub enum RunError {
     /// An instruction can't be carried out.
     Fault(Fault),

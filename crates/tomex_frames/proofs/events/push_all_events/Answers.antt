@@ -5,3 +5,6 @@ use Rattle.tomex_frames.proofs.events.push_all_events.Goals as goal
 
 pub loop-event-preserved : goal.loop-event-preserved
 loop-event-preserved = grind (arith, common_steps)
+
+pub returns : goal.returns
+returns = grind (arith, common_steps)

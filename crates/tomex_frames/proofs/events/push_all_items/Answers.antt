@@ -5,3 +5,6 @@ use Rattle.tomex_frames.proofs.events.push_all_items.Goals as goal
 
 pub loop-entry-preserved : goal.loop-entry-preserved
 loop-entry-preserved = grind (arith, common_steps)
+
+pub returns : goal.returns
+returns = grind (arith, common_steps)

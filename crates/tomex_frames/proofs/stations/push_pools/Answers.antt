@@ -5,3 +5,6 @@ use Rattle.tomex_frames.proofs.stations.push_pools.Goals as goal
 
 pub loop-pool-preserved : goal.loop-pool-preserved
 loop-pool-preserved = grind (arith, common_steps)
+
+pub returns : goal.returns
+returns = grind (arith, common_steps)

@@ -5,3 +5,9 @@ use Rattle.tomex_texts.proofs.end_texts.range_texts.Goals as goal
 
 pub loop-range-preserved : goal.loop-range-preserved
 loop-range-preserved = grind (arith, common_steps)
+
+pub split_at-requires : goal.split_at-requires
+split_at-requires = grind (arith, common_steps)
+
+pub returns : goal.returns
+returns = grind (arith, common_steps)
