@@ -1,6 +1,7 @@
 //! A thread that can't be started.
 
-use super::study_of;
+use super::{LOOP_ALONE, THREE};
+use crate::answers::study_in;
 use core::thread::Stack;
 use std::sync::Wait;
 use std::test::Fail;
@@ -31,22 +32,19 @@ fn is_said<R: AllocGlobal + Threads + Wait + Sync>(
     workers: usize,
 ) -> bool {
     let stacks = Absurd { worker };
-    let outcome = explore_on(
-        rt,
-        rt.alloc(),
-        study,
-        workers.max(1).min(32),
-        &OpenGate,
-        &stacks,
-    );
+    let workers = workers.max(1).min(32);
+    let outcome = explore_on(rt, rt.alloc(), study, workers, &OpenGate, &stacks);
     matches!(outcome, Err(SweepError::Worker))
 }
 
+/// Workers whose thread is refused, and how many there are.
+static REFUSED: [(usize, usize); 4] = [(0, 1), (0, 3), (1, 2), (2, 3)];
+
 #[test]
 fn a_refused_thread_is_an_error(rt: HostRuntime) -> Result<(), Fail> {
-    let study = study_of(rt.alloc(), [(1, 5), (10, 9), (1, 9)].as_slice())?;
-    for (worker, workers) in [(0, 1), (0, 3), (1, 2), (2, 3)] {
-        assert!(rt; is_said(&rt, &study, worker, workers));
+    let study = study_in(rt.alloc(), rt.alloc(), THREE, &LOOP_ALONE)?;
+    for (worker, workers) in &REFUSED {
+        assert!(rt; is_said(&rt, &study, *worker, *workers));
     }
     Ok(())
 }
