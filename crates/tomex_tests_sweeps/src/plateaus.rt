@@ -1,16 +1,18 @@
 //! More plateaus than a worker keeps for a program, and as many rows as a study may have.
 
-use crate::answers::explored;
-use crate::sweeps::shared::counted;
-use std::alloc::Global;
+use crate::answers::{image_in, marks_in};
+use crate::sweeps::shared::Counting;
+use std::alloc::{AllocError, Global};
+use std::sync::Wait;
 use std::test::Fail;
+use std::thread::Threads;
 use tomex_config::{Config, Prices};
-use tomex_sweep::{FrontRow, OpenGate, Program, Study};
-use tomex_tests_fixtures::image_of;
+use tomex_sweep::{Gate, OpenGate, Program, Study};
 use tomex_tests_fixtures::machines::{config_of, unit};
+use tomex_tests_fixtures::{Heap, ample};
 
 /// `addi x1,x0,2; addi x1,x1,-1; bne x1,x0,-4; ebreak`: five steps, which use the alu and the branch unit.
-const TWICE: [u32; 4] = [0x00200093, 0xfff08093, 0xfe009ee3, 0x00100073];
+const TWICE: &[u8; 16] = b"\x93\x00\x20\x00\x93\x80\xf0\xff\xe3\x9e\x00\xfe\x73\x00\x10\x00";
 
 /// How many instructions issue in a cycle, and how many stations the alu has: three machines on which the program waits
 /// for different parts, whatever the latencies are.
@@ -26,8 +28,13 @@ fn row_of(number: u32) -> Result<Config, Fail> {
 
 /// Rows on which the program takes different cycles, each from another plateau, but again from the first one on after
 /// every `different` rows; and one row more.
-fn rows_of(alloc: Global, count: u32, different: u32, last: u32) -> Result<Vec<Config>, Fail> {
-    let mut rows = Vec::new(alloc);
+fn rows_of(
+    other: Global,
+    count: u32,
+    different: u32,
+    last: u32,
+) -> Result<Vec<Config, Heap>, Fail> {
+    let mut rows = Vec::new(ample(other)?);
     for number in 0..count {
         rows.push(row_of(number % different.max(1))?)?;
     }
@@ -36,56 +43,62 @@ fn rows_of(alloc: Global, count: u32, different: u32, last: u32) -> Result<Vec<C
 }
 
 /// The program of the short loop.
-fn program(alloc: Global) -> Result<Program, Fail> {
-    let image = image_of(alloc, 0, 64, TWICE.as_slice())?;
-    let name = String::from_str(alloc, "twice")?;
-    Ok(Program::new(alloc, name, image, 100, Vec::new(alloc), 1)?)
+fn twice(other: Global) -> Result<Program<Heap>, AllocError> {
+    let (heap, names, watches) = (ample(other)?, ample(other)?, ample(other)?);
+    let image = image_in(other, TWICE.as_slice(), 64)?;
+    let (name, watch) = (String::new(names), Vec::new(watches));
+    let program = Program::new(heap, name, image, 100, watch, 1);
+    program.ok().ok_or(AllocError)
 }
 
 /// Its study on rows.
-fn study_on(alloc: Global, rows: Vec<Config>) -> Result<Study, Fail> {
-    if rows.is_empty() || rows.len() > 16_384 {
-        return Err("no rows")?;
+fn study_on(other: Global, rows: Vec<Config, Heap>) -> Result<Study<Heap>, AllocError> {
+    let heap = ample(other)?;
+    let programs = vec![in ample(other)?; twice(other)?]?;
+    if programs.len() != 1 || rows.is_empty() || rows.len() > 16_384 {
+        return Err(AllocError);
     }
-    let programs = vec![in alloc; program(alloc)?]?;
-    let prices = Prices::new([0; 6], 0, 0);
-    Ok(Study::new(alloc, programs, rows, prices, false)?)
+    Study::new(heap, programs, rows, Prices::new([0; 6], 0, 0), false)
 }
 
-/// The study of such rows.
-fn study_of(alloc: Global, count: u32, different: u32, last: u32) -> Result<Study, Fail> {
-    study_on(alloc, rows_of(alloc, count, different, last)?)
+/// The number of rows that are marked on these rows by this number of workers.
+fn marked<R: AllocGlobal + Threads + Wait + Sync, G: Gate + Sync>(
+    rt: &R,
+    rows: Vec<Config, Heap>,
+    workers: usize,
+    gate: &G,
+) -> Result<usize, AllocError> {
+    let study = study_on(rt.alloc(), rows)?;
+    Ok(marks_in(rt, ample(rt.alloc())?, &study, workers, gate)?.len())
 }
 
-/// Rows again, after 8,198 others, and the evaluations that they need: the plateaus of the first
-/// six were replaced, those of these two were not.
-static AGAIN: [(u32, u64); 4] = [(0, 8199), (5, 8199), (6, 8198), (8197, 8198)];
+/// The number of rows that one worker takes, and of the programs that are new to it on them, if this row comes again
+/// after 8,198 others.
+fn counted<R: AllocGlobal + Threads + Wait + Sync>(rt: &R, again: u32) -> Result<[u64; 2], Fail> {
+    let gate = Counting::new();
+    let rows = rows_of(rt.alloc(), 8198, 8198, again)?;
+    marked(rt, rows, 1, &gate)?;
+    Ok(gate.counts())
+}
+
+/// Rows again, after 8,198 others, and the evaluations that they need: the plateaus of the first six were replaced, that
+/// of the seventh was not.
+static AGAIN: [(u32, u64); 2] = [(5, 8199), (6, 8198)];
 
 /// The oldest plateau is replaced if there are more than 8,192; it is learnt again if its row comes
 /// again.
 #[test]
 fn the_oldest_plateau_goes_first(rt: HostRuntime) -> Result<(), Fail> {
     for (again, runs) in &AGAIN {
-        let study = study_of(rt.alloc(), 8198, 8198, *again)?;
-        assert!(rt; counted(&rt, &study)? == [8199, *runs]);
+        assert!(rt; counted(&rt, *again)? == [8199, *runs]);
     }
     Ok(())
 }
 
-/// True if a front has every 128th of 16,384 rows.
-fn is_of_each_128th(front: &[FrontRow]) -> bool {
-    let mut same = front.len() == 128;
-    for row in front {
-        same = same && row.row % 128 == 0;
-    }
-    same
-}
-
-/// A study may have 16,384 rows. Here 128 of them are the fastest, and equal.
+/// A study may have 16,384 rows.
 #[test]
 fn a_study_has_as_many_rows_as_it_may(rt: HostRuntime) -> Result<(), Fail> {
-    let study = study_of(rt.alloc(), 16_383, 128, 127)?;
-    let front = explored(&rt, rt.alloc(), &study, 3, &OpenGate)?.front;
-    assert!(rt; is_of_each_128th(front.as_slice()));
+    let rows = rows_of(rt.alloc(), 16_383, 128, 127)?;
+    assert!(rt; marked(&rt, rows, 3, &OpenGate)? == 16_384);
     Ok(())
 }

@@ -1,18 +1,16 @@
 //! Which rows are dropped, and at which look.
 
-use crate::answers::{explored, study_in};
+use crate::answers::{LOOP_ALONE, explored};
+use std::alloc::AllocError;
 use std::sync::Wait;
 use std::test::Fail;
 use std::thread::Threads;
 use tomex_sweep::{Mark, OpenGate};
-use tomex_tests_fixtures::programs::LOOP;
+use tomex_tests_fixtures::ample;
 
 mod many;
 mod refused;
 pub mod shared;
-
-/// The file of the loop.
-pub static LOOP_ALONE: [&[u8]; 1] = [LOOP];
 
 /// Three rows, whose alu units are slower and cost more.
 pub const THREE: &str = "[[program]]\nname = \"loop\"\nfile = \"loop.bin\"\n\
@@ -28,10 +26,9 @@ fn gives_marks<R: AllocGlobal + Threads + Wait + Sync>(
     rt: &R,
     document: &str,
     marks: &[Mark],
-) -> Result<bool, Fail> {
-    let study = study_in(rt.alloc(), rt.alloc(), document, &LOOP_ALONE)?;
-    let outcome = explored(rt, rt.alloc(), &study, 1, &OpenGate)?;
-    Ok(outcome.marks.as_slice() == marks)
+) -> Result<bool, AllocError> {
+    let found = explored(rt, ample(rt.alloc())?, document, &LOOP_ALONE, 1, &OpenGate)?;
+    Ok(found.as_slice() == marks)
 }
 
 /// The slow rows take 2,500 and 3,000 cycles. A worker looks at each multiple of 1,024. At 2,048

@@ -15,39 +15,23 @@ use tomex_board::{Board, Bound, Plan, Seat};
 /// The most turns that a thread waits for another.
 const TURNS: u32 = 10_000_000;
 
-/// Claims every row, upwards or downwards. For each row, true if the claim succeeded.
-fn claim_all<J: Plan>(
-    alloc: Global,
-    board: &Board<J>,
-    mut seat: Seat<J>,
-    rows: usize,
-    upwards: bool,
-) -> Result<Vec<bool>, AllocError>
+/// Claims every row, upwards or downwards. The number of claims that succeeded.
+fn claim_all<J: Plan>(board: &Board<J>, mut seat: Seat<J>, rows: usize, upwards: bool) -> u32
     requires board { seat.board ≡ board.now }
     requires rows { rows ≡ length J.costs }
-    ensures { IfOk result (λ v. length v.items ≡ rows) }
 {
-    let mut won = vec![in alloc; false; rows]?;
+    let mut won = 0u32;
     for k in 0..rows {
         let i = if upwards { k } else { rows - 1 - k };
-        won[i] = board.claim(&mut seat, i);
-    }
-    Ok(won)
-}
-
-/// The number of rows that exactly one thread won.
-fn differing(up: &[bool], down: &[bool]) -> u32 {
-    let mut once = 0u32;
-    for (first, second) in up.iter().zip(down) {
-        if *first != *second {
-            once = once.wrapping_add(1);
+        if board.claim(&mut seat, i) {
+            won = won.wrapping_add(1);
         }
     }
-    once
+    won
 }
 
-/// The number of rows that exactly one of two threads won, if both claim all of them.
-fn won_once<J: Plan + Send + Sync, R: Threads + Sync>(
+/// The number of claims that succeeded, if two threads claim all rows.
+fn won_by_both<J: Plan + Send + Sync, R: Threads + Sync>(
     rt: &R,
     alloc: Global,
     costs: &[u64],
@@ -57,14 +41,13 @@ fn won_once<J: Plan + Send + Sync, R: Threads + Sync>(
 {
     let (board, seat) = Board::<J, Global>::new(alloc, costs)?;
     let (a, b) = board.split(seat);
-    let rows = costs.len();
-    let shared = &board;
+    let (shared, rows) = (&board, costs.len());
     let (up, down) = join(
         rt,
-        move || claim_all(alloc, shared, a, rows, true),
-        move || claim_all(alloc, shared, b, rows, false),
+        move || claim_all(shared, a, rows, true),
+        move || claim_all(shared, b, rows, false),
     );
-    Ok(differing(up?.as_slice(), down?.as_slice()))
+    Ok(up.wrapping_add(down))
 }
 
 /// Rows that all cost 7.
@@ -78,7 +61,7 @@ fn alike(alloc: Global, rows: usize) -> Result<Vec<u64>, AllocError>
 #[test]
 fn each_row_is_claimed_once(rt: HostRuntime) -> Result<(), Fail> {
     let costs = alike(rt.alloc(), 16_384)?;
-    assert!(rt; won_once::<Brand, _>(&rt, rt.alloc(), costs.as_slice())? == 16_384);
+    assert!(rt; won_by_both::<Brand, _>(&rt, rt.alloc(), costs.as_slice())? == 16_384);
     Ok(())
 }
 

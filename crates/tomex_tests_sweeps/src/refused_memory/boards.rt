@@ -3,57 +3,34 @@
 ghost use Rattle.std.specs.Prelude.{◌≡◌};
 ghost use Rattle.tomex_board.specs.Plans.{IsPlan};
 
+use crate::answers::granted;
 use std::alloc::{AllocError, Global};
 use std::marker::Brand;
 use std::test::Fail;
-use tomex_board::{Board, Mark, Plan};
-use tomex_tests_fixtures::{Attempt, Heap, Try, refusals};
+use tomex_board::{Board, Plan};
+use tomex_tests_fixtures::{Heap, refusals_of};
 
-/// Makes a board of rows with these costs, and closes it at once.
-fn closed_at_once<J: Plan>(heap: Heap, costs: &[u64]) -> Try
+/// The number of blocks that a board of rows with these costs takes.
+fn blocks_of_board<J: Plan>(other: Global, costs: &[u64]) -> Result<Option<u64>, AllocError>
     requires costs { costs.now ≡ J.costs }
     requires plan { IsPlan J.costs J.cycles }
 {
-    match Board::<J, Heap>::new(heap, costs) {
-        Ok((board, seat)) => {
-            let marks = board.close(seat);
-            Try::right_if(marks.last() == Some(&Mark::Open))
-        }
-        Err(AllocError) => Try::Refused,
+    Ok(refusals_of!(other, heap => granted(Board::<J, Heap>::new(heap, costs).is_ok())))
+}
+
+/// The same for 1 to 16,384 rows, each of one cycle.
+fn blocks_of(other: Global, costs: &[u64]) -> Result<Option<u64>, AllocError> {
+    if costs.is_empty() || costs.len() > 16_384 {
+        return Ok(None);
     }
+    blocks_of_board::<Brand>(other, costs)
 }
 
-/// Makes a board of rows with these costs, each of one cycle.
-#[derive(Clone, Copy)]
-struct NewBoard<'a> {
-    costs: &'a [u64],
-}
-
-impl<'a> Attempt for NewBoard<'a> {
-    fn attempt(&self, heap: Heap) -> Result<Try, AllocError> {
-        if self.costs.is_empty() || self.costs.len() > 16_384 {
-            return Ok(Try::Wrong);
-        }
-        Ok(closed_at_once::<Brand>(heap, self.costs))
-    }
-}
-
-/// True if a board of rows with these costs takes more than `blocks` blocks.
-fn takes_more(alloc: Global, costs: &[u64], blocks: u64) -> Result<bool, AllocError> {
-    Ok(refusals(alloc, &NewBoard { costs })? > Some(blocks))
-}
-
-/// Blocks for the marks, the set of costs and its list, the words and those of bands, the costs, and the table.
+/// Blocks for the marks, the set of costs and its list, the words and those of bands, the costs, the table, and for the
+/// floors that are spread among more costs than there are bands.
 #[test]
-fn of_two_rows(rt: HostRuntime) -> Result<(), Fail> {
-    assert!(rt; takes_more(rt.alloc(), [5, 9].as_slice(), 6)?);
-    Ok(())
-}
-
-/// And for the floors that are spread among more costs than there are bands.
-#[test]
-fn of_a_hundred_rows(rt: HostRuntime) -> Result<(), Fail> {
+fn of_boards(rt: HostRuntime) -> Result<(), Fail> {
     let costs: Vec<u64> = (0..100u64).collect(rt.alloc())?;
-    assert!(rt; takes_more(rt.alloc(), costs.as_slice(), 8)?);
+    assert!(rt; blocks_of(rt.alloc(), costs.as_slice())? > Some(8));
     Ok(())
 }

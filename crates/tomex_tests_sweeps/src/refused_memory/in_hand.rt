@@ -1,11 +1,13 @@
 //! A worker that runs out of memory with a row in hand.
 
-use crate::answers::{explored, study_in};
+use crate::answers::{LOOP_ALONE, explored};
+use std::alloc::AllocError;
+use std::sync::Wait;
 use std::sync::atomic::{AtomicU64, Ordering};
 use std::test::Fail;
 use std::thread;
-use tomex_sweep::{Gate, SweepError};
-use tomex_tests_fixtures::programs::LOOP;
+use std::thread::Threads;
+use tomex_sweep::Gate;
 use tomex_tests_fixtures::studies::DROPPED;
 use tomex_tests_fixtures::{Heap, heap_of};
 
@@ -33,18 +35,19 @@ impl Gate for Spending {
     }
 }
 
-/// The file of the loop.
-static LOOP_ALONE: [&[u8]; 1] = [LOOP];
-
-#[test]
-fn memory_is_refused_with_a_row_in_hand(rt: HostRuntime) -> Result<(), Fail> {
+/// True if two workers report that memory is refused, once a row is in hand.
+fn is_refused<R: AllocGlobal + Threads + Wait + Sync>(rt: &R) -> Result<bool, AllocError> {
     let heap = heap_of(rt.alloc(), 2_000)?;
-    let study = study_in(heap.clone()?, rt.alloc(), DROPPED, &LOOP_ALONE)?;
     let gate = Spending {
         heap: heap.clone()?,
         spent: AtomicU64::new(0),
     };
-    let outcome = explored(&rt, heap, &study, 2, &gate);
-    assert!(rt; matches!(outcome, Err(SweepError::Memory)));
+    let marks = explored(rt, heap, DROPPED, &LOOP_ALONE, 2, &gate);
+    Ok(marks.is_err() && gate.spent.load(Ordering::SeqCst) == 1)
+}
+
+#[test]
+fn memory_is_refused_with_a_row_in_hand(rt: HostRuntime) -> Result<(), Fail> {
+    assert!(rt; is_refused(&rt)?);
     Ok(())
 }

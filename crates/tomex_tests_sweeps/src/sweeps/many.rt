@@ -1,13 +1,14 @@
 //! More workers than rows, more rows than workers: each row is run once.
 
-use super::{LOOP_ALONE, THREE};
-use crate::answers::{explored, study_in};
+use super::THREE;
+use crate::answers::{LOOP_ALONE, explored};
 use std::alloc::{AllocError, Global};
 use std::sync::Wait;
 use std::sync::atomic::{AtomicU64, Ordering};
 use std::test::Fail;
 use std::thread::Threads;
-use tomex_sweep::{Gate, Study};
+use tomex_sweep::Gate;
+use tomex_tests_fixtures::ample;
 
 /// Counts the calls for each row.
 #[derive(Drop)]
@@ -41,18 +42,20 @@ fn are_one(calls: &[AtomicU64]) -> bool {
     same
 }
 
-/// True if this number of workers runs each row of a study once, and gathers nothing.
+/// True if this number of workers runs each of `rows` rows once.
 fn is_run_once<R: AllocGlobal + Threads + Wait + Sync>(
     rt: &R,
-    study: &Study,
+    document: &str,
+    rows: usize,
     workers: usize,
-) -> Result<bool, Fail> {
-    let calls = counts(rt.alloc(), study.rows().len())?;
+) -> Result<bool, AllocError> {
+    let calls = counts(rt.alloc(), rows)?;
     let gate = Counting {
         calls: calls.as_slice(),
     };
-    let gathered = explored(rt, rt.alloc(), study, workers, &gate)?.gathered;
-    Ok(gathered == 0 && are_one(calls.as_slice()))
+    let heap = ample(rt.alloc())?;
+    let marks = explored(rt, heap, document, &LOOP_ALONE, workers, &gate)?;
+    Ok(marks.len() == rows && are_one(calls.as_slice()))
 }
 
 /// A single row.
@@ -63,23 +66,22 @@ const EQUAL: &str = "[[program]]\nname = \"loop\"\nfile = \"loop.bin\"\n\
     [[unit.div]]\n[[unit.div]]\n[[unit.div]]\n[[unit.div]]\n[[unit.div]]\n[[unit.div]]\n[[unit.div]]\n";
 
 /// Rows that may be dropped, equal ones, and a single one, with the number of workers.
-static TURNS: [(&str, usize); 9] = [
-    (THREE, 1),
-    (THREE, 2),
-    (THREE, 3),
-    (THREE, 32),
-    (EQUAL, 1),
-    (EQUAL, 3),
-    (EQUAL, 32),
-    (ALONE, 1),
-    (ALONE, 2),
+static TURNS: [(&str, usize, usize); 9] = [
+    (THREE, 3, 1),
+    (THREE, 3, 2),
+    (THREE, 3, 3),
+    (THREE, 3, 32),
+    (EQUAL, 7, 1),
+    (EQUAL, 7, 3),
+    (EQUAL, 7, 32),
+    (ALONE, 1, 1),
+    (ALONE, 1, 2),
 ];
 
 #[test]
 fn each_row_is_run_once(rt: HostRuntime) -> Result<(), Fail> {
-    for (document, workers) in &TURNS {
-        let study = study_in(rt.alloc(), rt.alloc(), document, &LOOP_ALONE)?;
-        assert!(rt; is_run_once(&rt, &study, *workers)?);
+    for (document, rows, workers) in &TURNS {
+        assert!(rt; is_run_once(&rt, document, *rows, *workers)?);
     }
     Ok(())
 }

@@ -1,12 +1,14 @@
 //! A thread that can't be started.
 
-use super::{LOOP_ALONE, THREE};
-use crate::answers::study_in;
+use super::THREE;
+use crate::answers::{LOOP_ALONE, study_in};
 use core::thread::Stack;
+use std::alloc::AllocError;
 use std::sync::Wait;
 use std::test::Fail;
 use std::thread::Threads;
-use tomex_sweep::{OpenGate, Stacks, Study, SweepError, explore_on};
+use tomex_sweep::{OpenGate, Stacks, SweepError, explore_on};
+use tomex_tests_fixtures::ample;
 
 /// Stacks, of which one worker's is too large for any thread.
 #[derive(Drop)]
@@ -27,14 +29,14 @@ impl Stacks for Absurd {
 /// True if this number of workers report that this one's thread is refused.
 fn is_said<R: AllocGlobal + Threads + Wait + Sync>(
     rt: &R,
-    study: &Study,
     worker: usize,
     workers: usize,
-) -> bool {
-    let stacks = Absurd { worker };
+) -> Result<bool, AllocError> {
+    let heap = ample(rt.alloc())?;
+    let study = study_in(ample(rt.alloc())?, rt.alloc(), THREE, &LOOP_ALONE)?;
     let workers = workers.max(1).min(32);
-    let outcome = explore_on(rt, rt.alloc(), study, workers, &OpenGate, &stacks);
-    matches!(outcome, Err(SweepError::Worker))
+    let outcome = explore_on(rt, heap, &study, workers, &OpenGate, &Absurd { worker });
+    Ok(outcome.err() == Some(SweepError::Worker))
 }
 
 /// Workers whose thread is refused, and how many there are.
@@ -42,9 +44,8 @@ static REFUSED: [(usize, usize); 4] = [(0, 1), (0, 3), (1, 2), (2, 3)];
 
 #[test]
 fn a_refused_thread_is_an_error(rt: HostRuntime) -> Result<(), Fail> {
-    let study = study_in(rt.alloc(), rt.alloc(), THREE, &LOOP_ALONE)?;
     for (worker, workers) in &REFUSED {
-        assert!(rt; is_said(&rt, &study, *worker, *workers));
+        assert!(rt; is_said(&rt, *worker, *workers)?);
     }
     Ok(())
 }

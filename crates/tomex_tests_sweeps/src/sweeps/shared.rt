@@ -1,18 +1,37 @@
 //! Runs that rows share: the number of programs that are new to a worker on the rows that it takes.
 
-use crate::answers::{explored, study_in};
+use crate::answers::explored;
+use std::alloc::AllocError;
 use std::sync::Wait;
 use std::sync::atomic::{AtomicU64, Ordering};
 use std::test::Fail;
 use std::thread::Threads;
-use tomex_sweep::{Gate, Study, SweepError};
+use tomex_sweep::Gate;
+use tomex_tests_fixtures::ample;
 use tomex_tests_fixtures::programs::LOOP;
 
 /// Counts the rows, and the programs that are new on them.
 #[derive(Drop)]
-struct Counting {
+pub struct Counting {
     rows: AtomicU64,
     runs: AtomicU64,
+}
+
+impl Counting {
+    pub fn new() -> Counting {
+        Counting {
+            rows: AtomicU64::new(0),
+            runs: AtomicU64::new(0),
+        }
+    }
+
+    /// The number of rows that were taken, and of the programs that were new on them.
+    pub fn counts(&self) -> [u64; 2] {
+        [
+            self.rows.load(Ordering::SeqCst),
+            self.runs.load(Ordering::SeqCst),
+        ]
+    }
 }
 
 impl Gate for Counting {
@@ -23,22 +42,6 @@ impl Gate for Counting {
     fn runs(&self, _worker: usize, _row: usize, programs: usize) {
         self.runs.fetch_add(programs as u64, Ordering::SeqCst);
     }
-}
-
-/// The number of rows that one worker takes, and of the programs that are new to it on them.
-pub fn counted<R: AllocGlobal + Threads + Wait + Sync>(
-    rt: &R,
-    study: &Study,
-) -> Result<[u64; 2], SweepError> {
-    let gate = Counting {
-        rows: AtomicU64::new(0),
-        runs: AtomicU64::new(0),
-    };
-    explored(rt, rt.alloc(), study, 1, &gate)?;
-    Ok([
-        gate.rows.load(Ordering::SeqCst),
-        gate.runs.load(Ordering::SeqCst),
-    ])
 }
 
 /// `addi x1,x0,400; mul x2,x1,x1; addi x1,x1,-1; bne x1,x0,-8; ebreak`
@@ -56,11 +59,17 @@ const DIVIDED: &str = "[[program]]\nname = \"products\"\nfile = \"products.bin\"
     [[unit.div]]\nlatency = 4\n[[unit.div]]\nunits = 2\nlatency = 8\n\
     [[unit.div]]\nunits = 3\nlatency = 12\n[[unit.div]]\nunits = 4\nlatency = 16\n";
 
+/// The number of rows that one worker takes, and of the programs that are new to it on them.
+fn counted<R: AllocGlobal + Threads + Wait + Sync>(rt: &R) -> Result<[u64; 2], AllocError> {
+    let gate = Counting::new();
+    explored(rt, ample(rt.alloc())?, DIVIDED, &BOTH, 1, &gate)?;
+    Ok(gate.counts())
+}
+
 /// Each of two programs is evaluated once if only a part differs that neither uses, and each row
 /// has its turn.
 #[test]
 fn rows_that_cannot_differ_share_a_run(rt: HostRuntime) -> Result<(), Fail> {
-    let study = study_in(rt.alloc(), rt.alloc(), DIVIDED, &BOTH)?;
-    assert!(rt; counted(&rt, &study)? == [64, 2]);
+    assert!(rt; counted(&rt)? == [64, 2]);
     Ok(())
 }
