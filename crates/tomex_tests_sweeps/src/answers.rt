@@ -6,7 +6,9 @@ use std::sync::Wait;
 use std::thread::Threads;
 use tomex_image::{Image, Window, load};
 use tomex_report::{answer, answer_all, read_study};
-use tomex_sweep::{Gate, Mark, OpenGate, Study, explore, run_all};
+use tomex_sweep::{
+    Gate, Mark, OpenGate, Stacks, Study, SweepError, UsualStacks, explore_on, run_all,
+};
 use tomex_tests_fixtures::programs::LOOP;
 use tomex_tests_fixtures::{Heap, Try, ample, refusals_of};
 
@@ -41,20 +43,37 @@ pub fn image_in(other: Global, program: &[u8], size: u32) -> Result<Image<Heap>,
 }
 
 /// The marks that 1 to 32 workers give a study, in memory of a heap. They must gather nothing.
-pub fn marks_in<R: Threads + Wait + Sync, G: Gate + Sync>(
+pub fn marks_in<R: Threads + Wait + Sync, G: Gate + Sync, S: Stacks + Sync>(
     rt: &R,
     heap: Heap,
     study: &Study<Heap>,
     workers: usize,
     gate: &G,
-) -> Result<Vec<Mark, Heap>, AllocError> {
-    match explore(rt, heap, study, workers.max(1).min(32), gate) {
-        Ok(outcome) if outcome.gathered == 0 => Ok(outcome.marks),
-        _ => Err(AllocError),
+    stacks: &S,
+) -> Result<Vec<Mark, Heap>, SweepError> {
+    let outcome = explore_on(rt, heap, study, workers.max(1).min(32), gate, stacks)?;
+    if outcome.gathered == 0 {
+        Ok(outcome.marks)
+    } else {
+        Err(SweepError::Worker)
     }
 }
 
 /// The same for the study of a document and of these programs, which is in ample memory.
+pub fn explored_on<R: AllocGlobal + Threads + Wait + Sync, G: Gate + Sync, S: Stacks + Sync>(
+    rt: &R,
+    heap: Heap,
+    document: &str,
+    programs: &[&[u8]],
+    workers: usize,
+    gate: &G,
+    stacks: &S,
+) -> Result<Vec<Mark, Heap>, SweepError> {
+    let study = study_in(ample(rt.alloc())?, rt.alloc(), document, programs)?;
+    marks_in(rt, heap, &study, workers, gate, stacks)
+}
+
+/// The same on the usual stacks.
 pub fn explored<R: AllocGlobal + Threads + Wait + Sync, G: Gate + Sync>(
     rt: &R,
     heap: Heap,
@@ -62,9 +81,8 @@ pub fn explored<R: AllocGlobal + Threads + Wait + Sync, G: Gate + Sync>(
     programs: &[&[u8]],
     workers: usize,
     gate: &G,
-) -> Result<Vec<Mark, Heap>, AllocError> {
-    let study = study_in(ample(rt.alloc())?, rt.alloc(), document, programs)?;
-    marks_in(rt, heap, &study, workers, gate)
+) -> Result<Vec<Mark, Heap>, SweepError> {
+    explored_on(rt, heap, document, programs, workers, gate, &UsualStacks)
 }
 
 /// True if there is memory to run each row of such a study to its end.

@@ -1,5 +1,7 @@
 //! More plateaus than a worker keeps for a program, and as many rows as a study may have.
 
+ghost use Rattle.std.specs.Prelude.{◌≡◌, length, IfOk};
+
 use crate::answers::{image_in, marks_in};
 use crate::sweeps::shared::Counting;
 use std::alloc::{AllocError, Global};
@@ -7,7 +9,7 @@ use std::sync::Wait;
 use std::test::Fail;
 use std::thread::Threads;
 use tomex_config::{Config, Prices};
-use tomex_sweep::{Gate, OpenGate, Program, Study};
+use tomex_sweep::{Gate, OpenGate, Program, Study, SweepError, UsualStacks};
 use tomex_tests_fixtures::machines::{config_of, unit};
 use tomex_tests_fixtures::{Heap, ample};
 
@@ -51,14 +53,28 @@ fn twice(other: Global) -> Result<Program<Heap>, AllocError> {
     program.ok().ok_or(AllocError)
 }
 
+/// A list of it.
+fn programs(other: Global) -> Result<Vec<Program<Heap>, Heap>, AllocError>
+    ensures { IfOk result (λ v. length v.items ≡ 1) }
+{
+    let heap = ample(other)?;
+    let programs = vec![in heap; twice(other)?]?;
+    Ok(programs)
+}
+
 /// Its study on rows.
 fn study_on(other: Global, rows: Vec<Config, Heap>) -> Result<Study<Heap>, AllocError> {
-    let heap = ample(other)?;
-    let programs = vec![in ample(other)?; twice(other)?]?;
-    if programs.len() != 1 || rows.is_empty() || rows.len() > 16_384 {
+    if rows.is_empty() || rows.len() > 16_384 {
         return Err(AllocError);
     }
-    Study::new(heap, programs, rows, Prices::new([0; 6], 0, 0), false)
+    let heap = ample(other)?;
+    Study::new(
+        heap,
+        programs(other)?,
+        rows,
+        Prices::new([0; 6], 0, 0),
+        false,
+    )
 }
 
 /// The number of rows that are marked on these rows by this number of workers.
@@ -67,9 +83,10 @@ fn marked<R: AllocGlobal + Threads + Wait + Sync, G: Gate + Sync>(
     rows: Vec<Config, Heap>,
     workers: usize,
     gate: &G,
-) -> Result<usize, AllocError> {
+) -> Result<usize, SweepError> {
     let study = study_on(rt.alloc(), rows)?;
-    Ok(marks_in(rt, ample(rt.alloc())?, &study, workers, gate)?.len())
+    let heap = ample(rt.alloc())?;
+    Ok(marks_in(rt, heap, &study, workers, gate, &UsualStacks)?.len())
 }
 
 /// The number of rows that one worker takes, and of the programs that are new to it on them, if this row comes again

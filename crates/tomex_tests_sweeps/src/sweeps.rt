@@ -1,11 +1,10 @@
 //! Which rows are dropped, and at which look.
 
 use crate::answers::{LOOP_ALONE, explored};
-use std::alloc::AllocError;
 use std::sync::Wait;
 use std::test::Fail;
 use std::thread::Threads;
-use tomex_sweep::{Mark, OpenGate};
+use tomex_sweep::{Mark, OpenGate, SweepError};
 use tomex_tests_fixtures::ample;
 
 mod many;
@@ -26,7 +25,7 @@ fn gives_marks<R: AllocGlobal + Threads + Wait + Sync>(
     rt: &R,
     document: &str,
     marks: &[Mark],
-) -> Result<bool, AllocError> {
+) -> Result<bool, SweepError> {
     let found = explored(rt, ample(rt.alloc())?, document, &LOOP_ALONE, 1, &OpenGate)?;
     Ok(found.as_slice() == marks)
 }

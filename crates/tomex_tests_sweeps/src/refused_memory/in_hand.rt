@@ -7,7 +7,7 @@ use std::sync::atomic::{AtomicU64, Ordering};
 use std::test::Fail;
 use std::thread;
 use std::thread::Threads;
-use tomex_sweep::Gate;
+use tomex_sweep::{Gate, SweepError};
 use tomex_tests_fixtures::studies::DROPPED;
 use tomex_tests_fixtures::{Heap, heap_of};
 
@@ -43,7 +43,7 @@ fn is_refused<R: AllocGlobal + Threads + Wait + Sync>(rt: &R) -> Result<bool, Al
         spent: AtomicU64::new(0),
     };
     let marks = explored(rt, heap, DROPPED, &LOOP_ALONE, 2, &gate);
-    Ok(marks.is_err() && gate.spent.load(Ordering::SeqCst) == 1)
+    Ok(marks.err() == Some(SweepError::Memory))
 }
 
 #[test]

@@ -7,7 +7,7 @@ use std::sync::Wait;
 use std::sync::atomic::{AtomicU64, Ordering};
 use std::test::Fail;
 use std::thread::Threads;
-use tomex_sweep::Gate;
+use tomex_sweep::{Gate, SweepError};
 use tomex_tests_fixtures::ample;
 
 /// Counts the calls for each row.
@@ -48,7 +48,7 @@ fn is_run_once<R: AllocGlobal + Threads + Wait + Sync>(
     document: &str,
     rows: usize,
     workers: usize,
-) -> Result<bool, AllocError> {
+) -> Result<bool, SweepError> {
     let calls = counts(rt.alloc(), rows)?;
     let gate = Counting {
         calls: calls.as_slice(),

@@ -1,13 +1,13 @@
 //! A thread that can't be started.
 
 use super::THREE;
-use crate::answers::{LOOP_ALONE, study_in};
+use crate::answers::{LOOP_ALONE, explored_on};
 use core::thread::Stack;
 use std::alloc::AllocError;
 use std::sync::Wait;
 use std::test::Fail;
 use std::thread::Threads;
-use tomex_sweep::{OpenGate, Stacks, SweepError, explore_on};
+use tomex_sweep::{OpenGate, Stacks, SweepError};
 use tomex_tests_fixtures::ample;
 
 /// Stacks, of which one worker's is too large for any thread.
@@ -32,11 +32,9 @@ fn is_said<R: AllocGlobal + Threads + Wait + Sync>(
     worker: usize,
     workers: usize,
 ) -> Result<bool, AllocError> {
-    let heap = ample(rt.alloc())?;
-    let study = study_in(ample(rt.alloc())?, rt.alloc(), THREE, &LOOP_ALONE)?;
-    let workers = workers.max(1).min(32);
-    let outcome = explore_on(rt, heap, &study, workers, &OpenGate, &Absurd { worker });
-    Ok(outcome.err() == Some(SweepError::Worker))
+    let (heap, stacks) = (ample(rt.alloc())?, Absurd { worker });
+    let marks = explored_on(rt, heap, THREE, &LOOP_ALONE, workers, &OpenGate, &stacks);
+    Ok(marks.err() == Some(SweepError::Worker))
 }
 
 /// Workers whose thread is refused, and how many there are.

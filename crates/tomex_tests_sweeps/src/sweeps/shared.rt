@@ -1,12 +1,11 @@
 //! Runs that rows share: the number of programs that are new to a worker on the rows that it takes.
 
 use crate::answers::explored;
-use std::alloc::AllocError;
 use std::sync::Wait;
 use std::sync::atomic::{AtomicU64, Ordering};
 use std::test::Fail;
 use std::thread::Threads;
-use tomex_sweep::Gate;
+use tomex_sweep::{Gate, SweepError};
 use tomex_tests_fixtures::ample;
 use tomex_tests_fixtures::programs::LOOP;
 
@@ -60,7 +59,7 @@ const DIVIDED: &str = "[[program]]\nname = \"products\"\nfile = \"products.bin\"
     [[unit.div]]\nunits = 3\nlatency = 12\n[[unit.div]]\nunits = 4\nlatency = 16\n";
 
 /// The number of rows that one worker takes, and of the programs that are new to it on them.
-fn counted<R: AllocGlobal + Threads + Wait + Sync>(rt: &R) -> Result<[u64; 2], AllocError> {
+fn counted<R: AllocGlobal + Threads + Wait + Sync>(rt: &R) -> Result<[u64; 2], SweepError> {
     let gate = Counting::new();
     explored(rt, ample(rt.alloc())?, DIVIDED, &BOTH, 1, &gate)?;
     Ok(gate.counts())
