@@ -4,7 +4,7 @@
 //! A thread works on a board through a seat of its own. Every call is a few single atomic steps on
 //! words of 64 bits; none waits, and only `Board::new` allocates. `specs/Rule.antt` is the rule
 //! that holds before and after each step, `specs/Steps.antt` the kinds of step.
-//! Tests: tomex_tests_reuse.
+//! Tests: tomex_tests_sweeps.
 #![tactic(auto)]
 
 mod board;

@@ -4,7 +4,7 @@
 //! Source of the parts: R. M. Tomasulo, "An Efficient Algorithm for Exploiting Multiple Arithmetic
 //! Units", 1967, and the chapter on Tomasulo's algorithm in Hennessy and Patterson's "Computer
 //! Architecture: A Quantitative Approach".
-//! Tests: tomex_tests_studies, tomex_tests_reports.
+//! Tests: tomex_tests_studies, tomex_tests_sweeps.
 #![tactic(auto)]
 
 mod axis;

@@ -4,7 +4,7 @@
 //! and the chapter on Tomasulo's algorithm in Hennessy and Patterson's "Computer Architecture: A
 //! Quantitative Approach". What the machine does in a cycle is proved to be the timing recurrence
 //! (`tomex_timing`) and the in-order run (`tomex_rvexec`).
-//! Tests: tomex_tests_timing, tomex_tests_reuse.
+//! Tests: tomex_tests_timing, tomex_tests_sweeps.
 #![tactic(auto)]
 
 mod activity;

@@ -3,7 +3,7 @@
 //!
 //! A deque is filled before any worker starts, and nothing is added later: `specs/Rule.antt` is the
 //! rule that holds before and after each step on it.
-//! Tests: tomex_tests_reuse.
+//! Tests: tomex_tests_sweeps.
 #![tactic(auto)]
 
 mod deque;

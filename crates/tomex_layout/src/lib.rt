@@ -1,7 +1,7 @@
 //! The elements of what is printed: CSV records and texts of them, by the crate `csv` with its defaults; aligned
 //! texts, and tables of them, a line of names and lines of texts; names of lists, settings and programs, and the
 //! entries of lists; numbers of hundredths, signed differences, percentages and rates.
-//! Tests: tomex_cases, tomex_tests_reports, tomex_tests_surveys.
+//! Tests: tomex_cases, tomex_tests_sweeps, tomex_tests_surveys.
 #![tactic(auto)]
 
 mod aligned;

@@ -1,6 +1,6 @@
 //! Plateaus: regions of the design space on which a program takes the same cycles. The demands of one run give one.
 //! And what a worker knows by them: the cycles of a study's programs on configurations that it hasn't evaluated.
-//! Tests: tomex_tests_sweeps, tomex_tests_reuse.
+//! Tests: tomex_tests_sweeps.
 #![tactic(auto)]
 
 mod interval;

@@ -1,6 +1,6 @@
 //! The claim: a study is read from its bytes, explored by workers, and its front run again and reported. And the same
 //! report, with each configuration run to its end on one thread.
-//! Tests: tomex_tests_reports.
+//! Tests: tomex_tests_sweeps.
 #![tactic(auto)]
 
 mod answer_error;

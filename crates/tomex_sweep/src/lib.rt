@@ -1,7 +1,7 @@
 //! Explorations of studies: workers take configurations, run them and mark them on a board that
 //! they share, and the front is that of the marks. Runs whose cycles are known, or that can't
 //! change the front, are skipped. And the exploration that runs each configuration by the machine.
-//! Tests: tomex_tests_sweeps, tomex_tests_reports, tomex_tests_reuse.
+//! Tests: tomex_tests_sweeps.
 #![tactic(auto)]
 
 mod crew;

@@ -10,15 +10,16 @@ use tomex_tests_fixtures::runs::{Program, run_of};
 use tomex_tests_fixtures::{Attempt, Heap, Try, refusals};
 use tomex_timing::Run;
 
-/// Programs, with the latencies of their machines' units, and their floors for each width.
-static FLOORS: [(Program, [u8; 5], [u64; 4]); 7] = [
-    (PRODUCT, [1, 3, 1, 1, 1], [8, 7, 7, 7]),
-    (FOLLOWED, [1, 5, 1, 2, 1], [12, 11, 11, 11]),
-    (LOOP, [1, 3, 1, 1, 1], [1999; 4]),
-    (ACCESSES, [1, 3, 5, 1, 2], [26, 24, 24, 24]),
-    (SLOW_MEMORY, [1, 1, 5, 64, 3], [200, 199, 199, 199]),
-    (QUOTIENTS, [1, 2, 3, 1, 64], [18, 12, 11, 11]),
-    (JUMP, [1, 1, 23, 3, 3], [28, 21, 19, 18]),
+/// Programs, with the latencies of their machines' units, their floors for each width, and the least number of blocks:
+/// stores are kept.
+static FLOORS: [(Program, [u8; 5], [u64; 4], u64); 7] = [
+    (PRODUCT, [1, 3, 1, 1, 1], [8, 7, 7, 7], 0),
+    (FOLLOWED, [1, 5, 1, 2, 1], [12, 11, 11, 11], 1),
+    (LOOP, [1, 3, 1, 1, 1], [1999; 4], 0),
+    (ACCESSES, [1, 3, 5, 1, 2], [26, 24, 24, 24], 1),
+    (SLOW_MEMORY, [1, 1, 5, 64, 3], [200, 199, 199, 199], 1),
+    (QUOTIENTS, [1, 2, 3, 1, 64], [18, 12, 11, 11], 0),
+    (JUMP, [1, 1, 23, 3, 3], [28, 21, 19, 18], 0),
 ];
 
 /// Evaluates the floors of a run.
@@ -63,8 +64,8 @@ fn blocks_of(
 
 #[test]
 fn floors_are_those_of_another_implementation(rt: HostRuntime) -> Result<(), Fail> {
-    for (program, latencies, floors) in &FLOORS {
-        assert!(rt; blocks_of(rt.alloc(), program, *latencies, *floors)? > Some(0));
+    for (program, latencies, floors, least) in &FLOORS {
+        assert!(rt; blocks_of(rt.alloc(), program, *latencies, *floors)? >= Some(*least));
     }
     Ok(())
 }

@@ -1,6 +1,6 @@
 //! The texts of reports: the ends of programs on a configuration, the columns and fields of the
 //! front report, the times report of a program, the text of a machine's tables, and all rows of a study as CSV.
-//! Tests: tomex_tests_reports.
+//! Tests: tomex_tests_sweeps.
 #![tactic(auto)]
 
 mod end_texts;

@@ -1,6 +1,6 @@
 //! The views of a study that aren't the claim's report: tables, pictures, pages and CSV of its front and of all its
 //! rows, and of what its lists lack. From the bytes of a study to the text of a view.
-//! Tests: tomex_cases, tomex_tests_reports, tomex_tests_commands.
+//! Tests: tomex_cases, tomex_tests_sweeps, tomex_tests_commands.
 #![tactic(auto)]
 
 mod answering;

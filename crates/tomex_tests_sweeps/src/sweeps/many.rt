@@ -1,26 +1,19 @@
 //! More workers than rows, more rows than workers: each row is run once.
 
-use super::{explored, study_of};
+use super::THREE;
+use crate::answers::{LOOP_ALONE, explored};
 use std::alloc::{AllocError, Global};
 use std::sync::Wait;
 use std::sync::atomic::{AtomicU64, Ordering};
 use std::test::Fail;
 use std::thread::Threads;
-use tomex_sweep::{Gate, Mark, Outcome, Study};
+use tomex_sweep::{Gate, SweepError};
+use tomex_tests_fixtures::ample;
 
 /// Counts the calls for each row.
 #[derive(Drop)]
 struct Counting<'a> {
     calls: &'a [AtomicU64],
-}
-
-impl<'a> Counting<'a> {
-    /// True if each row was called for once.
-    fn is_once_each(&self) -> bool {
-        self.calls
-            .iter()
-            .all(|calls| calls.load(Ordering::SeqCst) == 1)
-    }
 }
 
 impl<'a> Gate for Counting<'a> {
@@ -40,37 +33,55 @@ fn counts(alloc: Global, rows: usize) -> Result<Vec<AtomicU64>, AllocError> {
     Ok(calls)
 }
 
-/// True if an outcome marks `rows` rows, the first of them as finished.
-fn marks_all(outcome: &Outcome, rows: usize) -> bool {
-    let is_finished = outcome.marks.first() == Some(&Mark::Finished(2000));
-    is_finished && outcome.gathered == 0 && outcome.marks.len() == rows
+/// True if each count is 1.
+fn are_one(calls: &[AtomicU64]) -> bool {
+    let mut same = true;
+    for count in calls {
+        same = same && count.load(Ordering::SeqCst) == 1;
+    }
+    same
 }
 
-/// True if this number of workers runs each row of a study once, and finishes the first.
+/// True if this number of workers runs each of `rows` rows once.
 fn is_run_once<R: AllocGlobal + Threads + Wait + Sync>(
     rt: &R,
-    study: &Study,
+    document: &str,
+    rows: usize,
     workers: usize,
-) -> Result<bool, Fail> {
-    let rows = study.rows().len();
+) -> Result<bool, SweepError> {
     let calls = counts(rt.alloc(), rows)?;
     let gate = Counting {
         calls: calls.as_slice(),
     };
-    let outcome = explored(rt, study, workers, &gate)?;
-    Ok(marks_all(&outcome, rows) && gate.is_once_each())
+    let heap = ample(rt.alloc())?;
+    let marks = explored(rt, heap, document, &LOOP_ALONE, workers, &gate)?;
+    Ok(marks.len() == rows && are_one(calls.as_slice()))
 }
 
-/// A row that may be dropped, equal rows, and a single row.
-static STUDIES: [&[(u8, u32)]; 3] = [&[(1, 5), (10, 9), (1, 9)], &[(1, 5); 7], &[(1, 5)]];
+/// A single row.
+const ALONE: &str = "[[program]]\nname = \"loop\"\nfile = \"loop.bin\"\n";
+
+/// Seven equal rows.
+const EQUAL: &str = "[[program]]\nname = \"loop\"\nfile = \"loop.bin\"\n\
+    [[unit.div]]\n[[unit.div]]\n[[unit.div]]\n[[unit.div]]\n[[unit.div]]\n[[unit.div]]\n[[unit.div]]\n";
+
+/// Rows that may be dropped, equal ones, and a single one, with the number of workers.
+static TURNS: [(&str, usize, usize); 9] = [
+    (THREE, 3, 1),
+    (THREE, 3, 2),
+    (THREE, 3, 3),
+    (THREE, 3, 32),
+    (EQUAL, 7, 1),
+    (EQUAL, 7, 3),
+    (EQUAL, 7, 32),
+    (ALONE, 1, 1),
+    (ALONE, 1, 2),
+];
 
 #[test]
 fn each_row_is_run_once(rt: HostRuntime) -> Result<(), Fail> {
-    for options in &STUDIES {
-        let study = study_of(rt.alloc(), options)?;
-        for workers in [1, 2, 3, 32] {
-            assert!(rt; is_run_once(&rt, &study, workers)?, "{workers} workers");
-        }
+    for (document, rows, workers) in &TURNS {
+        assert!(rt; is_run_once(&rt, document, *rows, *workers)?);
     }
     Ok(())
 }

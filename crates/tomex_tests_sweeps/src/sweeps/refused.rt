@@ -1,11 +1,14 @@
 //! A thread that can't be started.
 
-use super::study_of;
+use super::THREE;
+use crate::answers::{LOOP_ALONE, explored_on};
 use core::thread::Stack;
+use std::alloc::AllocError;
 use std::sync::Wait;
 use std::test::Fail;
 use std::thread::Threads;
-use tomex_sweep::{OpenGate, Stacks, Study, SweepError, explore_on};
+use tomex_sweep::{OpenGate, Stacks, SweepError};
+use tomex_tests_fixtures::ample;
 
 /// Stacks, of which one worker's is too large for any thread.
 #[derive(Drop)]
@@ -26,27 +29,21 @@ impl Stacks for Absurd {
 /// True if this number of workers report that this one's thread is refused.
 fn is_said<R: AllocGlobal + Threads + Wait + Sync>(
     rt: &R,
-    study: &Study,
     worker: usize,
     workers: usize,
-) -> bool {
-    let stacks = Absurd { worker };
-    let outcome = explore_on(
-        rt,
-        rt.alloc(),
-        study,
-        workers.max(1).min(32),
-        &OpenGate,
-        &stacks,
-    );
-    matches!(outcome, Err(SweepError::Worker))
+) -> Result<bool, AllocError> {
+    let (heap, stacks) = (ample(rt.alloc())?, Absurd { worker });
+    let marks = explored_on(rt, heap, THREE, &LOOP_ALONE, workers, &OpenGate, &stacks);
+    Ok(marks.err() == Some(SweepError::Worker))
 }
+
+/// Workers whose thread is refused, and how many there are.
+static REFUSED: [(usize, usize); 4] = [(0, 1), (0, 3), (1, 2), (2, 3)];
 
 #[test]
 fn a_refused_thread_is_an_error(rt: HostRuntime) -> Result<(), Fail> {
-    let study = study_of(rt.alloc(), [(1, 5), (10, 9), (1, 9)].as_slice())?;
-    for (worker, workers) in [(0, 1), (0, 3), (1, 2), (2, 3)] {
-        assert!(rt; is_said(&rt, &study, worker, workers));
+    for (worker, workers) in &REFUSED {
+        assert!(rt; is_said(&rt, *worker, *workers)?);
     }
     Ok(())
 }

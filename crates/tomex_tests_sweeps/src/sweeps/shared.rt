@@ -1,22 +1,36 @@
 //! Runs that rows share: the number of programs that are new to a worker on the rows that it takes.
 
-use super::random::PRODUCTS;
-use super::{explored, program_of, study_on};
-use std::alloc::Global;
+use crate::answers::explored;
 use std::sync::Wait;
 use std::sync::atomic::{AtomicU64, Ordering};
 use std::test::Fail;
 use std::thread::Threads;
-use tomex_config::{Config, UnitOption};
-use tomex_sweep::{Gate, Study};
-use tomex_tests_fixtures::machines::{PLAIN, config_of, unit};
-use tomex_tests_fixtures::programs::LOOP_WORDS;
+use tomex_sweep::{Gate, SweepError};
+use tomex_tests_fixtures::ample;
+use tomex_tests_fixtures::programs::LOOP;
 
 /// Counts the rows, and the programs that are new on them.
 #[derive(Drop)]
-struct Counting {
+pub struct Counting {
     rows: AtomicU64,
     runs: AtomicU64,
+}
+
+impl Counting {
+    pub fn new() -> Counting {
+        Counting {
+            rows: AtomicU64::new(0),
+            runs: AtomicU64::new(0),
+        }
+    }
+
+    /// The number of rows that were taken, and of the programs that were new on them.
+    pub fn counts(&self) -> [u64; 2] {
+        [
+            self.rows.load(Ordering::SeqCst),
+            self.runs.load(Ordering::SeqCst),
+        ]
+    }
 }
 
 impl Gate for Counting {
@@ -29,57 +43,32 @@ impl Gate for Counting {
     }
 }
 
+/// `addi x1,x0,400; mul x2,x1,x1; addi x1,x1,-1; bne x1,x0,-8; ebreak`
+const PRODUCTS: &[u8; 20] = b"\x93\x00\x00\x19\x33\x81\x10\x02\x93\x80\xf0\xff\
+    \xe3\x9c\x00\xfe\x73\x00\x10\x00";
+
+/// The loop of products, and the plain one.
+static BOTH: [&[u8]; 2] = [PRODUCTS, LOOP];
+
+/// Rows that differ in the dividers and their stations, which neither of two programs uses.
+const DIVIDED: &str = "[[program]]\nname = \"products\"\nfile = \"products.bin\"\n\
+    [[program]]\nname = \"loop\"\nfile = \"loop.bin\"\n\
+    [axes]\ndiv = [1, 2, 3, 4, 5, 6, 7, 8, 9, 10, 11, 12, 13, 14, 15, 16]\n\
+    [[unit.mul]]\nlatency = 3\n\
+    [[unit.div]]\nlatency = 4\n[[unit.div]]\nunits = 2\nlatency = 8\n\
+    [[unit.div]]\nunits = 3\nlatency = 12\n[[unit.div]]\nunits = 4\nlatency = 16\n";
+
 /// The number of rows that one worker takes, and of the programs that are new to it on them.
-fn counted<R: AllocGlobal + Threads + Wait + Sync>(
-    rt: &R,
-    study: &Study,
-) -> Result<[u64; 2], Fail> {
-    let gate = Counting {
-        rows: AtomicU64::new(0),
-        runs: AtomicU64::new(0),
-    };
-    explored(rt, study, 1, &gate)?;
-    Ok([
-        gate.rows.load(Ordering::SeqCst),
-        gate.runs.load(Ordering::SeqCst),
-    ])
-}
-
-/// A row with `stations` stations for divisions, and with `units` dividers.
-fn divided(stations: u8, units: u8) -> Result<Config, Fail> {
-    let divider = UnitOption {
-        units,
-        latency: units.wrapping_mul(4),
-        price: 0,
-    };
-    let units = [PLAIN, unit(3), divider, PLAIN, PLAIN];
-    config_of([1, 1, stations, 1, 1, 1], units, 1, 1)
-}
-
-/// Rows that differ in the dividers and their stations, which a loop of products doesn't use.
-fn dividers(alloc: Global, counts: u8) -> Result<Vec<Config>, Fail> {
-    let mut rows = Vec::new(alloc);
-    for stations in 1..=counts {
-        for units in 1..=4u8 {
-            rows.push(divided(stations, units)?)?;
-        }
-    }
-    Ok(rows)
-}
-
-/// The study of that loop, and of the plain one, on those rows.
-fn divided_study(alloc: Global, counts: u8) -> Result<Study, Fail> {
-    let rows = dividers(alloc, counts)?;
-    let products = program_of(alloc, "products", PRODUCTS.as_slice(), 1)?;
-    let plain = program_of(alloc, "loop", LOOP_WORDS.as_slice(), 1)?;
-    study_on(alloc, vec![in alloc; products, plain]?, rows)
+fn counted<R: AllocGlobal + Threads + Wait + Sync>(rt: &R) -> Result<[u64; 2], SweepError> {
+    let gate = Counting::new();
+    explored(rt, ample(rt.alloc())?, DIVIDED, &BOTH, 1, &gate)?;
+    Ok(gate.counts())
 }
 
 /// Each of two programs is evaluated once if only a part differs that neither uses, and each row
 /// has its turn.
 #[test]
 fn rows_that_cannot_differ_share_a_run(rt: HostRuntime) -> Result<(), Fail> {
-    assert!(rt; counted(&rt, &divided_study(rt.alloc(), 16)?)? == [64, 2]);
-    assert!(rt; counted(&rt, &divided_study(rt.alloc(), 1)?)? == [4, 2]);
+    assert!(rt; counted(&rt)? == [64, 2]);
     Ok(())
 }

@@ -1,6 +1,0 @@
-//! Grids, studies, explorations and reports that run out of memory, at each growth of each call in turn.
-
-mod explorations;
-mod in_hand;
-mod studies;
-mod tables;

@@ -1,5 +1,0 @@
-use Rattle.std.proofs.Common.{◌≡◌, length}
-use Rattle.tomex_tests_reuse.proofs.boards.threads.claim_all.Given as goal
-
-abbrev pub invariant-loop-k : goal.invariant-loop-k
-invariant-loop-k g l = (l.seat.board ≡ l.initial.seat.board) × (length l.won.items ≡ l.rows)

@@ -1,6 +1,0 @@
-use Rattle.std.proofs.Common.{rules}
-use Rattle.tomex_tests_reuse.proofs.BoardPlans.{ones_plan}
-use Rattle.tomex_tests_reuse.proofs.boards.threads.each_row_is_claimed_once.Goals as goal
-
-pub won_once-requires-clause-plan : goal.won_once-requires-clause-plan
-won_once-requires-clause-plan g c κs = ones_plan c.as_slice.result.now (search rules) (search rules)

@@ -1,6 +1,0 @@
--- The allocator frees what its inner one does.
-use Rattle.std.proofs.Crossing.{frees}
-use Rattle.tomex_tests_reuse.proofs.once.explored_in.Goals as goal
-
-pub explore-requires-frees-A-Allocator : goal.explore-requires-frees-A-Allocator
-explore-requires-frees-A-Allocator g c κs within = record { frees = λ a τ p. frees.frees a.inner τ p }

@@ -1,6 +1,0 @@
-use Rattle.std.proofs.Common.{rules}
-use Rattle.tomex_tests_reuse.proofs.BoardPlans.{ones_plan}
-use Rattle.tomex_tests_reuse.proofs.refused_memory.NewBoardAttempt.attempt.Goals as goal
-
-pub closed_at_once-requires-clause-plan : goal.closed_at_once-requires-clause-plan
-closed_at_once-requires-clause-plan c = ones_plan c.args.self.now.costs.now (search rules) (search rules)
