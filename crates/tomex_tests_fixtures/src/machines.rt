@@ -12,16 +12,7 @@ pub const PLAIN: UnitOption = UnitOption {
 
 /// One unit of this latency, at no price.
 pub fn unit(latency: u8) -> UnitOption {
-    priced(latency, 0)
-}
-
-/// One unit of this latency, at this price.
-pub fn priced(latency: u8, price: u32) -> UnitOption {
-    UnitOption {
-        units: 1,
-        latency,
-        price,
-    }
+    UnitOption { latency, ..PLAIN }
 }
 
 /// The configuration of these parts. Fails if one of them is out of the limits.
