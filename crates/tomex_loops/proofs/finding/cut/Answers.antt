@@ -1,4 +1,5 @@
 -- The last stop leaves, and its place stands where it stood before.
+use Rattle.std.proofs.lemmas.Grind.{common_steps}
 use Rattle.std.proofs.Common.{◌≡◌, ◌∙◌, ◌++◌, ◌∷◌, [], List, length, length-set, arith, subst, sym, take, ap}
 use Rattle.std.proofs.lemmas.List.{length_push, take-append-le}
 use Rattle.tomex_loops.specs.declared.finding.Stop.{Stop}
@@ -18,3 +19,6 @@ loop-stops-preserved-in-Some g c =
       at = popped c.pop.new.self.items c.in-Some.stop c.loop-stops.at.items before;
       many = length-set c.loop-stops.at.items c.in-Some.stop.place c.in-Some.stop.before ∙ c.loop-stops.invariant.many;
     }
+
+pub returns-clause-stops : goal.returns-clause-stops
+returns-clause-stops = grind (arith, common_steps)

@@ -8,3 +8,6 @@ loop-under_way-preserved = grind (arith, common_steps)
 
 pub returns-clause-ends : goal.returns-clause-ends
 returns-clause-ends = grind (arith, common_steps)
+
+pub returns-clause-around : goal.returns-clause-around
+returns-clause-around = grind (arith, common_steps)

@@ -1,4 +1,5 @@
 -- There is an end for each program.
+use Rattle.std.proofs.lemmas.Grind.{common_steps}
 use Rattle.std.proofs.Common.{◌∙◌, arith, refl, sym}
 use Rattle.std.proofs.lemmas.List.{append-nil, drop_all}
 use Rattle.std.proofs.lemmas.Slice.Zip.{AllZip-long}
@@ -31,3 +32,6 @@ returns-clause-ready g c = c.loop-place.invariant.ready
 pub returns-clause-text : goal.returns-clause-text
 returns-clause-text g c = sym (append-nil _)
     ∙ (rw (drop_all c.loop-place.place c.args.programs.now c.loop-place-test.false) at c.loop-place.invariant.text)
+
+pub loop-place-preserved : goal.loop-place-preserved
+loop-place-preserved = grind (arith, common_steps)

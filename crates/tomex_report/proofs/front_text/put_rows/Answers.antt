@@ -1,4 +1,5 @@
 -- There are ends for each row of the front.
+use Rattle.std.proofs.lemmas.Grind.{common_steps}
 use Rattle.std.proofs.Common.{arith}
 use Rattle.std.proofs.lemmas.Slice.Zip.{AllZip-long}
 use Rattle.tomex_texts.proofs.Records.{at_read}
@@ -20,3 +21,9 @@ pub put_row-requires-clause-ends : goal.put_row-requires-clause-ends
 put_row-requires-clause-ends g c =
     at_read _ c.args.front.now c.args.ends.now c.loop-place.place _ c.index-ends-place.result c.requires.ends
     c.loop-place-test.true c.index-ends-place.is
+
+pub returns-clause-text : goal.returns-clause-text
+returns-clause-text = grind (arith, common_steps)
+
+pub loop-place-preserved : goal.loop-place-preserved
+loop-place-preserved = grind (arith, common_steps)

@@ -1,4 +1,6 @@
 -- The bytes of one more range.
+use Rattle.std.proofs.Common.{arith}
+use Rattle.std.proofs.lemmas.Grind.{common_steps}
 use Rattle.std.proofs.Common.{refl}
 use Rattle.tomex_texts.specs.Ends.{bytes_at}
 use Rattle.tomex_texts.proofs.Loops.{piece_more}
@@ -9,3 +11,6 @@ loop-range-preserved g c =
     piece_more (bytes_at c.args.window.base c.args.memory.now) c.args.ranges.now c.loop-range.range-index _
     (record { address = 0; length = 0 }) _ _ _ c.loop-range-test.true refl c.in_ok-extend_from_slice.ensures.items
     c.range_bytes.ensures c.loop-range.invariant
+
+pub returns : goal.returns
+returns = grind (arith, common_steps)

@@ -11,3 +11,6 @@ returns-in_ok-push-in-Call-clause-shows = grind (arith, common_steps)
 
 pub returns-in_ok-push-in-Call-clause-state : goal.returns-in_ok-push-in-Call-clause-state
 returns-in_ok-push-in-Call-clause-state = grind (arith, common_steps)
+
+pub returns-in-Return-clause-shows : goal.returns-in-Return-clause-shows
+returns-in-Return-clause-shows = grind (arith, common_steps)
