@@ -2,7 +2,7 @@
 //! alike can stand for each other: one that is kept is moved to where a run comes back to it.
 //!
 //! `specs/States.antt` says which histories a state shows, by the terms of `tomex_alike`.
-//! Tests: tomex_tests_timing.
+//! Tests: tomex_tests_timing, by evaluations.
 #![tactic(auto)]
 
 mod compare;
