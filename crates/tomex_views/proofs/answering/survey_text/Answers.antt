@@ -1,4 +1,6 @@
 -- The text of what is needed is the study's.
+use Rattle.std.proofs.Common.{arith}
+use Rattle.std.proofs.lemmas.Grind.{common_steps}
 use Rattle.std.proofs.lemmas.Result.{IfErr-weaker, IfOk-weaker, err_from_is_err_and}
 use Rattle.tomex_views.proofs.TwoBuilds.{without_memory}
 use Rattle.tomex_views.proofs.answering.survey_text.Goals as goal
@@ -26,3 +28,6 @@ returns-clause-refused g c =
     (λ error is. c.in_ok-numbered.ensures.without error
     (c.needed-study.ensures.refused error (rw c.in_ok-surveyed.ensures at is)))
     c.text_of_survey.ensures.refused
+
+pub returns-then-lacks_program-clause-refused : goal.returns-then-lacks_program-clause-refused
+returns-then-lacks_program-clause-refused = grind (arith, common_steps)

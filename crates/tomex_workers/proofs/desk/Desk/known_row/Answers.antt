@@ -1,4 +1,5 @@
 -- The totals are those of the row's configuration.
+use Rattle.std.proofs.Common.{arith}
 use Rattle.std.proofs.Common.{◌≡◌, List, Some, length, slice_get, subst, take}
 use Rattle.tomex_config.specs.Configuration.{Configuration}
 use Rattle.tomex_study.specs.Program.{Workload}
@@ -26,3 +27,6 @@ returns-clause-made g c =
     row_read _ _ c.args.row c.index-rows-row.result c.rows.ensures.value c.requires.row c.index-rows-row.is in
     known_made c.args.self.now.study.now c.args.row c.index-rows-row.result c.of.result
     c.the_last_look_sees_most.ensures here (returns-clause-known g c c.index-rows-row.result here)
+
+pub of-requires-clause-ends : goal.of-requires-clause-ends
+of-requires-clause-ends = grind arith

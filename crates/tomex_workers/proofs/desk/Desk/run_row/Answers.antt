@@ -1,4 +1,6 @@
 -- The known or learnt totals are those of the row's configuration.
+use Rattle.std.proofs.Common.{arith}
+use Rattle.std.proofs.lemmas.Grind.{common_steps}
 use Rattle.std.proofs.Common.{◌≡◌, ◌<◌, ◌∙◌, ap, sym, subst, take, List, length}
 use Rattle.tomex_config.specs.Configuration.{Configuration}
 use Rattle.tomex_study.specs.Program.{Workload}
@@ -21,3 +23,6 @@ close_row-requires-clause-totals g c =
     (row_read _ _ c.args.row c.index-rows-row.result c.rows.ensures.value
     (row_there c.args.self.now.study.now _ _ c.args.row c.keeps_limits.ensures c.requires.plan c.requires.row)
     c.index-rows-row.is) c.in_ok-totals.ensures.totals
+
+pub offset_bounds-rows-row : goal.offset_bounds-rows-row
+offset_bounds-rows-row = grind (arith, common_steps)
