@@ -1,7 +1,6 @@
 -- After the last row.
-use Rattle.std.proofs.Common.{arith}
+use Rattle.std.proofs.Common.{arith, ◌∙◌, ap, ℕ, Option}
 use Rattle.std.proofs.lemmas.Grind.{common_steps}
-use Rattle.std.proofs.Common.{◌∙◌, ap, ℕ, Option}
 use Rattle.std.specs.Prelude.{unwrap_or}
 use Rattle.tomex_survey.proofs.Leasts.{last_least}
 use Rattle.tomex_choices.proofs.Options.{is_such, least_price_is, price_of}

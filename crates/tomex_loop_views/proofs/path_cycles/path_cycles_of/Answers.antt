@@ -1,7 +1,6 @@
 -- The sums fit.
-use Rattle.std.proofs.Common.{arith}
+use Rattle.std.proofs.Common.{arith, ◌≡◌, ◌∙◌}
 use Rattle.std.proofs.lemmas.Grind.{common_steps}
-use Rattle.std.proofs.Common.{◌≡◌, ◌∙◌}
 use Rattle.tomex_loop_views.specs.PathCycles.{cycles_for}
 use Rattle.tomex_loop_views.proofs.PathKeys.{cycles_fit}
 use Rattle.tomex_loop_views.proofs.path_cycles.path_cycles_of.Goals as goal

@@ -1,7 +1,6 @@
 -- The keys are the numbers of the visits' loops.
-use Rattle.std.proofs.Common.{arith}
+use Rattle.std.proofs.Common.{arith, length}
 use Rattle.std.proofs.lemmas.Grind.{common_steps}
-use Rattle.std.proofs.Common.{length}
 use Rattle.tomex_loop_views.proofs.AtHeads.{numbers_low}
 use Rattle.tomex_loop_views.proofs.places.around_in.Goals as goal
 

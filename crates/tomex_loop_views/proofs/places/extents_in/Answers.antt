@@ -1,7 +1,6 @@
 -- The visits' loops are those of this many, and the visits around have lower numbers.
-use Rattle.std.proofs.Common.{arith}
+use Rattle.std.proofs.Common.{arith, ◌≡◌, ◌∙◌, map}
 use Rattle.std.proofs.lemmas.Grind.{common_steps}
-use Rattle.std.proofs.Common.{◌≡◌, ◌∙◌, map}
 use Rattle.tomex_loop_views.proofs.AtHeads.{numbers_low, outer_low}
 use Rattle.tomex_loop_views.proofs.places.extents_in.Goals as goal
 

@@ -1,7 +1,6 @@
 -- Each column has the entry of each loop.
-use Rattle.std.proofs.Common.{arith}
+use Rattle.std.proofs.Common.{arith, ◌≡◌, ◌∙◌, ℕ, List, ap, length, map, slice_index}
 use Rattle.std.proofs.lemmas.Grind.{common_steps}
-use Rattle.std.proofs.Common.{◌≡◌, ◌∙◌, ℕ, List, ap, length, map, slice_index}
 use Rattle.std.proofs.lemmas.List.{length-map}
 use Rattle.tomex_symbols.specs.Symbols.{symbols_of}
 use Rattle.tomex_run_views.specs.ByPlace.{pc_of}

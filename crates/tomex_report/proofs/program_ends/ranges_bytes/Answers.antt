@@ -1,7 +1,6 @@
 -- The bytes of one more range.
-use Rattle.std.proofs.Common.{arith}
+use Rattle.std.proofs.Common.{arith, refl}
 use Rattle.std.proofs.lemmas.Grind.{common_steps}
-use Rattle.std.proofs.Common.{refl}
 use Rattle.tomex_texts.specs.Ends.{bytes_at}
 use Rattle.tomex_texts.proofs.Loops.{piece_more}
 use Rattle.tomex_report.proofs.program_ends.ranges_bytes.Goals as goal

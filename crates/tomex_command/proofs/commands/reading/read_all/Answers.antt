@@ -1,7 +1,6 @@
 -- The file with the current name is one more.
-use Rattle.std.proofs.Common.{arith}
+use Rattle.std.proofs.Common.{arith, string_bytes}
 use Rattle.std.proofs.lemmas.Grind.{common_steps}
-use Rattle.std.proofs.Common.{string_bytes}
 use Rattle.tomex_command.proofs.Reading.{one_more_of}
 use Rattle.tomex_command.proofs.commands.reading.read_all.Goals as goal
 

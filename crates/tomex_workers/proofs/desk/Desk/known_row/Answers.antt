@@ -1,6 +1,5 @@
 -- The totals are those of the row's configuration.
-use Rattle.std.proofs.Common.{arith}
-use Rattle.std.proofs.Common.{◌≡◌, List, Some, length, slice_get, subst, take}
+use Rattle.std.proofs.Common.{arith, ◌≡◌, List, Some, length, slice_get, subst, take}
 use Rattle.tomex_config.specs.Configuration.{Configuration}
 use Rattle.tomex_study.specs.Program.{Workload}
 use Rattle.tomex_study.specs.Cycles.{totals_on}
