@@ -52,21 +52,34 @@ fn outcome_of_list<T: Copy>(list: Result<Vec<T, Heap>, AllocError>, length: usiz
     }
 }
 
-/// The outcome of one part in this memory: the table, the rows that are listed, the programs with a column, and the
-/// rows by the first program's weight.
-fn outcome(part: u32, heap: Heap, other: Global, surveyed: &Surveyed<'_, Heap>) -> Try {
+/// What is made of a survey for the table of weights.
+#[derive(Clone, Copy)]
+enum Part {
+    Table,
+    /// The rows that are listed.
+    Listed,
+    /// The programs with a column.
+    Relevant,
+    /// The rows by the first program's weight.
+    ByWeight,
+}
+
+const PARTS: [Part; 4] = [Part::Table, Part::Listed, Part::Relevant, Part::ByWeight];
+
+/// The outcome of a part in this memory.
+fn outcome(part: Part, heap: Heap, other: Global, surveyed: &Surveyed<'_, Heap>) -> Try {
     surveyed.keeps_limits();
     match part {
-        0 => outcome_of(weights_table(heap, other, surveyed), TABLE),
-        1 => outcome_of_list(listed(heap, other, surveyed), 6),
-        2 => outcome_of_list(relevant_programs(heap, surveyed), 2),
-        _ => outcome_of_list(rows_by_weight(heap, surveyed, 0), 6),
+        Part::Table => outcome_of(weights_table(heap, other, surveyed), TABLE),
+        Part::Listed => outcome_of_list(listed(heap, other, surveyed), 6),
+        Part::Relevant => outcome_of_list(relevant_programs(heap, surveyed), 2),
+        Part::ByWeight => outcome_of_list(rows_by_weight(heap, surveyed, 0), 6),
     }
 }
 
 /// The number of blocks that it takes.
 fn blocks(
-    part: u32,
+    part: Part,
     other: Global,
     surveyed: &Surveyed<'_, Heap>,
 ) -> Result<Option<u64>, AllocError> {
@@ -79,7 +92,7 @@ pub fn fewest_blocks(
     surveyed: &Surveyed<'_, Heap>,
 ) -> Result<Option<u64>, AllocError> {
     let mut fewest = Some(1000);
-    for part in 0..4 {
+    for part in PARTS {
         let blocks = blocks(part, other, surveyed)?;
         if blocks < fewest {
             fewest = blocks;
