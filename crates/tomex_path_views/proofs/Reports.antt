@@ -13,8 +13,10 @@ use Rattle.tomex_layout.specs.Csv.{record_text}
 use Rattle.tomex_functions.specs.ByFunction.{InOrder}
 use Rattle.tomex_functions.specs.ByPlace.{function_columns, function_fields}
 use Rattle.tomex_functions.specs.Functions.{function_key}
-use Rattle.tomex_functions.specs.Kept.{HasAddress, row_of_group}
+use Rattle.tomex_functions.specs.Kept.{HasAddress, IsFunctionField, IsIndexOf, row_of_group}
+use Rattle.tomex_functions.specs.declared.index.Index.{Index}
 use Rattle.tomex_functions.specs.declared.rows.Row.{Row}
+use Rattle.tomex_functions.proofs.Indexes.{all_addresses}
 use Rattle.tomex_functions.proofs.Listings.{of_groups, rows_are}
 use Rattle.tomex_path.specs.declared.link.Link.{Link}
 use Rattle.tomex_path.specs.Path.{path_of}
@@ -76,17 +78,34 @@ groups_have key steps path tally is ordered =
     of_groups (λ s. HasAddress s.pc steps) key (visits_along steps path) tally.groups.entries
     (entry_is key (visits_along steps path) tally is ordered) (visits_have steps path)
 
+-- the index of a run's addresses by a file's symbols
+pub index_is : {A : Type 0} (symbols read : List Symbol) (steps run : List Step) (index : Index A)
+    → read ≡ symbols → run ≡ steps → IsIndexOf read run index → IsIndexOf symbols steps index
+index_is symbols read steps run index same_symbols same_steps is =
+    subst (λ (ss : List Step). IsIndexOf symbols ss index) same_steps
+    (subst (λ (ss : List Symbol). IsIndexOf ss run index) same_symbols is)
+
 -- with the functions of a file's symbols
-pub places_with : {A : Type 0} (file : List ℕ) (symbols : List Symbol) (config : Configuration) (steps : List Step)
-    (tally : Tally A) (text : List ℕ) → symbols ≡ symbols_of file → IsTally pc_of (path_visits config steps) tally
-    → IsOrdered nat_cmp tally.groups → text ≡ report_of_tally function_columns (function_fields file symbols) tally
-    → IsPathByPlace file config steps text
-places_with file symbols config steps tally text are is ordered written =
-    places_of function_columns (function_fields file (symbols_of file)) config steps tally is ordered text
-    (subst (λ (ss : List Symbol). text ≡ report_of_tally function_columns (function_fields file ss) tally) are written)
+pub places_with : {A B C E : Type 0} (file : List ℕ) (config : Configuration) (steps : List Step) (index : Index A)
+    (tally : Tally B) → IsIndexOf (symbols_of file) steps index → IsTally pc_of (path_visits config steps) tally
+    → (r : Result (Vec ℕ C) E) → IfOk r (λ text. (own : Step → List (List ℕ))
+    → All (λ place. IsFunctionField file index place.first (own place.first)) (values tally.groups)
+    → text.items ≡ report_of_tally function_columns own tally) → OnOk r (IsOrdered nat_cmp tally.groups)
+    → IfOk r (λ text. IsPathByPlace file config steps text.items)
+places_with file config steps index tally indexed is (Ok text) written ordered =
+    let have = groups_have pc_of steps (path_of config (history config steps)) tally is ordered in
+    places_of function_columns (function_fields file (symbols_of file)) config steps tally is ordered text.items
+    (written (function_fields file (symbols_of file)) (λ k d within. record {
+      symbols = symbols_of file;
+      steps = steps;
+      index_is = indexed;
+      has = have k d within;
+      own_is = refl;
+    }))
+places_with file config steps index tally indexed is (Err e) written ordered = tt
 
 -- the report of the rows of a file's functions
-rows_of_file : {A : Type 0} (file : List ℕ) (config : Configuration) (steps : List Step) (tally : Tally A)
+pub rows_of_file : {A : Type 0} (file : List ℕ) (config : Configuration) (steps : List Step) (tally : Tally A)
     (made sorted : List Row) (text : List ℕ) → IsTally (function_key (symbols_of file)) (path_visits config steps) tally
     → IsOrdered nat_cmp tally.groups → made ≡ map (row_of_group (symbols_of file) []) (values tally.groups)
     → IsPermutation made sorted → InOrder sorted → text ≡ report_of_sums file sorted tally.all
@@ -97,22 +116,21 @@ rows_of_file file config steps tally made sorted text is ordered are moved order
   written ∙ ap (λ (s : Sum). report_of_sums file sorted s) is.all,
 )
 
-pub by_function : {A : Type 0} (file : List ℕ) (symbols : List Symbol) (config : Configuration) (steps : List Step)
-    (tally : Tally A) (made sorted : List Row) (text : List ℕ) → symbols ≡ symbols_of file
-    → IsTally (function_key symbols) (path_visits config steps) tally → IsOrdered nat_cmp tally.groups
-    → made ≡ map (row_of_group symbols []) (values tally.groups) → IsPermutation made sorted × InOrder sorted
-    → text ≡ report_of_sums file sorted tally.all → IsPathByFunction file config steps text
-by_function file symbols config steps tally made sorted text same is ordered are moved written =
-    rows_of_file file config steps tally made sorted text
-    (subst (λ (ss : List Symbol). IsTally (function_key ss) (path_visits config steps) tally) same is) ordered
-    (subst (λ (ss : List Symbol). made ≡ map (row_of_group ss []) (values tally.groups)) same are) moved.0 moved.1
-    written
-
 -- the links with the functions of a file's symbols
-pub links_with : (file : List ℕ) (symbols : List Symbol) (config : Configuration) (steps run whole : List Step)
-    (times : List Times) (path : List Link) (text : List ℕ) → symbols ≡ symbols_of file → steps ≡ whole
-    → run ≡ whole → times ≡ times_in config run → path ≡ path_of config (history config run)
-    → text ≡ report_by_link function_columns (function_fields file symbols) steps times path
-    → IsPathLinks file config whole text
-links_with file symbols config steps run whole times path text are same_steps same_run timed is written =
-    written ∙ rw (are, timed, is, same_steps, same_run) refl
+pub links_with : {A B E : Type 0} (file : List ℕ) (config : Configuration) (steps run whole : List Step)
+    (index : Index A) (times : List Times) (path : List Link) → IsIndexOf (symbols_of file) whole index
+    → steps ≡ whole → run ≡ whole → times ≡ times_in config run → path ≡ path_of config (history config run)
+    → (r : Result (Vec ℕ B) E) → IfOk r (λ text. (own : Step → List (List ℕ))
+    → All (λ s. IsFunctionField file index s (own s)) steps
+    → text.items ≡ report_by_link function_columns own steps times path)
+    → IfOk r (λ text. IsPathLinks file config whole text.items)
+links_with file config steps run whole index times path indexed same_steps same_run timed is (Ok text) written =
+    written (function_fields file (symbols_of file)) (λ k d within. record {
+      symbols = symbols_of file;
+      steps = steps;
+      index_is = subst (λ (ss : List Step). IsIndexOf (symbols_of file) ss index) (sym same_steps) indexed;
+      has = all_addresses steps k d within;
+      own_is = refl;
+    })
+    ∙ rw (timed, is, same_steps, same_run) refl
+links_with file config steps run whole index times path indexed same_steps same_run timed is (Err e) written = tt

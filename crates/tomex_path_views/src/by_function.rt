@@ -8,21 +8,56 @@ ghost use Rattle.tomex_rvexec.specs.Trace.{steps_from};
 ghost use Rattle.tomex_rvexec.specs.declared.step.Step.{Step};
 ghost use Rattle.tomex_layout.specs.Csv.{IsReady};
 ghost use Rattle.tomex_layout.specs.Growth.{Writes};
+ghost use Rattle.tomex_functions.specs.Functions.{function_key};
 ghost use Rattle.tomex_functions.specs.Kept.{HasAddress, IsIndexOf, row_of_group};
 ghost use Rattle.tomex_functions.specs.WithFunctions.{IsWithFunctions};
 ghost use Rattle.tomex_path_views.specs.ByFunction.{IsPathByFunction, report_of_sums};
+ghost use Rattle.tomex_path_views.specs.Charges.{path_visits};
+ghost use Rattle.tomex_run_views.specs.Tally.{IsTally};
 ghost use Rattle.tomex_symbols.specs.declared.symbol.Symbol.{Symbol};
 
-use crate::charges::{ChargeColumns, count_links};
+use crate::charges::{ChargeColumns, count_path};
+use crate::with_functions::index_of;
 use csv::Writer;
 use std::alloc::{AllocError, Allocator, Global};
 use tomex_config::Config;
 use tomex_functions::{FunctionsError, Index, Row, keys_of, put_rows, sort_rows};
 use tomex_layout::into_text;
-use tomex_path::path;
 use tomex_run_views::{Sum, Tally, put_columns, put_sum};
+use tomex_rvexec::Step;
 use tomex_study::Program;
-use tomex_symbols::{has_symbols, symbols};
+use tomex_symbols::has_symbols;
+
+/// The key of the function of each step of a run.
+fn function_keys<A: Allocator + Clone>(
+    alloc: &A,
+    index: &Index<A>,
+    steps: &[Step],
+) -> Result<Vec<u64, A>, AllocError>
+    ensures { IfOk result (λ keys. (symbols : List Symbol) → IsIndexOf symbols steps.now index.now
+        → keys.items ≡ map (function_key symbols) steps.now) }
+{
+    let functions = index.functions_of(alloc.clone()?, steps)?;
+    keys_of(alloc.clone()?, functions.as_slice())
+}
+
+/// The links of a program's path on a configuration, counted by the functions of their steps.
+fn count_by_function<A: Allocator + Clone>(
+    alloc: &A,
+    program: &Program<A>,
+    config: &Config,
+    index: &Index<A>,
+) -> Result<Tally<A>, AllocError>
+    requires { (symbols : List Symbol)
+        × IsIndexOf symbols (steps_from program.now.limit (start_of program.now.image)) index.now }
+    ensures { IfOk result (λ tally. (symbols : List Symbol)
+        → IsIndexOf symbols (steps_from program.now.limit (start_of program.now.image)) index.now
+        → IsTally (function_key symbols)
+        (path_visits config.now (steps_from program.now.limit (start_of program.now.image))) tally) }
+{
+    let keys = function_keys(alloc, index, program.steps())?;
+    count_path(alloc, program, config, keys.as_slice())
+}
 
 /// The rows of the functions, by their keys. No calls are counted.
 fn rows_of<A: Allocator + Clone>(
@@ -77,6 +112,24 @@ fn text_of_rows<A: Allocator>(
     into_text(writer)
 }
 
+/// A path by function, by the symbols that the file may have.
+fn text_by_function<A: Allocator + Clone>(
+    alloc: A,
+    heap: Global,
+    program: &Program<A>,
+    config: &Config,
+    file: &[u8],
+) -> Result<Vec<u8, A>, AllocError>
+    ensures { IfOk result (λ text. IsPathByFunction file.now config.now
+        (steps_from program.now.limit (start_of program.now.image)) text.items) }
+{
+    let index = index_of(&alloc, program, file)?;
+    let tally = count_by_function(&alloc, program, config, &index)?;
+    let mut rows = rows_of(alloc.clone()?, &tally, &index)?;
+    sort_rows(&mut rows);
+    text_of_rows(alloc, heap, file, rows.as_slice(), &tally.all)
+}
+
 /// A run's critical path by function: CSV with a header, a record for each function of the program's file that has a
 /// link, with how many links it has, how many cycles are theirs, and how many of these are charged to what their steps
 /// had waited for. Those with the most cycles come first, then those at lower addresses; a record without a name
@@ -97,14 +150,5 @@ pub fn path_by_function<A: Allocator + Clone>(
     if !has_symbols(file) {
         return Err(FunctionsError::NoSymbols);
     }
-    let symbols = symbols(alloc.clone()?, file)?;
-    let steps = program.steps();
-    let run = path(alloc.clone()?, program.run(), config)?;
-    let index = Index::new(alloc.clone()?, symbols, steps)?;
-    let functions = index.functions_of(alloc.clone()?, steps)?;
-    let keys = keys_of(alloc.clone()?, functions.as_slice())?;
-    let tally = count_links(alloc.clone()?, keys.as_slice(), steps, run.links.as_slice())?;
-    let mut rows = rows_of(alloc.clone()?, &tally, &index)?;
-    sort_rows(&mut rows);
-    Ok(text_of_rows(alloc, heap, file, rows.as_slice(), &tally.all)?)
+    Ok(text_by_function(alloc, heap, program, config, file)?)
 }

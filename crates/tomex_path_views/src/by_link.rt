@@ -167,6 +167,29 @@ fn put_header<A: Allocator>(
     put_record(writer, &record)
 }
 
+/// Adds the fields of all links.
+fn push_total(
+    fields: &mut ByteRecord,
+    scratch: &mut String,
+    names: &[&str],
+    path: &[Link],
+) -> Result<(), AllocError>
+    requires whole { partial_of fields.old ≡ [] }
+    requires short { AreShort path.now }
+    ensures fields { OnOk result (fields_of fields.new
+        ≡ fields_of fields.old ++ total_fields (map (λ n. n.now) names.now) path.now) }
+    ensures whole { OnOk result (partial_of fields.new ≡ []) }
+{
+    let share = whole_share(path);
+    push_names(fields, &["total", "-", "-"])?;
+    push_dashes(fields, names)?;
+    push_names(fields, &["-"])?;
+    push_decimal(fields, scratch, share.waits)?;
+    push_names(fields, &["-", "-"])?;
+    push_decimal(fields, scratch, share.cycles)?;
+    push_names(fields, &["-"])
+}
+
 /// Writes the record of all links.
 fn put_total<A: Allocator>(
     writer: &mut Writer<Vec<u8, A>>,
@@ -181,15 +204,7 @@ fn put_total<A: Allocator>(
         (record_text (total_fields (map (λ n. n.now) names.now) path.now)) writer.old writer.new) }
 {
     let mut record = ByteRecord::new(heap);
-    let mut scratch = String::new(heap);
-    let share = whole_share(path);
-    push_names(&mut record, &["total", "-", "-"])?;
-    push_dashes(&mut record, names)?;
-    push_names(&mut record, &["-"])?;
-    push_decimal(&mut record, &mut scratch, share.waits)?;
-    push_names(&mut record, &["-", "-"])?;
-    push_decimal(&mut record, &mut scratch, share.cycles)?;
-    push_names(&mut record, &["-"])?;
+    push_total(&mut record, &mut String::new(heap), names, path)?;
     put_record(writer, &record)
 }
 

@@ -10,15 +10,12 @@ ghost use Rattle.tomex_layout.specs.Csv.{IsReady};
 ghost use Rattle.tomex_layout.specs.Growth.{Writes};
 ghost use Rattle.tomex_path_views.specs.ByPlace.{IsPathByPlace, report_of_tally};
 
-use crate::charges::{ChargeColumns, count_links};
+use crate::charges::{ChargeColumns, count_by_address};
 use csv::Writer;
 use std::alloc::{AllocError, Allocator, Global};
 use tomex_config::Config;
 use tomex_layout::into_text;
-use tomex_path::path;
-use tomex_run_views::{
-    NoColumns, StepColumns, Tally, addresses_of, put_header, put_last, put_places,
-};
+use tomex_run_views::{NoColumns, StepColumns, Tally, put_header, put_last, put_places};
 use tomex_study::Program;
 
 /// Writes the report of what was counted.
@@ -72,14 +69,6 @@ pub fn path_by_pc<A: Allocator + Clone>(
     ensures { IfOk result (λ text.
         IsPathByPlace config.now (steps_from program.now.limit (start_of program.now.image)) text.items) }
 {
-    let steps = program.steps();
-    let run = path(alloc.clone()?, program.run(), config)?;
-    let addresses = addresses_of(alloc.clone()?, steps)?;
-    let tally = count_links(
-        alloc.clone()?,
-        addresses.as_slice(),
-        steps,
-        run.links.as_slice(),
-    )?;
+    let tally = count_by_address(&alloc, program, config)?;
     text_of_places(alloc, heap, &[], &NoColumns, &tally)
 }

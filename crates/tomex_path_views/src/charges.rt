@@ -2,22 +2,26 @@
 
 ghost use Rattle.std.specs.Prelude.{◌≡◌, ◌≤◌, ◌++◌, [], ℕ, IfOk, List, OnOk, length, map};
 ghost use Rattle.csv.specs.Records.{fields_of, partial_of};
+ghost use Rattle.tomex_rvexec.specs.Run.{start_of};
+ghost use Rattle.tomex_rvexec.specs.Trace.{steps_from};
 ghost use Rattle.tomex_rvexec.specs.declared.step.Step.{Step};
 ghost use Rattle.tomex_path.specs.Laws.{cycles_of};
 ghost use Rattle.tomex_path_views.specs.Charges.{AreOfSteps, charge_columns, charge_fields, charged, order_of};
-ghost use Rattle.tomex_path_views.specs.Charges.{visits_along};
+ghost use Rattle.tomex_path_views.specs.Charges.{path_visits, visits_along};
 ghost use Rattle.tomex_path_views.specs.Shares.{AreShort, IsShort};
+ghost use Rattle.tomex_run_views.specs.ByPlace.{pc_of};
 ghost use Rattle.tomex_run_views.specs.Tally.{IsTally};
 
 use crate::shares::cycles_of;
 use csv::ByteRecord;
 use std::alloc::{AllocError, Allocator};
-use tomex_config::Part;
+use tomex_config::{Config, Part};
 use tomex_functions::{Row, RowColumns};
 use tomex_layout::push_names;
-use tomex_path::{Link, Reason};
-use tomex_run_views::{Sum, SumColumns, Tally, push_decimals};
+use tomex_path::{Link, Reason, path};
+use tomex_run_views::{Sum, SumColumns, Tally, addresses_of, push_decimals};
 use tomex_rvexec::Step;
+use tomex_study::Program;
 use tomex_timing::Waits;
 
 /// The names of the columns of sums.
@@ -46,7 +50,7 @@ fn charged(cycles: u64, reason: Reason) -> Waits
 }
 
 /// Counts the links of a path by a key of their steps. There is a key for each step of the run.
-pub fn count_links<A: Allocator + Clone>(
+fn count_links<A: Allocator + Clone>(
     alloc: A,
     keys: &[u64],
     steps: &[Step],
@@ -70,6 +74,37 @@ pub fn count_links<A: Allocator + Clone>(
         )?;
     }
     Ok(tally)
+}
+
+/// The links of a program's path on a configuration, counted by a key of their steps. There is a key for each step of
+/// the run.
+pub fn count_path<A: Allocator + Clone>(
+    alloc: &A,
+    program: &Program<A>,
+    config: &Config,
+    keys: &[u64],
+) -> Result<Tally<A>, AllocError>
+    requires { (key : Step → ℕ)
+        × (keys.now ≡ map key (steps_from program.now.limit (start_of program.now.image))) }
+    ensures { IfOk result (λ tally. (key : Step → ℕ)
+        → keys.now ≡ map key (steps_from program.now.limit (start_of program.now.image)) → IsTally key
+        (path_visits config.now (steps_from program.now.limit (start_of program.now.image))) tally) }
+{
+    let run = path(alloc.clone()?, program.run(), config)?;
+    count_links(alloc.clone()?, keys, program.steps(), run.links.as_slice())
+}
+
+/// The links of a program's path on a configuration, counted by the addresses of their steps.
+pub fn count_by_address<A: Allocator + Clone>(
+    alloc: &A,
+    program: &Program<A>,
+    config: &Config,
+) -> Result<Tally<A>, AllocError>
+    ensures { IfOk result (λ tally. IsTally pc_of
+        (path_visits config.now (steps_from program.now.limit (start_of program.now.image))) tally) }
+{
+    let addresses = addresses_of(alloc.clone()?, program.steps())?;
+    count_path(alloc, program, config, addresses.as_slice())
 }
 
 /// The cycles that are charged to nothing.

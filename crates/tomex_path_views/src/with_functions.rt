@@ -1,20 +1,55 @@
 //! A run's path by link and by place, with the function of each.
 
+ghost use Rattle.std.specs.Prelude.{IfOk};
 ghost use Rattle.tomex_rvexec.specs.Run.{start_of};
 ghost use Rattle.tomex_rvexec.specs.Trace.{steps_from};
+ghost use Rattle.tomex_functions.specs.Kept.{IsIndexOf};
 ghost use Rattle.tomex_functions.specs.WithFunctions.{IsWithFunctions};
 ghost use Rattle.tomex_path_views.specs.ByFunction.{IsPathByPlace, IsPathLinks};
+ghost use Rattle.tomex_symbols.specs.Symbols.{symbols_of};
 
 use crate::by_link::text_of_links;
 use crate::by_place::text_of_places;
-use crate::charges::count_links;
-use std::alloc::{Allocator, Global};
+use crate::charges::count_by_address;
+use std::alloc::{AllocError, Allocator, Global};
 use tomex_config::Config;
 use tomex_functions::{FunctionColumn, FunctionsError, Index};
 use tomex_path::path;
-use tomex_run_views::addresses_of;
 use tomex_study::Program;
 use tomex_symbols::{has_symbols, symbols};
+
+/// The functions of the addresses of a program's run, by the symbols of its whole file.
+pub fn index_of<A: Allocator + Clone>(
+    alloc: &A,
+    program: &Program<A>,
+    file: &[u8],
+) -> Result<Index<A>, AllocError>
+    ensures { IfOk result (λ index. IsIndexOf (symbols_of file.now)
+        (steps_from program.now.limit (start_of program.now.image)) index) }
+{
+    let symbols = symbols(alloc.clone()?, file)?;
+    Index::new(alloc.clone()?, symbols, program.steps())
+}
+
+/// The links of a path with their functions, by the symbols that the file may have.
+fn links_with_functions<A: Allocator + Clone>(
+    alloc: A,
+    heap: Global,
+    program: &Program<A>,
+    config: &Config,
+    file: &[u8],
+) -> Result<Vec<u8, A>, AllocError>
+    ensures { IfOk result (λ text. IsPathLinks file.now config.now
+        (steps_from program.now.limit (start_of program.now.image)) text.items) }
+{
+    let index = index_of(&alloc, program, file)?;
+    let run = path(alloc.clone()?, program.run(), config)?;
+    let column = FunctionColumn {
+        file,
+        index: &index,
+    };
+    text_of_links(alloc, heap, &["function"], &column, program.steps(), &run)
+}
 
 /// The links of a run's critical path with the function of each: the records of
 /// [`path_links`](crate::path_links) with a column more.
@@ -34,15 +69,27 @@ pub fn path_links_and_functions<A: Allocator + Clone>(
     if !has_symbols(file) {
         return Err(FunctionsError::NoSymbols);
     }
-    let symbols = symbols(alloc.clone()?, file)?;
-    let steps = program.steps();
-    let index = Index::new(alloc.clone()?, symbols, steps)?;
-    let run = path(alloc.clone()?, program.run(), config)?;
+    Ok(links_with_functions(alloc, heap, program, config, file)?)
+}
+
+/// A path by place with the functions, by the symbols that the file may have.
+fn places_with_functions<A: Allocator + Clone>(
+    alloc: A,
+    heap: Global,
+    program: &Program<A>,
+    config: &Config,
+    file: &[u8],
+) -> Result<Vec<u8, A>, AllocError>
+    ensures { IfOk result (λ text. IsPathByPlace file.now config.now
+        (steps_from program.now.limit (start_of program.now.image)) text.items) }
+{
+    let index = index_of(&alloc, program, file)?;
+    let tally = count_by_address(&alloc, program, config)?;
     let column = FunctionColumn {
         file,
         index: &index,
     };
-    Ok(text_of_links(alloc, heap, &["function"], &column, steps, &run)?)
+    text_of_places(alloc, heap, &["function"], &column, &tally)
 }
 
 /// A run's critical path by place in the program with the function of each: the records of
@@ -63,20 +110,5 @@ pub fn path_by_pc_and_function<A: Allocator + Clone>(
     if !has_symbols(file) {
         return Err(FunctionsError::NoSymbols);
     }
-    let symbols = symbols(alloc.clone()?, file)?;
-    let steps = program.steps();
-    let index = Index::new(alloc.clone()?, symbols, steps)?;
-    let run = path(alloc.clone()?, program.run(), config)?;
-    let addresses = addresses_of(alloc.clone()?, steps)?;
-    let tally = count_links(
-        alloc.clone()?,
-        addresses.as_slice(),
-        steps,
-        run.links.as_slice(),
-    )?;
-    let column = FunctionColumn {
-        file,
-        index: &index,
-    };
-    Ok(text_of_places(alloc, heap, &["function"], &column, &tally)?)
+    Ok(places_with_functions(alloc, heap, program, config, file)?)
 }
