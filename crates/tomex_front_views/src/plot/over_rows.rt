@@ -15,7 +15,7 @@ use tomex_study::Surveyed;
 #[tactic(auto, unfolding(crate::specs::RowsPlot::picture_over))]
 fn push_over<A: Allocator + Clone>(
     text: &mut String<A>,
-    alloc: &A,
+    alloc: A,
     heap: Global,
     all: usize,
     rows: &[FrontRow],
@@ -26,7 +26,7 @@ fn push_over<A: Allocator + Clone>(
     let axes = axes_of(rows);
     let stairs = stairs_of(heap, &axes, front)?;
     push_behind(text, heap, &axes, stairs.as_str(), front.len(), all)?;
-    push_dots_line(text, alloc.clone()?, &axes, rows)?;
+    push_dots_line(text, alloc, &axes, rows)?;
     push_front(text, heap, &axes, stairs.as_str(), front)
 }
 
@@ -41,7 +41,7 @@ fn picture_over<A: Allocator + Clone>(
     ensures { IfOk result (λ text. text.items ≡ picture_over all rows.now front.now) }
 {
     let mut text = String::new(alloc.clone()?);
-    push_over(&mut text, &alloc, heap, all, rows, front)?;
+    push_over(&mut text, alloc, heap, all, rows, front)?;
     Ok(text.into_bytes())
 }
 
