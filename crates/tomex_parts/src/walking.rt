@@ -32,7 +32,10 @@ const PACE: u32 = 1_048_576;
 
 /// The word of the next step's pc, which must lie in memory.
 #[tactic(auto, unfolding(tomex_rvexec::specs::Machine::step_of))]
-fn next_word<'a, A: Allocator>(cpu: &Cpu<'a, A>, uses: &LastUses<A>) -> Result<usize, PartsError>
+fn next_word<'a, A: Allocator + Clone>(
+    cpu: &Cpu<'a, A>,
+    uses: &LastUses<A>,
+) -> Result<usize, PartsError>
     requires state { IsState cpu.now }
     requires window { IsWindow cpu.now.image.window.base cpu.now.image.window.size }
     requires words { AreWordsFor cpu.now uses.now.base uses.now.numbers.items }
@@ -53,7 +56,7 @@ fn next_word<'a, A: Allocator>(cpu: &Cpu<'a, A>, uses: &LastUses<A>) -> Result<u
 }
 
 /// Carries out the step of this number, and notes which words it uses; true if it ends the run.
-fn take_step<'a, A: Allocator>(
+fn take_step<'a, A: Allocator + Clone>(
     cpu: &mut Cpu<'a, A>,
     uses: &mut LastUses<A>,
     number: u32,
@@ -133,8 +136,8 @@ fn walk_with<'a, A: Allocator + Clone, W: Watch>(
         → run_length (most_stretches * steps) (start_of image.now) ≡ Err e) }
 {
     let window = image.window();
-    let mut uses = LastUses::new(alloc.clone()?, window)?;
-    let mut tally = Tally::new(alloc.clone()?, window)?;
+    let mut uses = LastUses::new(alloc, window)?;
+    let mut tally = Tally::new(alloc, window)?;
     tally_run(alloc, image, steps, watch, cpu, &mut uses, &mut tally)?;
     Ok(tally.into_stretches(steps))
 }
