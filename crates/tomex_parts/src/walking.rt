@@ -1,7 +1,7 @@
 //! The whole run, by its stretches.
 
-ghost use Rattle.std.specs.Prelude.{◌≡◌, ◌+◌, ◌*◌, ◌/◌, ◌≤◌, ◌<◌, ◌≢◌, ℕ, [], Result, Err, IfErr, IfOk, IsTrue, OnOk, length};
-ghost use Rattle.std.specs.Prelude.{replicate};
+ghost use Rattle.std.specs.Prelude.{◌≡◌, ◌+◌, ◌*◌, ◌/◌, ◌≤◌, ◌<◌, ◌≢◌, ℕ, [], Result, Err, IfErr, IfOk, IsTrue};
+ghost use Rattle.std.specs.Prelude.{OnOk, length, replicate};
 ghost use Rattle.tomex_parts.specs.declared.stretches.Stretches.{Stretches};
 ghost use Rattle.tomex_cut.specs.Part.{most_part};
 ghost use Rattle.tomex_image.specs.Window.{IsWindow};
