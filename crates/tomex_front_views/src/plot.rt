@@ -1,9 +1,10 @@
 //! The front as one picture in SVG.
 
-ghost use Rattle.std.specs.Prelude.{◌≡◌, length, OnOk, IfOk, string_bytes};
+ghost use Rattle.std.specs.Prelude.{◌≡◌, ◌++◌, length, OnOk, IfOk, string_bytes};
 ghost use Rattle.tomex_layout.specs.Growth.{Appends};
 ghost use Rattle.tomex_front_views.specs.Plot.{front_picture_of, lines_text, picture_of_rows, rows_text};
-ghost use Rattle.tomex_front_views.specs.Plot.{scales_text, shade, sheet, size_text, title_of};
+ghost use Rattle.tomex_front_views.specs.Plot.{scales_text, shade, sheet, size_text, staircase, title_of};
+ghost use Rattle.tomex_pareto.specs.Hull.{hull_of};
 
 pub mod axes;
 pub mod dots;
@@ -135,8 +136,90 @@ fn title_of(heap: Global, rows: usize, all: usize) -> Result<String, AllocError>
     format!(in heap; "front: {rows} of {all} rows")
 }
 
-/// The picture of a front, out of `all` rows.
+/// Adds the picture's size, and a sheet with the title of a front of so many rows, out of `all`.
+fn push_titled<A: Allocator>(
+    text: &mut String<A>,
+    heap: Global,
+    rows: usize,
+    all: usize,
+) -> Result<(), AllocError>
+    ensures { OnOk result (Appends (size_text ++ sheet (title_of rows all)) text.old text.new) }
+{
+    let title = title_of(heap, rows, all)?;
+    push_size(text)?;
+    push_sheet(text, title.as_str())
+}
+
+/// Adds the shaded area, and the scales.
+fn push_ground<A: Allocator>(
+    text: &mut String<A>,
+    axes: &Axes,
+    stairs: &str,
+) -> Result<(), AllocError>
+    ensures { OnOk result (Appends
+        (shade stairs.now ++ (lines_text axes.now ++ scales_text axes.now)) text.old text.new) }
+{
+    push_shade(text, stairs)?;
+    push_lines(text, axes)?;
+    push_scales(text, axes)
+}
+
+/// Adds what is behind the rows of a front, of which there are so many, out of `all`.
+fn push_behind<A: Allocator>(
+    text: &mut String<A>,
+    heap: Global,
+    axes: &Axes,
+    stairs: &str,
+    rows: usize,
+    all: usize,
+) -> Result<(), AllocError>
+    ensures { OnOk result (Appends (size_text ++ (sheet (title_of rows all) ++ (shade stairs.now
+        ++ (lines_text axes.now ++ scales_text axes.now)))) text.old text.new) }
+{
+    push_titled(text, heap, rows, all)?;
+    push_ground(text, axes, stairs)
+}
+
+/// The staircase through the rows of a front.
+fn stairs_of(heap: Global, axes: &Axes, rows: &[FrontRow]) -> Result<String, AllocError>
+    ensures { IfOk result (λ stairs. string_bytes stairs ≡ staircase axes.now rows.now) }
+{
+    let mut stairs = String::new(heap);
+    push_staircase(&mut stairs, axes, rows)?;
+    Ok(stairs)
+}
+
+/// Adds the rows of a front as `push_rows` does, filled if they are on its hull.
+fn push_front<A: Allocator>(
+    text: &mut String<A>,
+    heap: Global,
+    axes: &Axes,
+    stairs: &str,
+    rows: &[FrontRow],
+) -> Result<(), AllocError>
+    ensures { OnOk result (Appends (rows_text axes.now stairs.now (hull_of rows.now) rows.now) text.old text.new) }
+{
+    let hull = hull(heap, rows)?;
+    push_rows(text, heap, axes, stairs, hull.as_slice(), rows)
+}
+
+/// Adds the picture of a front, out of `all` rows.
 #[tactic(auto, unfolding(crate::specs::Plot::picture_of_rows))]
+fn push_picture<A: Allocator>(
+    text: &mut String<A>,
+    heap: Global,
+    all: usize,
+    rows: &[FrontRow],
+) -> Result<(), AllocError>
+    ensures { OnOk result (Appends (picture_of_rows all rows.now) text.old text.new) }
+{
+    let axes = axes_of(rows);
+    let stairs = stairs_of(heap, &axes, rows)?;
+    push_behind(text, heap, &axes, stairs.as_str(), rows.len(), all)?;
+    push_front(text, heap, &axes, stairs.as_str(), rows)
+}
+
+/// The picture of a front, out of `all` rows.
 fn picture_of_rows<A: Allocator>(
     alloc: A,
     heap: Global,
@@ -145,25 +228,8 @@ fn picture_of_rows<A: Allocator>(
 ) -> Result<Vec<u8, A>, AllocError>
     ensures { IfOk result (λ text. text.items ≡ picture_of_rows all rows.now) }
 {
-    let axes = axes_of(rows);
-    let hull = hull(heap, rows)?;
-    let title = title_of(heap, rows.len(), all)?;
-    let mut stairs = String::new(heap);
-    push_staircase(&mut stairs, &axes, rows)?;
     let mut text = String::new(alloc);
-    push_size(&mut text)?;
-    push_sheet(&mut text, title.as_str())?;
-    push_shade(&mut text, stairs.as_str())?;
-    push_lines(&mut text, &axes)?;
-    push_scales(&mut text, &axes)?;
-    push_rows(
-        &mut text,
-        heap,
-        &axes,
-        stairs.as_str(),
-        hull.as_slice(),
-        rows,
-    )?;
+    push_picture(&mut text, heap, all, rows)?;
     Ok(text.into_bytes())
 }
 

@@ -89,7 +89,7 @@ impl<A: Allocator + Clone> Paths<A> {
 
 /// The cycles of a path by reason, given the number of the loop of each step, of `count` loops.
 pub(crate) fn paths_of<A: Allocator + Clone>(
-    alloc: A,
+    alloc: &A,
     keys: &[Option<u32>],
     count: usize,
     links: &[Link],

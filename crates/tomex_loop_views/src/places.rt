@@ -47,15 +47,15 @@ fn addresses_of<A: Allocator>(alloc: A, steps: &[Step]) -> Result<Vec<u32, A>, A
 }
 
 /// The addresses of these steps, given those of all.
-fn at_steps<A: Allocator>(
-    alloc: A,
+fn at_steps<A: Allocator + Clone>(
+    alloc: &A,
     addresses: &[u32],
     steps: &[u32],
 ) -> Result<Vec<u32, A>, AllocError>
     requires { All (λ step. step < length addresses.now) steps.now }
     ensures { IfOk result (λ v. v.items ≡ map (slice_index addresses.now) steps.now) }
 {
-    let mut found = Vec::new(alloc);
+    let mut found = Vec::new(alloc.clone()?);
     for step in steps {
         found.push(addresses[*step as usize])?;
     }
@@ -80,7 +80,7 @@ fn functions_at<A: Allocator, B: Allocator>(
 
 /// The functions of the heads of loops, given their addresses.
 fn functions_of<A: Allocator + Clone>(
-    alloc: A,
+    alloc: &A,
     file: &[u8],
     steps: &[Step],
     heads: &[u32],
@@ -90,13 +90,13 @@ fn functions_of<A: Allocator + Clone>(
 {
     let symbols = symbols(alloc.clone()?, file)?;
     let index = Index::new(alloc.clone()?, symbols, steps)?;
-    functions_at(alloc, &index, heads)
+    functions_at(alloc.clone()?, &index, heads)
 }
 
 /// For each of `count` loops the least and the greatest address of the steps in its visits, given the address of each
 /// step and the number of each visit's loop.
 fn extents_in<A: Allocator + Clone>(
-    alloc: A,
+    alloc: &A,
     count: usize,
     loops: &[u32],
     visits: &[Visit],
@@ -114,7 +114,7 @@ fn extents_in<A: Allocator + Clone>(
         (slice_index_or extents.items n None)) }
 {
     let within = within_of(alloc.clone()?, visits)?;
-    extents_of(alloc, count, loops, &within, here, addresses)
+    extents_of(alloc.clone()?, count, loops, &within, here, addresses)
 }
 
 /// The address of the head of a visit's loop, if there is a visit.
@@ -155,7 +155,7 @@ fn heads_around<A: Allocator>(
 
 /// For each loop the addresses of the heads around its visits, given the number of each visit's loop.
 fn around_in<A: Allocator + Clone>(
-    alloc: A,
+    alloc: &A,
     addresses: &[u32],
     heads: &[u32],
     loops: &[u32],
@@ -171,13 +171,47 @@ fn around_in<A: Allocator + Clone>(
         ≡ with_key n (loops_of visits.now) (heads_around addresses.now heads.now visits.now)) }
 {
     let around = heads_around(alloc.clone()?, addresses, heads, visits)?;
-    grouped(alloc, heads.len(), loops, &around)
+    grouped(alloc.clone()?, heads.len(), loops, &around)
+}
+
+/// The places of a run's loops, given the address of each step and the number of each visit's loop.
+fn places_at<A: Allocator + Clone>(
+    alloc: &A,
+    file: &[u8],
+    steps: &[Step],
+    heads: &[u32],
+    visits: &[Visit],
+    here: &[Option<u32>],
+    addresses: &[u32],
+    loops: &[u32],
+) -> Result<Places<A>, AllocError>
+    requires heads { All (λ h. h < length steps.now) heads.now }
+    requires numbers { All (λ v. v.number < length heads.now) visits.now }
+    requires around { AreEarlier (λ v. v.around) visits.now }
+    requires within { AreEarlier (λ v. v.within) visits.now }
+    requires here { All (IsOneOf (length visits.now)) here.now }
+    requires pairs { length here.now ≡ length steps.now }
+    requires addresses { addresses.now ≡ map pc_of steps.now }
+    requires loops { loops.now ≡ loops_of visits.now }
+    ensures { IfOk result (λ p.
+        ArePlaces (symbols_of file.now) (map pc_of steps.now) heads.now visits.now here.now p) }
+{
+    let at_heads = at_steps(alloc, addresses, heads)?;
+    let functions = functions_of(alloc, file, steps, &at_heads)?;
+    let extents = extents_in(alloc, heads.len(), loops, visits, here, addresses)?;
+    let around = around_in(alloc, addresses, heads, loops, visits)?;
+    Ok(Places {
+        heads: at_heads,
+        functions,
+        extents,
+        around,
+    })
 }
 
 /// The places of a run's loops. `heads` has the step that is the head of each loop, and `here` the innermost visit that
 /// each step is in, in its own call. `file` is the whole file of the program.
 pub(crate) fn places_of<A: Allocator + Clone>(
-    alloc: A,
+    alloc: &A,
     file: &[u8],
     steps: &[Step],
     heads: &[u32],
@@ -195,21 +229,5 @@ pub(crate) fn places_of<A: Allocator + Clone>(
 {
     let addresses = addresses_of(alloc.clone()?, steps)?;
     let loops = loops_of(alloc.clone()?, visits)?;
-    let at_heads = at_steps(alloc.clone()?, &addresses, heads)?;
-    let functions = functions_of(alloc.clone()?, file, steps, &at_heads)?;
-    let extents = extents_in(
-        alloc.clone()?,
-        heads.len(),
-        &loops,
-        visits,
-        here,
-        &addresses,
-    )?;
-    let around = around_in(alloc, &addresses, heads, &loops, visits)?;
-    Ok(Places {
-        heads: at_heads,
-        functions,
-        extents,
-        around,
-    })
+    places_at(alloc, file, steps, heads, visits, here, &addresses, &loops)
 }

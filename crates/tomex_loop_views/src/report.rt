@@ -9,7 +9,7 @@ ghost use Rattle.tomex_run_views.specs.ByPlace.{pc_of};
 ghost use Rattle.tomex_loops.specs.Sound.{AreSound, IsOneOf};
 ghost use Rattle.tomex_loop_sums.specs.ByLoop.{keys_of, spans_by};
 ghost use Rattle.tomex_loop_sums.specs.Columns.{AreSpent, AreTurns};
-ghost use Rattle.tomex_loop_views.specs.Lines.{AreColumns, ArePathTimes, HaveLoops};
+ghost use Rattle.tomex_loop_views.specs.Lines.{AreColumns, AreLoopsOf, ArePathTimes, HaveLoops};
 ghost use Rattle.tomex_loop_views.specs.Lines.{IsTableOf, lines_to, outside_sums, total_sums};
 ghost use Rattle.tomex_loop_views.specs.LoopsReport.{IsLoopsReport};
 ghost use Rattle.tomex_loop_views.specs.PlaceColumns.{ArePlaces};
@@ -32,7 +32,7 @@ use tomex_timing::{Run, Times};
 
 /// The number of the loop of each step's innermost visit.
 fn keys_of<A: Allocator + Clone>(
-    alloc: A,
+    alloc: &A,
     visits: &[Visit],
     innermost: &[Option<u32>],
 ) -> Result<Vec<Option<u32>, A>, AllocError>
@@ -40,12 +40,12 @@ fn keys_of<A: Allocator + Clone>(
     ensures { IfOk result (λ v. v.items ≡ keys_of visits.now innermost.now) }
 {
     let loops = loops_of(alloc.clone()?, visits)?;
-    values_of(alloc, &loops, innermost)
+    values_of(alloc.clone()?, &loops, innermost)
 }
 
 /// The places of a run's loops.
 fn places_in<A: Allocator + Clone>(
-    alloc: A,
+    alloc: &A,
     file: &[u8],
     steps: &[Step],
     loops: &Loops<A>,
@@ -66,7 +66,7 @@ fn places_in<A: Allocator + Clone>(
 
 /// The rounds of a run's loops.
 fn turns_in<A: Allocator + Clone>(
-    alloc: A,
+    alloc: &A,
     loops: &Loops<A>,
     times: &[Times],
 ) -> Result<Turns<A>, AllocError>
@@ -76,12 +76,12 @@ fn turns_in<A: Allocator + Clone>(
         (length loops.now.heads) t) }
 {
     let count = loops.heads().len();
-    turns_of(alloc, loops.visits(), loops.rounds(), count, times)
+    turns_of(alloc.clone()?, loops.visits(), loops.rounds(), count, times)
 }
 
 /// What the steps of a run's loops take.
 fn spent_in<A: Allocator + Clone>(
-    alloc: A,
+    alloc: &A,
     run: &Run<A>,
     config: &Config,
     times: &[Times],
@@ -97,7 +97,7 @@ fn spent_in<A: Allocator + Clone>(
         (length loops.now.heads) s) }
 {
     spent_of(
-        alloc,
+        alloc.clone()?,
         run,
         config,
         times,
@@ -111,7 +111,7 @@ fn spent_in<A: Allocator + Clone>(
 
 /// The columns of the table, by the numbers of the loops.
 fn columns_of<A: Allocator + Clone>(
-    alloc: A,
+    alloc: &A,
     run: &Run<A>,
     config: &Config,
     file: &[u8],
@@ -125,9 +125,9 @@ fn columns_of<A: Allocator + Clone>(
     requires keys { keys.now ≡ keys_of loops.now.visits loops.now.innermost }
     ensures { IfOk result (λ c. AreColumns file.now config.now run.now loops.now c) }
 {
-    let places = places_in(alloc.clone()?, file, run.steps(), loops)?;
-    let turns = turns_in(alloc.clone()?, loops, &path.times)?;
-    let spent = spent_in(alloc.clone()?, run, config, &path.times, loops, keys)?;
+    let places = places_in(alloc, file, run.steps(), loops)?;
+    let turns = turns_in(alloc, loops, &path.times)?;
+    let spent = spent_in(alloc, run, config, &path.times, loops, keys)?;
     let paths = paths_of(alloc, keys, loops.heads().len(), &path.links)?;
     Ok(Columns {
         places,
@@ -190,7 +190,7 @@ fn sorted_rows<A: Allocator + Clone>(
 
 /// The table of these columns, of `count` loops.
 fn text_of_columns<A: Allocator + Clone>(
-    alloc: A,
+    alloc: &A,
     heap: Global,
     file: &[u8],
     columns: &Columns<A>,
@@ -212,7 +212,32 @@ fn text_of_columns<A: Allocator + Clone>(
         sums: all,
         path: &columns.paths.total,
     };
-    table_of(alloc, heap, file, &rows, &outside, &all)
+    table_of(alloc.clone()?, heap, file, &rows, &outside, &all)
+}
+
+/// The table of a run with these loops and this path on a configuration.
+fn table_with<A: Allocator + Clone>(
+    alloc: &A,
+    heap: Global,
+    run: &Run<A>,
+    config: &Config,
+    file: &[u8],
+    path: &RunPath<A>,
+    loops: &Loops<A>,
+) -> Result<Vec<u8, A>, AllocError>
+    requires few { length run.now ≤ most_steps }
+    requires path { ArePathTimes config.now run.now path.now }
+    requires sound { AreSound (length run.now) loops.now }
+    requires loops { AreLoopsOf run.now loops.now }
+    ensures { IfOk result (λ text. IsLoopsReport config.now run.now file.now text.items) }
+{
+    config.keeps_limits();
+    let keys = keys_of(alloc, loops.visits(), loops.innermost())?;
+    let columns = columns_of(alloc, run, config, file, path, loops, &keys)?;
+    let outside = outside_of(&columns, &keys);
+    let all = total_of(&columns, &path.times);
+    let count = loops.heads().len();
+    text_of_columns(alloc, heap, file, &columns, count, outside, all)
 }
 
 /// The table of a run's loops on a configuration: CSV with a header, a record for each loop, those with the most cycles
@@ -231,21 +256,8 @@ pub fn loops_report<A: Allocator + Clone>(
     ensures { IfOk result (λ text. IsLoopsReport config.now
         (steps_from program.now.limit (start_of program.now.image)) file.now text.items) }
 {
-    config.keeps_limits();
     let run = program.run();
     let path = path(alloc.clone()?, run, config)?;
     let loops = Loops::of(alloc.clone()?, run.steps())?;
-    let keys = keys_of(alloc.clone()?, loops.visits(), loops.innermost())?;
-    let columns = columns_of(alloc.clone()?, run, config, file, &path, &loops, &keys)?;
-    let outside = outside_of(&columns, &keys);
-    let all = total_of(&columns, &path.times);
-    text_of_columns(
-        alloc,
-        heap,
-        file,
-        &columns,
-        loops.heads().len(),
-        outside,
-        all,
-    )
+    table_with(&alloc, heap, run, config, file, &path, &loops)
 }

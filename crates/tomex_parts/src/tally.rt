@@ -27,7 +27,7 @@ impl<A: Allocator + Clone> Tally<A> {
     ghost use Rattle.tomex_rvexec.specs.declared.step.Step.{Step};
 
     /// The stretches of a run before its first step.
-    pub(crate) fn new(alloc: A, window: Window) -> Result<Self, AllocError>
+    pub(crate) fn new(alloc: &A, window: Window) -> Result<Self, AllocError>
         ensures current { IfOk result (λ t. t.current ≡ 0) }
         ensures counts { IfOk result (λ t. t.counts.numbers.items ≡ replicate (window.size / 4) 0) }
         ensures words { IfOk result (λ t. t.counts.words.items ≡ []) }
@@ -39,7 +39,7 @@ impl<A: Allocator + Clone> Tally<A> {
             current: 0,
             counts: Counts::new(alloc.clone()?, window)?,
             rows: Vec::new(alloc.clone()?),
-            ends: Ends::new(alloc)?,
+            ends: Ends::new(alloc.clone()?)?,
         })
     }
 

@@ -13,7 +13,7 @@ pub(crate) struct LastUses<A: Allocator> {
     numbers: Vec<u32, A>,
 }
 
-impl<A: Allocator> LastUses<A> {
+impl<A: Allocator + Clone> LastUses<A> {
     ghost use Rattle.std.specs.Prelude.{◌≡◌, ◌⊎◌, ◌+◌, ◌*◌, ◌/◌, ◌<◌, ◌≤◌, ℕ, IfNone, IfOk, IfSome, length};
     ghost use Rattle.std.specs.Prelude.{replicate, slice_index};
     ghost use Rattle.tomex_cut.specs.Marks.{HasByte};
@@ -22,11 +22,11 @@ impl<A: Allocator> LastUses<A> {
     ghost use Rattle.tomex_rvexec.specs.Results.{is_among};
 
     /// The words of a window before the first step.
-    pub(crate) fn new(alloc: A, window: Window) -> Result<Self, AllocError>
+    pub(crate) fn new(alloc: &A, window: Window) -> Result<Self, AllocError>
         ensures base { IfOk result (λ u. u.base ≡ window.base) }
         ensures numbers { IfOk result (λ u. u.numbers.items ≡ replicate (window.size / 4) 0) }
     {
-        let numbers = vec![in alloc; 0; window.size() as usize / 4]?;
+        let numbers = vec![in alloc.clone()?; 0; window.size() as usize / 4]?;
         Ok(LastUses {
             base: window.base(),
             numbers,

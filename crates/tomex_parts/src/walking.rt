@@ -1,6 +1,8 @@
 //! The whole run, by its stretches.
 
-ghost use Rattle.std.specs.Prelude.{◌≡◌, ◌+◌, ◌*◌, ◌/◌, ◌≤◌, ◌<◌, ◌≢◌, ℕ, Result, Err, IfErr, IfOk, IsTrue, length};
+ghost use Rattle.std.specs.Prelude.{◌≡◌, ◌+◌, ◌*◌, ◌/◌, ◌≤◌, ◌<◌, ◌≢◌, ℕ, [], Result, Err, IfErr, IfOk, IsTrue};
+ghost use Rattle.std.specs.Prelude.{OnOk, length, replicate};
+ghost use Rattle.tomex_parts.specs.declared.stretches.Stretches.{Stretches};
 ghost use Rattle.tomex_cut.specs.Part.{most_part};
 ghost use Rattle.tomex_image.specs.Window.{IsWindow};
 ghost use Rattle.tomex_parts.specs.declared.error.PartsError.{PartsError};
@@ -30,7 +32,10 @@ const PACE: u32 = 1_048_576;
 
 /// The word of the next step's pc, which must lie in memory.
 #[tactic(auto, unfolding(tomex_rvexec::specs::Machine::step_of))]
-fn next_word<'a, A: Allocator>(cpu: &Cpu<'a, A>, uses: &LastUses<A>) -> Result<usize, PartsError>
+fn next_word<'a, A: Allocator + Clone>(
+    cpu: &Cpu<'a, A>,
+    uses: &LastUses<A>,
+) -> Result<usize, PartsError>
     requires state { IsState cpu.now }
     requires window { IsWindow cpu.now.image.window.base cpu.now.image.window.size }
     requires words { AreWordsFor cpu.now uses.now.base uses.now.numbers.items }
@@ -51,7 +56,7 @@ fn next_word<'a, A: Allocator>(cpu: &Cpu<'a, A>, uses: &LastUses<A>) -> Result<u
 }
 
 /// Carries out the step of this number, and notes which words it uses; true if it ends the run.
-fn take_step<'a, A: Allocator>(
+fn take_step<'a, A: Allocator + Clone>(
     cpu: &mut Cpu<'a, A>,
     uses: &mut LastUses<A>,
     number: u32,
@@ -71,6 +76,72 @@ fn take_step<'a, A: Allocator>(
     Ok(matches!(stepped, Stepped::Ended(_)))
 }
 
+/// Carries out the whole run from its start on, and tallies its stretches. `watch` hears of every million steps, and of
+/// how many there are at most.
+fn tally_run<'a, A: Allocator + Clone, W: Watch>(
+    alloc: &A,
+    image: &Image<A>,
+    steps: u32,
+    watch: &W,
+    cpu: &mut Cpu<'a, A>,
+    uses: &mut LastUses<A>,
+    tally: &mut Tally<A>,
+) -> Result<(), PartsError>
+    requires steps { (1 ≤ steps) × (steps ≤ most_part) }
+    requires start { cpu.old ≡ start_of image.now }
+    requires base { uses.old.base ≡ image.now.window.base }
+    requires unused { uses.old.numbers.items ≡ replicate (image.now.window.size / 4) 0 }
+    requires current { tally.old.current ≡ 0 }
+    requires counts { tally.old.counts.numbers.items ≡ replicate (image.now.window.size / 4) 0 }
+    requires words { tally.old.counts.words.items ≡ [] }
+    requires rows { tally.old.rows.items ≡ [] }
+    requires parts { tally.old.ends.parts.items ≡ [] }
+    requires waiting { tally.old.ends.waiting.items ≡ [] }
+    ensures ok { OnOk result ((r : Stretches A) → r.steps ≡ steps → r.words ≡ length tally.new.counts.numbers.items
+        → r.rows.items ≡ tally.new.rows.items → r.parts.items ≡ tally.new.ends.parts.items → IsPass image.now steps r) }
+    ensures err { IfErr result (λ e. e ≢ PartsError.Memory
+        → run_length (most_stretches * steps) (start_of image.now) ≡ Err e) }
+{
+    image.fills_its_window();
+    image.window().keeps_limits();
+    let most = MOST_STRETCHES * steps;
+    for done in 0..most {
+        if done % PACE == 0 {
+            watch.passed(u64::from(done), u64::from(most));
+        }
+        let word = next_word(cpu, uses)?;
+        tally.end_since(steps, done, uses.last_use(word));
+        let ends = take_step(cpu, uses, done + 1)?;
+        tally.add_step(alloc, word, steps)?;
+        if ends {
+            tally.end_since(steps, done + 1, 0);
+            return Ok(());
+        }
+    }
+    Err(PartsError::TooLong)
+}
+
+/// The stretches of the whole run, by a machine before its first step.
+fn walk_with<'a, A: Allocator + Clone, W: Watch>(
+    alloc: &A,
+    image: &Image<A>,
+    steps: u32,
+    watch: &W,
+    cpu: &mut Cpu<'a, A>,
+) -> Result<Stretches<A>, PartsError>
+    requires steps { (1 ≤ steps) × (steps ≤ most_part) }
+    requires start { cpu.old ≡ start_of image.now }
+    ensures ok { IfOk result (λ r. IsPass image.now steps r) }
+    ensures err { IfErr result (λ e. e ≢ PartsError.Memory
+        → run_length (most_stretches * steps) (start_of image.now) ≡ Err e) }
+{
+    let window = image.window();
+    let mut uses = LastUses::new(alloc, window)?;
+    let mut tally = Tally::new(alloc, window)?;
+    tally_run(alloc, image, steps, watch, cpu, &mut uses, &mut tally)?;
+    Ok(tally.into_stretches(steps))
+}
+
 /// Carries out the whole run, and counts the steps of its stretches. `watch` hears of every million of them, and of
 /// how many there are at most.
 ///
@@ -86,25 +157,6 @@ pub(crate) fn walk<A: Allocator + Clone, W: Watch>(
     ensures err { IfErr result (λ e. e ≢ PartsError.Memory
         → run_length (most_stretches * steps) (start_of image.now) ≡ Err e) }
 {
-    image.fills_its_window();
-    let window = image.window();
-    window.keeps_limits();
     let mut cpu = Cpu::new(alloc.clone()?, image)?;
-    let mut uses = LastUses::new(alloc.clone()?, window)?;
-    let mut tally = Tally::new(alloc.clone()?, window)?;
-    let most = MOST_STRETCHES * steps;
-    for done in 0..most {
-        if done % PACE == 0 {
-            watch.passed(u64::from(done), u64::from(most));
-        }
-        let word = next_word(&cpu, &uses)?;
-        tally.end_since(steps, done, uses.last_use(word));
-        let ends = take_step(&mut cpu, &mut uses, done + 1)?;
-        tally.add_step(&alloc, word, steps)?;
-        if ends {
-            tally.end_since(steps, done + 1, 0);
-            return Ok(tally.into_stretches(steps));
-        }
-    }
-    Err(PartsError::TooLong)
+    walk_with(&alloc, image, steps, watch, &mut cpu)
 }

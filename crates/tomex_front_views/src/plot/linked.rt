@@ -10,8 +10,7 @@ ghost use Rattle.tomex_front_views.specs.Plot.{circle, radius_of};
 use crate::plot::axes::{Axes, axes_of};
 use crate::plot::dots::push_dots_line;
 use crate::plot::points::{push_circle, push_numbers, radius_of};
-use crate::plot::stairs::push_staircase;
-use crate::plot::{push_lines, push_scales, push_shade, push_sheet, push_size, title_of};
+use crate::plot::{push_behind, stairs_of};
 use std::alloc::{AllocError, Allocator, Global};
 use std::fmt::Write;
 use tomex_pareto::{FrontRow, is_on};
@@ -133,14 +132,8 @@ fn push_linked_over<A: Allocator + Clone>(
     ensures { OnOk result (Appends (linked_over all rows.now front.now hull.now shown.now) text.old text.new) }
 {
     let axes = axes_of(rows);
-    let title = title_of(heap, front.len(), all)?;
-    let mut stairs = String::new(heap);
-    push_staircase(&mut stairs, &axes, front)?;
-    push_size(text)?;
-    push_sheet(text, title.as_str())?;
-    push_shade(text, stairs.as_str())?;
-    push_lines(text, &axes)?;
-    push_scales(text, &axes)?;
+    let stairs = stairs_of(heap, &axes, front)?;
+    push_behind(text, heap, &axes, stairs.as_str(), front.len(), all)?;
     push_dots_line(text, alloc, &axes, rows)?;
     push_linked_rows(text, heap, &axes, stairs.as_str(), hull, shown, front)
 }

@@ -9,26 +9,25 @@ use Rattle.tomex_parts.proofs.Limits.{few_counts, few_stretches, limits_of, one_
 use Rattle.tomex_parts.proofs.Limits.{none_to_go, none_under_way, word_counted, words_walked}
 use Rattle.tomex_parts.proofs.Tallying.{tallied_none}
 use Rattle.tomex_parts.proofs.Walked.{length_fails, plus, walked_more, walked_start}
-use Rattle.tomex_parts.proofs.walking.walk.Goals as goal
+use Rattle.tomex_parts.proofs.walking.tally_run.Goals as goal
 
 pub loop-done-init : goal.loop-done-init
 loop-done-init g c =
-    let window = c.window-window.ensures.value in
-    let size = ap (λ w. w.size) window in
-    let tally = c.in_ok-tally.ensures in
+    let start = c.requires in
     record {
-      walked = walked_start c.args.image.now c.args.steps c.in_ok-cpu.cpu _ _ _ c.fills_its_window.ensures
-          c.in_ok-cpu.ensures window c.keeps_limits.ensures c.in_ok-uses.ensures.base c.in_ok-uses.ensures.numbers;
-      tallied = tallied_none c.args.image.now c.args.steps _ _ _ _ _ tally.current
-          (tally.counts ∙ ap (λ n. replicate (n / 4) 0) size) tally.words
-          (ap lists tally.rows) (ap length tally.parts);
-      found = found_none c.args.image.now c.args.steps _ _ tally.parts tally.waiting;
-      current = none_under_way _ _ tally.current c.requires.0;
+      walked = walked_start c.args.image.now c.args.steps c.args.cpu.now _ _ _ c.fills_its_window.ensures
+          start.start c.window.ensures.value c.keeps_limits.ensures
+          (start.base ∙ sym (ap (λ w. w.base) c.window.ensures.value))
+          (start.unused ∙ sym (ap (λ w. replicate (w.size / 4) 0) c.window.ensures.value));
+      tallied = tallied_none c.args.image.now c.args.steps _ _ _ _ _ start.current start.counts start.words
+          (ap lists start.rows) (ap length start.parts);
+      found = found_none c.args.image.now c.args.steps _ _ start.parts start.waiting;
+      current = none_under_way _ _ start.current start.steps.0;
     }
 
 pub returns-in_err-word-clause-err : goal.returns-in_err-word-clause-err
 returns-in_err-word-clause-err g c =
-    let p = err_from_is_err_and c.from_residual-in_err-word.result c.from_residual-in_err-word.ensures.1 in
+    let p = err_from_is_err_and c.from_residual.result c.from_residual.ensures.1 in
     let limit = most_stretches * c.args.steps in
     rw (p.1, p.2) (λ other. c.loop-done.invariant.walked.whole
     ∙ length_fails c.loop-done.done limit c.loop-done.cpu c.in_err-word.field-0.0 c.loop-done-test.true
@@ -54,7 +53,7 @@ end_since-requires-then-ends-clause-tallied g c =
     let on =
     advance c.args.image.now c.args.steps c.loop-done.done c.in_ok-word.word c.last_use.result c.loop-done.cpu _ _
     stepped.0
-    c.loop-done.tally c.end_since.new.self c.add_step.new.self c.requires.1 walk.walked walk.tallied walk.found
+    c.loop-done.tally c.end_since.new.self c.add_step.new.self c.requires.steps.1 walk.walked walk.tallied walk.found
     c.in_ok-word.ensures.inside c.in_ok-word.ensures.at c.in_ok-word.ensures.holds c.last_use.ensures
     c.end_since.ensures.ends c.end_since.ensures.current c.end_since.ensures.counts c.end_since.ensures.rows
     stepped.1.comes c.in_ok-add_step.ensures.tallied c.in_ok-add_step.ensures.found in
@@ -67,30 +66,29 @@ end_since-requires-then-ends-clause-found g c =
     let on =
     advance c.args.image.now c.args.steps c.loop-done.done c.in_ok-word.word c.last_use.result c.loop-done.cpu _ _
     stepped.0
-    c.loop-done.tally c.end_since.new.self c.add_step.new.self c.requires.1 walk.walked walk.tallied walk.found
+    c.loop-done.tally c.end_since.new.self c.add_step.new.self c.requires.steps.1 walk.walked walk.tallied walk.found
     c.in_ok-word.ensures.inside c.in_ok-word.ensures.at c.in_ok-word.ensures.holds c.last_use.ensures
     c.end_since.ensures.ends c.end_since.ensures.current c.end_since.ensures.counts c.end_since.ensures.rows
     stepped.1.comes c.in_ok-add_step.ensures.tallied c.in_ok-add_step.ensures.found in
     (c.args.image.now, c.loop-done.done + 1, on.found)
 
 pub returns-then-ends-clause-ok : goal.returns-then-ends-clause-ok
-returns-then-ends-clause-ok g c =
+returns-then-ends-clause-ok g c = λ r steps_are words_are rows_are parts_are.
     let walk = c.loop-done.invariant in
     let stepped = c.in_ok-ends.ensures.ok in
     let on =
     advance c.args.image.now c.args.steps c.loop-done.done c.in_ok-word.word c.last_use.result c.loop-done.cpu _ _
     stepped.0
-    c.loop-done.tally c.end_since.new.self c.add_step.new.self c.requires.1 walk.walked walk.tallied walk.found
+    c.loop-done.tally c.end_since.new.self c.add_step.new.self c.requires.steps.1 walk.walked walk.tallied walk.found
     c.in_ok-word.ensures.inside c.in_ok-word.ensures.at c.in_ok-word.ensures.holds c.last_use.ensures
     c.end_since.ensures.ends c.end_since.ensures.current c.end_since.ensures.counts c.end_since.ensures.rows
     stepped.1.comes c.in_ok-add_step.ensures.tallied c.in_ok-add_step.ensures.found in
     let over = MatchBool-at_true _ _ c.if-ends.true stepped.1.goes in
     let last = c.end_since-then-ends.ensures in
-    let made = c.into_stretches.ensures in
     passed c.args.image.now c.args.steps c.loop-done.done c.loop-done.cpu _ _ over.0 stepped.0 c.add_step.new.self
-    c.end_since-then-ends.new.self c.into_stretches.result c.requires.0 c.requires.1 walk.walked c.loop-done-test.true
-    on c.in_ok-add_step.ensures.under_way stepped.1.comes over.1 last.ends last.counts last.rows made.steps made.words
-    made.rows made.parts
+    c.end_since-then-ends.new.self r c.requires.steps.0 c.requires.steps.1 walk.walked c.loop-done-test.true
+    on c.in_ok-add_step.ensures.under_way stepped.1.comes over.1 last.ends last.counts last.rows steps_are words_are
+    rows_are parts_are
 
 pub loop-done-preserved : goal.loop-done-preserved
 loop-done-preserved g c =
@@ -100,7 +98,7 @@ loop-done-preserved g c =
     let on =
     advance c.args.image.now c.args.steps c.loop-done.done c.in_ok-word.word c.last_use.result c.loop-done.cpu _ _
     stepped.0
-    c.loop-done.tally c.end_since.new.self c.add_step.new.self c.requires.1 walk.walked walk.tallied walk.found
+    c.loop-done.tally c.end_since.new.self c.add_step.new.self c.requires.steps.1 walk.walked walk.tallied walk.found
     c.in_ok-word.ensures.inside c.in_ok-word.ensures.at c.in_ok-word.ensures.holds c.last_use.ensures
     c.end_since.ensures.ends c.end_since.ensures.current c.end_since.ensures.counts c.end_since.ensures.rows
     stepped.1.comes c.in_ok-add_step.ensures.tallied c.in_ok-add_step.ensures.found in
@@ -135,7 +133,7 @@ pub add_step-requires-clause-size : goal.add_step-requires-clause-size
 add_step-requires-clause-size g c =
     few_counts c.args.image.now c.args.steps c.loop-done.done c.loop-done.tally c.end_since.new.self
     c.loop-done.invariant.tallied c.end_since.ensures.counts
-    (limits_of _ _ c.window-window.ensures.value c.keeps_limits.ensures)
+    (limits_of _ _ c.window.ensures.value c.keeps_limits.ensures)
 
 pub add_step-requires-clause-inside : goal.add_step-requires-clause-inside
 add_step-requires-clause-inside g c =
@@ -150,7 +148,7 @@ add_step-requires-clause-under_way g c =
 pub next_word-requires-clause-window : goal.next_word-requires-clause-window
 next_word-requires-clause-window g c =
     window_walked c.args.image.now c.args.steps c.loop-done.done c.loop-done.cpu _ _ c.loop-done.invariant.walked
-    (limits_of _ _ c.window-window.ensures.value c.keeps_limits.ensures)
+    (limits_of _ _ c.window.ensures.value c.keeps_limits.ensures)
 
 pub next_word-requires-clause-words : goal.next_word-requires-clause-words
 next_word-requires-clause-words g c =
@@ -158,4 +156,4 @@ next_word-requires-clause-words g c =
 
 pub overflow_add-done-then-ends : goal.overflow_add-done-then-ends
 overflow_add-done-then-ends g c =
-    record { fits = one_step_more c.args.steps c.loop-done.done c.requires.1 c.loop-done-test.true }
+    record { fits = one_step_more c.args.steps c.loop-done.done c.requires.steps.1 c.loop-done-test.true }

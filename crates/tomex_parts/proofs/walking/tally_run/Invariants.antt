@@ -1,7 +1,7 @@
 use Rattle.std.proofs.Common.{◌<◌}
 use Rattle.tomex_parts.specs.Tallied.{AreFoundIn, AreTalliedIn}
 use Rattle.tomex_parts.proofs.Walked.{IsWalked}
-use Rattle.tomex_parts.proofs.walking.walk.Given as goal
+use Rattle.tomex_parts.proofs.walking.tally_run.Given as goal
 
 abbrev pub invariant-loop-done : goal.invariant-loop-done
 invariant-loop-done g l = record {
