@@ -129,14 +129,8 @@ fn push_rows<A: Allocator>(
     Ok(())
 }
 
-/// The title above the picture.
-fn title_of(heap: Global, rows: usize, all: usize) -> Result<String, AllocError>
-    ensures { IfOk result (λ title. string_bytes title ≡ title_of rows all) }
-{
-    format!(in heap; "front: {rows} of {all} rows")
-}
-
 /// Adds the picture's size, and a sheet with the title of a front of so many rows, out of `all`.
+#[tactic(auto, unfolding(crate::specs::Plot::title_of))]
 fn push_titled<A: Allocator>(
     text: &mut String<A>,
     heap: Global,
@@ -145,7 +139,7 @@ fn push_titled<A: Allocator>(
 ) -> Result<(), AllocError>
     ensures { OnOk result (Appends (size_text ++ sheet (title_of rows all)) text.old text.new) }
 {
-    let title = title_of(heap, rows, all)?;
+    let title = format!(in heap; "front: {rows} of {all} rows")?;
     push_size(text)?;
     push_sheet(text, title.as_str())
 }
@@ -219,20 +213,6 @@ fn push_picture<A: Allocator>(
     push_front(text, heap, &axes, stairs.as_str(), rows)
 }
 
-/// The picture of a front, out of `all` rows.
-fn picture_of_rows<A: Allocator>(
-    alloc: A,
-    heap: Global,
-    all: usize,
-    rows: &[FrontRow],
-) -> Result<Vec<u8, A>, AllocError>
-    ensures { IfOk result (λ text. text.items ≡ picture_of_rows all rows.now) }
-{
-    let mut text = String::new(alloc);
-    push_picture(&mut text, heap, all, rows)?;
-    Ok(text.into_bytes())
-}
-
 /// The front of a study as a picture in SVG, 720 by 440 points: cost from left to right, cycles
 /// from bottom to top, a circle for each row, filled if the row is on the hull, and a staircase
 /// through them. It uses no external script, style sheet or font.
@@ -245,5 +225,7 @@ pub fn front_picture<A: Allocator>(
 ) -> Result<Vec<u8, A>, AllocError>
     ensures { IfOk result (λ text. text.items ≡ front_picture_of surveyed.now) }
 {
-    picture_of_rows(alloc, heap, surveyed.rows().len(), surveyed.front())
+    let mut text = String::new(alloc);
+    push_picture(&mut text, heap, surveyed.rows().len(), surveyed.front())?;
+    Ok(text.into_bytes())
 }

@@ -30,21 +30,6 @@ fn push_over<A: Allocator + Clone>(
     push_front(text, heap, &axes, stairs.as_str(), front)
 }
 
-/// The picture of a front, drawn over dots for all rows, `all` in number.
-fn picture_over<A: Allocator + Clone>(
-    alloc: A,
-    heap: Global,
-    all: usize,
-    rows: &[FrontRow],
-    front: &[FrontRow],
-) -> Result<Vec<u8, A>, AllocError>
-    ensures { IfOk result (λ text. text.items ≡ picture_over all rows.now front.now) }
-{
-    let mut text = String::new(alloc.clone()?);
-    push_over(&mut text, alloc, heap, all, rows, front)?;
-    Ok(text.into_bytes())
-}
-
 /// The front of a study as the picture that `front_picture` gives, drawn over faint dots for all rows. The axes span
 /// all rows.
 ///
@@ -57,5 +42,7 @@ pub fn rows_picture<A: Allocator + Clone>(
     ensures { IfOk result (λ text. text.items ≡ rows_picture_of surveyed.now) }
 {
     let (rows, front) = (surveyed.rows(), surveyed.front());
-    picture_over(alloc, heap, rows.len(), rows, front)
+    let mut text = String::new(alloc.clone()?);
+    push_over(&mut text, alloc, heap, rows.len(), rows, front)?;
+    Ok(text.into_bytes())
 }
