@@ -129,7 +129,7 @@ fn push_rows<A: Allocator>(
     Ok(())
 }
 
-/// Adds the picture's size, and a sheet with the title of a front of so many rows, out of `all`.
+/// Adds the picture's size, and a sheet with the title of a front of this number of rows, out of `all`.
 #[tactic(auto, unfolding(crate::specs::Plot::title_of))]
 fn push_titled<A: Allocator>(
     text: &mut String<A>,
@@ -158,7 +158,7 @@ fn push_ground<A: Allocator>(
     push_scales(text, axes)
 }
 
-/// Adds what is behind the rows of a front, of which there are so many, out of `all`.
+/// Adds what is behind the rows of a front, of this number of rows out of `all`.
 fn push_behind<A: Allocator>(
     text: &mut String<A>,
     heap: Global,

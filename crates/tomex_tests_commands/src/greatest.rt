@@ -1,6 +1,6 @@
-//! Each command once, on input that is long or large but quickly done: eight programs that watch eight ranges each, runs
-//! of 262,144 steps, fronts of 1,024 and 2,304 configurations, and 16,384 configurations, the most of a study. Nothing is
-//! refused.
+//! Each command once, on input that is long or large but quickly done: eight programs that watch eight ranges each,
+//! runs of 262,144 steps, fronts of 1,024 and 2,304 configurations, and 16,384 configurations, the most of a study.
+//! Nothing is refused.
 
 use crate::files::files;
 use crate::{Outcome, outcome_of, words_of};

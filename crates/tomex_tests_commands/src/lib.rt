@@ -1,6 +1,6 @@
 //! Tests of the program beside its golden cases: refused memory, workers and progress, outputs that fail on their
-//! way, names with control characters, and the greatest inputs. And whole runs of the program over files in memory, which
-//! the golden cases share: their outcomes.
+//! way, names with control characters, and the greatest inputs. And whole runs of the program over files in memory,
+//! which the golden cases share: their outcomes.
 #![tactic(auto)]
 
 #[cfg(test)]

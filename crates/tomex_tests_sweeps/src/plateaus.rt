@@ -98,8 +98,8 @@ fn counted<R: AllocGlobal + Threads + Wait + Sync>(rt: &R, again: u32) -> Result
     Ok(gate.counts())
 }
 
-/// Rows again, after 8,198 others, and the evaluations that they need: the plateaus of the first six were replaced, that
-/// of the seventh was not.
+/// Rows again, after 8,198 others, and the evaluations that they need: the plateaus of the first six were replaced,
+/// that of the seventh was not.
 static AGAIN: [(u32, u64); 2] = [(5, 8199), (6, 8198)];
 
 /// The oldest plateau is replaced if there are more than 8,192; it is learnt again if its row comes

@@ -1,5 +1,5 @@
-//! Reports: each allocation of the reading of a study, of its exploration or of the runs of all rows, of the runs of the
-//! front again and of the text is refused in turn.
+//! Reports: each allocation of the reading of a study, of its exploration or of the runs of all rows, of the runs of
+//! the front again and of the text is refused in turn.
 
 use crate::answers::{granted, report_in};
 use std::alloc::AllocError;
