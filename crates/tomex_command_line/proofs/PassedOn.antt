@@ -1,5 +1,5 @@
 -- A line that is refused for a value of it is refused as a whole.
-use Rattle.std.proofs.Common.{◌≡◌, sym, subst, IfErr, Result, Ok, Err}
+use Rattle.std.proofs.Common.{◌≡◌, sym, subst, IfErr, IfOk, Result, Ok, Err}
 use Rattle.std.specs.Prelude.{IsErrAnd, IsOkAnd, MatchResult}
 use Rattle.tomex_arguments.specs.Faults.{IsRefusedIf}
 use Rattle.tomex_arguments.specs.declared.fault.LineFault.{LineFault}
@@ -26,3 +26,13 @@ mapped why other (Ok x) (Ok made) Made cases refused so = tt
 mapped why other (Ok x) (Err fault) Made cases refused so = absurd cases
 mapped {U = U} why other (Err fault) line Made cases refused so =
     subst (λ (r : Result U LineFault). IfErr r (IsRefusedIf other)) (sym cases) (wider why other fault refused so)
+
+-- a line made of a command's values is the one that is asked for if they are
+pub made : {T U : Type 0} (to : T → U) (Is : T → Type 0) (IsLine : U → Type 0) (found : Result T LineFault)
+    (line : Result U LineFault)
+    → MatchResult found (λ x. IsOkAnd line (λ y. y ≡ to x)) (λ fault. line ≡ Err fault)
+    → IfOk found Is → ((x : T) → Is x → IsLine (to x)) → IfOk line IsLine
+made to Is IsLine (Ok x) (Ok y) e is so = subst IsLine (sym e) (so x is)
+made to Is IsLine (Ok x) (Err fault) cases is so = absurd cases
+made {U = U} to Is IsLine (Err fault) line cases is so =
+    subst (λ (r : Result U LineFault). IfOk r IsLine) (sym cases) tt
