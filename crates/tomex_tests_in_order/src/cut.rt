@@ -1,5 +1,5 @@
-//! Parts of runs as images: with and without symbols, and without memory; the greatest one; and what is heard of a long
-//! run.
+//! Parts of runs as images: with and without symbols, and without memory; the greatest one; and what a long run
+//! reports.
 
 mod memory;
 mod symbols;
@@ -46,14 +46,14 @@ fn the_greatest_part(rt: HostRuntime) -> Result<(), Fail> {
     Ok(())
 }
 
-/// Counts what it hears, and keeps the greatest number of steps.
+/// Counts the reports, and keeps the number of steps of the last one.
 #[derive(Drop)]
-struct Heard {
+struct Reports {
     times: AtomicU64,
     steps: AtomicU64,
 }
 
-impl Watch for Heard {
+impl Watch for Reports {
     fn passed(&self, steps: u64, of: u64) {
         self.times.fetch_add(1, Ordering::SeqCst);
         if of == 3_000_000 {
@@ -63,15 +63,15 @@ impl Watch for Heard {
 }
 
 #[test]
-fn long_runs_are_heard_of(rt: HostRuntime) -> Result<(), Fail> {
+fn long_runs_report_their_steps(rt: HostRuntime) -> Result<(), Fail> {
     let image = image_of(rt.alloc(), 0, 320, &EVER)?;
-    let heard = Heard {
+    let reports = Reports {
         times: AtomicU64::new(0),
         steps: AtomicU64::new(0),
     };
-    let found = cut(rt.alloc(), &image, 3_000_001, 1, &heard);
+    let found = cut(rt.alloc(), &image, 3_000_001, 1, &reports);
     assert!(rt; found.err() == Some(CutError::NoEnd));
-    assert!(rt; heard.times.load(Ordering::SeqCst) == 3);
-    assert!(rt; heard.steps.load(Ordering::SeqCst) == 2_097_152);
+    assert!(rt; reports.times.load(Ordering::SeqCst) == 3);
+    assert!(rt; reports.steps.load(Ordering::SeqCst) == 2_097_152);
     Ok(())
 }
