@@ -10,7 +10,8 @@
 # slow` is run only with --slow, and in the repository itself: it proves and builds. A `toml` block is a
 # study, of which `tomex all` makes a report. No other block is run. The examples in the help texts are
 # run too, in the folder examples. What needs a program that isn't installed is skipped, and reported;
-# so are the slow blocks without --slow. The pages in examples are opened in a browser, if there is one.
+# so are the slow blocks without --slow. The pages in examples and the program's own page are opened in a browser, if there
+# is one.
 #
 # Only what pages show is tried here. The gate compares whole outputs: the golden cases in crates/tomex_cases.
 #
@@ -169,6 +170,16 @@ for made in sorted(glob.glob("examples/*.html")):
     looked = subprocess.run([browser, made], stdout=subprocess.PIPE, stderr=subprocess.STDOUT, text=True)
     shown = "" if looked.returncode == 0 else f"\n{looked.stdout[:2000]}"
     report("passed" if looked.returncode == 0 else "failed", made, shown)
+
+# The program as WebAssembly: whether it is of these sources, and its page, in a browser.
+web = os.path.join(os.environ["TOP"], "web")
+current = subprocess.run([f"{web}/build.py", "--is-current"], stdout=subprocess.PIPE, text=True)
+report("passed" if current.returncode == 0 else "failed", "web/tomex.html", f": {current.stdout}" if current.returncode else "")
+if shutil.which("node") and shutil.which("chromium"):
+    looked = subprocess.run(["node", f"{web}/try-page.mjs"], stdout=subprocess.PIPE, stderr=subprocess.STDOUT, text=True)
+    report("passed" if looked.returncode == 0 else "failed", "web/try-page.mjs", f"\n{looked.stdout[:2000]}" if looked.returncode else "")
+else:
+    report("skipped", "web/try-page.mjs", ": no browser to open the page, or no node")
 
 print(", ".join(f"{count} {outcome}" for outcome, count in counts.items()))
 sys.exit(1 if counts["failed"] else 0)
