@@ -43,8 +43,12 @@ function bytesOfHex(text) {
   return Uint8Array.from(digits.match(/../g) ?? [], (pair) => parseInt(pair, 16));
 }
 
-/** Shows the editor for a file, or says why it can't be edited. */
+/** Shows the editor for a file, or says why it can't be edited; hides it if it shows this file already. */
 export async function editFile(name) {
+  if (name === edited) {
+    closeEditor();
+    return listFiles();
+  }
   edited = name;
   isHex = false;
   at("editor").hidden = false;
@@ -82,7 +86,7 @@ function closeEditor() {
 
 function entry(name, file) {
   const show = button(name, () => editFile(name), `Edit ${name}`);
-  if (name === edited) show.setAttribute("aria-current", "true");
+  show.setAttribute("aria-expanded", String(name === edited));
   const remove = () => {
     files.delete(name);
     if (name === edited) closeEditor();

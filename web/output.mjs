@@ -11,32 +11,24 @@ const MOST_ASKING = 512;
 /** A link within such a page stays in it only if its address is that of the frame. */
 const BASE = '<base href="about:srcdoc">';
 
-/** The buttons that ask about a machine. */
+/** The buttons that ask about a machine; for the heading above them, if there is no machine, their place. */
 function asking(row, ask) {
   const more = element("span");
   more.className = "more";
-  more.append(...ROW_QUESTIONS.map((question) => button(question, () => ask(question, row), `${question} of machine ${row}`)));
+  const named = (question) => button(question, () => ask(question, row), `${question} of machine ${row}`);
+  if (row) more.append(...ROW_QUESTIONS.map(named));
   return more;
 }
 
-/** A text; each line of a table of machines, whose first column is `row`, has questions behind it. */
+/** A text. In a table of machines, whose first column is `row`, each line has questions before it. */
 function shownText(text, ask) {
   const pre = element("pre");
   pre.tabIndex = 0;
   const whole = text.length <= MOST_SHOWN ? text : text.slice(0, text.lastIndexOf("\n", MOST_SHOWN) + 1);
-  let asked = /^ *row  /.test(whole) ? MOST_ASKING : 0;
-  let plain = "";
-  for (const line of asked ? whole.match(/[^\n]*\n?/g) : [whole]) {
-    const row = asked > 0 ? /^ *(\d+)  /.exec(line) : null;
-    if (!row) {
-      plain += line;
-      continue;
-    }
-    asked -= 1;
-    pre.append(plain + line.trimEnd(), asking(row[1], ask), "\n");
-    plain = "";
-  }
-  pre.append(plain);
+  const isOfMachines = /^ *row  /.test(whole);
+  const lines = isOfMachines ? whole.split(/(?<=\n)/) : [];
+  for (const line of lines.slice(0, MOST_ASKING)) pre.append(asking(/^ *(\d+)  /.exec(line)?.[1], ask), line);
+  pre.append(isOfMachines ? lines.slice(MOST_ASKING).join("") : whole);
   if (whole.length < text.length) pre.append("..\nThe rest isn't shown here: Save keeps all of it.\n");
   return pre;
 }

@@ -11,6 +11,9 @@ const QUESTIONS = { ...STUDY_QUESTIONS, ...RUN_QUESTIONS };
 /** The question whose answer is shown, by its name; none if a command was typed. */
 let question;
 
+/** True once a person has asked something: the first answer comes by itself. */
+let hasAsked = false;
+
 // ---- files, studies, programs ----
 
 const studies = () => [...files.keys()].filter((name) => name.endsWith(".toml"));
@@ -36,7 +39,6 @@ async function showExample(example) {
   at("machine").value = example.ask.machine ?? "0";
   await listStudies();
   at("program").value = example.ask.program ?? at("program").value;
-  if (studies().length) await editFile(study());
   if (example.ask.words) await carryOut([example.ask.words]);
   else await ask(example.ask.question);
 }
@@ -50,7 +52,6 @@ async function addFiles(found) {
   await listStudies(newest);
   if (newest) {
     at("machine").value = "0";
-    await editFile(newest);
     await ask("front");
   } else if (found.length === 1 && !studies().length) await carryOut([["run", found[0][0]]]);
 }
@@ -85,6 +86,11 @@ function showRefusal(refusal, status) {
   at("explain").onclick = () => carryOut([["explain", refusal.split("\n")[0].replace(/^tomex: /, "")]]);
 }
 
+/** On a narrow window the answer is below the questions. */
+function showAnswer() {
+  if (hasAsked && matchMedia("(max-width: 60rem)").matches) at("form").scrollIntoView();
+}
+
 /** The commands, one after another; what they print takes the place of what was shown, once the first one has printed. */
 async function carryOut(commands, name, target) {
   stop();
@@ -104,6 +110,7 @@ async function carryOut(commands, name, target) {
     if (target) addToFiles([[target, new Blob([outcome.output])]]);
     else shown.push(shownOutput(outcome.output, words, { ask, keep, heading: "h2" }));
     at("outputs").replaceChildren(...shown);
+    showAnswer();
   }
   showBusy(false);
   if (outcome.fault) return void say(`The browser stopped the run: ${outcome.fault}`);
@@ -145,16 +152,13 @@ at("chosen").onchange = () => addFiles([...at("chosen").files].map((file) => [fi
 at("empty").onclick = () => removeFiles();
 at("new").onclick = () => {
   const images = [...files.keys()].filter((name) => /\.(elf|bin|out)$/.test(name));
-  addFiles([["study.toml", new Blob([newStudy(images)])]]);
+  addFiles([["study.toml", new Blob([newStudy(images)])]]).then(() => editFile("study.toml"));
 };
 at("text").oninput = () => takeTyped();
 at("text").onkeydown = (event) => {
   if (event.key === "Enter" && (event.ctrlKey || event.metaKey)) carryOutTyped();
 };
-at("study").onchange = async () => {
-  await listStudies();
-  await editFile(study());
-};
+at("study").onchange = () => listStudies();
 for (const id of ["machine", "program"])
   at(id).onchange = () => {
     if (question in RUN_QUESTIONS || question === "worth") ask(question);
@@ -177,6 +181,7 @@ addEventListener("drop", (event) => {
   document.body.classList.remove("drop");
   droppedFiles(event.dataTransfer).then(addFiles, () => say("The browser can't read what was dropped."));
 });
+for (const event of ["click", "keydown"]) addEventListener(event, () => (hasAsked = true), { capture: true });
 addEventListener("beforeprint", showFramesWhole);
 addEventListener("afterprint", showFramesInTheWindow);
 
