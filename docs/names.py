@@ -41,12 +41,12 @@ def crate_of(place):
 
 
 def words_by_crate():
-    """Each word of each crate's sources, definitions and proofs, and the names of its files, folders and edits."""
+    """Each word of each crate's sources, definitions and proofs, and of scripts; and the names of files and folders."""
     found = {}
     for file in FILES:
         words = found.setdefault(crate_of(file), set())
         words |= {part.split(".")[0] for part in file.split("/")}
-        if file.endswith((".rt", ".antt")):
+        if file.endswith((".rt", ".antt", ".c", ".mjs", ".py")):
             words |= set(re.findall(r"[A-Za-z_][A-Za-z0-9_]*", read(file)))
     return found
 
