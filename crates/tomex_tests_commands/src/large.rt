@@ -4,6 +4,7 @@ use crate::files::files;
 use crate::{Outcome, outcome_of, words_of};
 use std::alloc::{AllocError, Global};
 use std::fmt::Write;
+use std::process::Abort;
 use std::sync::Wait;
 use std::test::Fail;
 use std::thread::Threads;
@@ -139,14 +140,18 @@ fn ran<R: AllocGlobal + Threads + Wait + Sync>(rt: &R, line: &str) -> Result<Out
     )
 }
 
-/// Lines, and how many line feeds are in their output.
-static LARGE: [(&str, usize); 13] = [
+/// Lines on a program, and how many line feeds are in their output.
+static RUNS: [(&str, usize); 5] = [
     // Its first stretch, those in its middle, and its last one.
     ("tomex parts rounds.bin 1000", 4),
     ("tomex parts straight.bin 2000 --size 16384", 3),
     ("tomex run zeros.bin --size 1048576", 33),
     ("tomex loops loops 0 p", 203),
     ("tomex loops nest 0 p", 5),
+];
+
+/// The same on a study.
+static STUDIES: [(&str, usize); 8] = [
     (
         "tomex worth longer row=2303,cost=0,alu=1,mul=1,div=16,load=9,store=16,bru=1,alu_units=1,alu_latency=1,\
         mul_units=1,mul_latency=1,div_units=1,div_latency=1,mem_units=1,mem_latency=1,bru_units=1,bru_latency=1,\
@@ -172,15 +177,28 @@ static IMAGES: [(&str, usize); 2] = [
     ),
 ];
 
-#[test]
-fn large_input_is_answered(rt: HostRuntime) -> Result<(), Fail> {
-    for (line, count) in &LARGE {
-        let outcome = ran(&rt, *line)?;
+/// Fails unless each of these lines succeeds, with this number of line feeds in its output.
+fn are_counted<R: Abort + AllocGlobal + Threads + Wait + Sync>(
+    rt: &R,
+    lines: &[(&str, usize)],
+) -> Result<(), Fail> {
+    for (line, count) in lines {
+        let outcome = ran(rt, *line)?;
         assert!(rt; outcome.status == 0 && outcome.err.is_empty(), "{line}");
         let found = outcome.out.iter().filter(|byte| **byte == b'\n').count();
         assert!(rt; found == *count, "{line} {found}");
     }
     Ok(())
+}
+
+#[test]
+fn large_runs_are_answered(rt: HostRuntime) -> Result<(), Fail> {
+    are_counted(&rt, &RUNS)
+}
+
+#[test]
+fn large_studies_are_answered(rt: HostRuntime) -> Result<(), Fail> {
+    are_counted(&rt, &STUDIES)
 }
 
 #[test]

@@ -92,13 +92,13 @@ fn many_steps(alloc: Global, different: usize, again: usize) -> Result<Vec<Facts
     Ok(facts)
 }
 
-/// 400,000 different blocks, and the first 100,000 of them again. A search that looks at each block before would take
+/// 300,000 different blocks, and the first 50,000 of them again. A search that looks at each block before would take
 /// minutes; one that looks at a single place of the table would not find some of them again.
 #[test]
 fn each_of_many_blocks_is_found_again(rt: HostRuntime) -> Result<(), Fail> {
-    let facts = many_steps(rt.alloc(), 400_000, 100_000)?;
-    assert!(rt; facts.len() == 1_000_000);
+    let facts = many_steps(rt.alloc(), 300_000, 50_000)?;
+    assert!(rt; facts.len() == 700_000);
     let made = Blocks::of(rt.alloc(), facts.as_slice())?;
-    assert!(rt; made.blocks().len() == 500_000 && made.different() == 400_000);
+    assert!(rt; made.blocks().len() == 350_000 && made.different() == 300_000);
     Ok(())
 }
