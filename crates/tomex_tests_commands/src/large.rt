@@ -158,12 +158,15 @@ static STUDIES: [(&str, usize); 8] = [
         buses=1,width=1",
         40,
     ),
-    ("tomex plot longer", 0),
-    ("tomex plot longer --rows", 0),
+    // A line for each of 2,304 points, and the frame.
+    ("tomex plot longer", 2329),
+    ("tomex plot longer --rows", 2330),
     ("tomex worth most 0 --csv", 49),
-    ("tomex prices alike --csv", 1025),
+    // Three prices of each row, and the names.
+    ("tomex prices alike --csv", 3073),
     ("tomex weights latencies --csv", 2049),
-    ("tomex compare multipliers mul mul --csv", 66),
+    // A group for each multiplier, and five lines more, as many as on other studies.
+    ("tomex compare multipliers mul mul --csv", 69),
     ("tomex choices multipliers --csv", 14),
 ];
 
