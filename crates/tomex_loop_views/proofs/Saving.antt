@@ -75,10 +75,12 @@ only_extent passes addresses None (Some b) none are =
     absurd (cc (none are.first.step are.first.before, are.first.is))
 only_extent passes addresses (Some a) None is none = absurd (cc (none is.first.step is.first.before, is.first.is))
 only_extent passes addresses (Some a) (Some b) is are =
-    let (i, j) = (is.first, are.first) in
+    let i = is.first in
+    let j = are.first in
     let first : a.first ≡ b.first =
     omega (arith, is.low j.step j.before j.is, j.at, are.low i.step i.before i.is, i.at) in
-    let (k, l) = (is.last, are.last) in
+    let k = is.last in
+    let l = are.last in
     let last : a.last ≡ b.last =
     omega (arith, is.high l.step l.before l.is, l.at, are.high k.step k.before k.is, k.at) in
     let with_first : ℕ → Option Extent = λ n. Some (record { first = n; last = a.last }) in
