@@ -171,7 +171,7 @@ def on_terminal(command, folder, output=subprocess.DEVNULL):
         pieces.append(piece)
     status = running.wait()
     os.close(above)
-    return b"".join(pieces).decode().replace("\r\n", "\n"), time.monotonic() - start, status
+    return b"".join(pieces).decode(errors="replace").replace("\r\n", "\n"), time.monotonic() - start, status
 
 
 def check_terminal(what, shown, right):
