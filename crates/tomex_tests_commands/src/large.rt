@@ -111,24 +111,71 @@ fn latencies(alloc: Global) -> Result<String, AllocError> {
     Ok(text)
 }
 
-/// The outcome of a line over these files and those of the other tests.
-fn ran<R: AllocGlobal + Threads + Wait + Sync>(rt: &R, line: &str) -> Result<Outcome, AllocError> {
-    let alloc = rt.alloc();
+/// A file that is made for these lines: its name, and its bytes.
+#[derive(Drop)]
+struct Made {
+    name: String,
+    bytes: Vec<u8>,
+}
+
+fn push_file(
+    alloc: Global,
+    all: &mut Vec<Made>,
+    name: &str,
+    bytes: &[u8],
+) -> Result<(), AllocError> {
+    all.push(Made {
+        name: String::from_str(alloc, name)?,
+        bytes: bytes.to_vec(alloc)?,
+    })?;
+    Ok(())
+}
+
+/// The files of these lines, and those of the other tests.
+fn all_files(alloc: Global) -> Result<Vec<Made>, AllocError> {
+    let mut all = Vec::new(alloc);
+    let others = files();
+    for file in &others {
+        push_file(alloc, &mut all, file.0, file.1)?;
+    }
     let straight = repeated(alloc, b"\x13\x00\x00\x00", 2000, EBREAK)?;
     let loops = repeated(alloc, TWO_ROUNDS, 200, EBREAK)?;
-    let (symbols, zeros) = (many_symbols(alloc)?, mostly_zeros(alloc)?);
-    let (multipliers, latencies) = (multipliers(alloc)?, latencies(alloc)?);
-    let mut all = files().to_vec(alloc)?;
-    all.push(("rounds.bin", ROUNDS.as_slice()))?;
-    all.push(("straight.bin", straight.as_slice()))?;
-    all.push(("loops.bin", loops.as_slice()))?;
-    all.push(("nest.bin", NEST.as_slice()))?;
-    all.push(("symbols.elf", symbols.as_slice()))?;
-    all.push(("zeros.bin", zeros.as_slice()))?;
-    all.push(("loops", LOOPS_STUDY.as_bytes()))?;
-    all.push(("nest", NEST_STUDY.as_bytes()))?;
-    all.push(("multipliers", multipliers.as_bytes()))?;
-    all.push(("latencies", latencies.as_bytes()))?;
+    push_file(alloc, &mut all, "rounds.bin", ROUNDS)?;
+    push_file(alloc, &mut all, "straight.bin", straight.as_slice())?;
+    push_file(alloc, &mut all, "loops.bin", loops.as_slice())?;
+    push_file(alloc, &mut all, "nest.bin", NEST)?;
+    push_file(
+        alloc,
+        &mut all,
+        "symbols.elf",
+        many_symbols(alloc)?.as_slice(),
+    )?;
+    push_file(
+        alloc,
+        &mut all,
+        "zeros.bin",
+        mostly_zeros(alloc)?.as_slice(),
+    )?;
+    push_file(alloc, &mut all, "loops", LOOPS_STUDY.as_bytes())?;
+    push_file(alloc, &mut all, "nest", NEST_STUDY.as_bytes())?;
+    push_file(
+        alloc,
+        &mut all,
+        "multipliers",
+        multipliers(alloc)?.as_bytes(),
+    )?;
+    push_file(alloc, &mut all, "latencies", latencies(alloc)?.as_bytes())?;
+    Ok(all)
+}
+
+/// The outcome of a line over these files.
+fn ran<R: AllocGlobal + Threads + Wait + Sync>(rt: &R, line: &str) -> Result<Outcome, AllocError> {
+    let alloc = rt.alloc();
+    let made = all_files(alloc)?;
+    let mut all = Vec::new(alloc);
+    for file in &made {
+        all.push((file.name.as_str(), file.bytes.as_slice()))?;
+    }
     let words = words_of(alloc, line)?;
     outcome_of(
         rt,
