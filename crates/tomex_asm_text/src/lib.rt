@@ -1,0 +1,22 @@
+//! A program in assembly, from its characters to its statements.
+//!
+//! Source: The RISC-V Instruction Set Manual, Volume I: Unprivileged ISA, version 20191213, chapters "RV32I Base Integer
+//! Instruction Set", "M Standard Extension" and "RISC-V Assembly Programmer's Handbook".
+#![tactic(auto)]
+
+mod bare;
+mod cause;
+mod characters;
+mod lexing;
+mod literal;
+mod mode;
+mod names;
+mod numeral;
+mod registers;
+mod token;
+
+pub use bare::without_comments;
+pub use cause::{Cause, Fault, ReadError, Thing};
+pub use lexing::read_tokens;
+pub use mode::Mode;
+pub use token::{Mark, Sort, Token};
