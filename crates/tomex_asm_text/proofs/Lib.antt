@@ -3,4 +3,5 @@ pub mod Ends
 pub mod BareBytes
 pub mod Lines
 pub mod Capped
+pub mod Sizes
 pub mod Rows

@@ -3,4 +3,5 @@ pub mod Characters
 pub mod Bare
 pub mod Tokens
 pub mod Registers
+pub mod Values
 pub mod Reading

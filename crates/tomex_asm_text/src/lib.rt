@@ -12,8 +12,10 @@ mod literal;
 mod mode;
 mod names;
 mod numeral;
+mod reading;
 mod registers;
 mod token;
+mod value;
 
 pub use bare::without_comments;
 pub use cause::{Cause, Fault, ReadError, Thing};

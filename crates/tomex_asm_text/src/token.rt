@@ -1,5 +1,7 @@
 //! The tokens of a line.
 
+ghost use Rattle.std.specs.Prelude.{◌≡◌};
+
 /// A character that is a token.
 #[derive(Clone, Copy)]
 pub enum Mark {
@@ -38,4 +40,43 @@ pub struct Token {
     pub from: usize,
     /// Right behind its last byte.
     pub to: usize,
+}
+
+impl Mark {
+    ghost use Rattle.tomex_asm_text.specs.Values.{character_of};
+
+    fn character(self) -> u8
+        ensures { result ≡ character_of self }
+    {
+        match self {
+            Mark::Comma => b',',
+            Mark::Open => b'(',
+            Mark::Close => b')',
+            Mark::Colon => b':',
+            Mark::Plus => b'+',
+            Mark::Minus => b'-',
+            Mark::Star => b'*',
+            Mark::Percent => b'%',
+            Mark::At => b'@',
+        }
+    }
+}
+
+impl Token {
+    ghost use Rattle.tomex_asm_text.specs.Values.{is_mark, sort_is_word};
+
+    pub(crate) fn is_mark(self, mark: Mark) -> bool
+        ensures { result ≡ is_mark mark self }
+    {
+        match self.sort {
+            Sort::Mark(other) => mark.character() == other.character(),
+            _ => false,
+        }
+    }
+
+    pub(crate) fn is_word(self) -> bool
+        ensures { result ≡ sort_is_word self.sort }
+    {
+        matches!(self.sort, Sort::Word)
+    }
 }
