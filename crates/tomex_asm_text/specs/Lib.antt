@@ -4,4 +4,7 @@ pub mod Bare
 pub mod Tokens
 pub mod Registers
 pub mod Values
+pub mod Statement
+pub mod Mnemonics
+pub mod Instructions
 pub mod Reading

@@ -7,18 +7,28 @@
 mod bare;
 mod cause;
 mod characters;
+mod forms;
 mod lexing;
 mod literal;
+mod mnemonic;
 mod mode;
 mod names;
 mod numeral;
+mod operands;
+mod pseudo;
 mod reading;
 mod registers;
+mod statement;
 mod token;
 mod value;
 
 pub use bare::without_comments;
 pub use cause::{Cause, Fault, ReadError, Thing};
 pub use lexing::read_tokens;
+pub use mnemonic::Mnemonic;
 pub use mode::Mode;
+pub use operands::Place;
+pub use reading::text_of;
+pub use statement::{Alignment, Binding, Immediate, Kind, Section, Statement, Template};
 pub use token::{Mark, Sort, Token};
+pub use value::{Position, Step};
