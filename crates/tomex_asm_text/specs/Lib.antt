@@ -7,4 +7,6 @@ pub mod Values
 pub mod Statement
 pub mod Mnemonics
 pub mod Instructions
+pub mod Directives
+pub mod Lines
 pub mod Reading

@@ -7,8 +7,12 @@
 mod bare;
 mod cause;
 mod characters;
+mod directive;
+mod directives;
 mod forms;
 mod lexing;
+mod line;
+mod list;
 mod literal;
 mod mnemonic;
 mod mode;
@@ -24,7 +28,10 @@ mod value;
 
 pub use bare::without_comments;
 pub use cause::{Cause, Fault, ReadError, Thing};
+pub use directive::Directive;
 pub use lexing::read_tokens;
+pub use line::{Line, line_at};
+pub use list::Element;
 pub use mnemonic::Mnemonic;
 pub use mode::Mode;
 pub use operands::Place;
