@@ -1,7 +1,2 @@
 -- Lemmas of the crate.
-pub mod Ends
-pub mod BareBytes
-pub mod Lines
-pub mod Capped
 pub mod Sizes
-pub mod Rows

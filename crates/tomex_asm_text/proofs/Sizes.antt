@@ -2,14 +2,14 @@
 use Rattle.std.proofs.Common.{◌≡◌, ℕ, ◌+◌, ◌<◌, ◌≤◌, Bool, true, false, List, [], ◌∷◌, length, take, drop, get_or, Option, None}
 use Rattle.std.proofs.Common.{Result, Ok, Err, cond, ◌-◌, refl, sym, ap, ◌∙◌, subst, arith}
 use Rattle.std.proofs.lemmas.List.{drop_more, drop-drop, take_rest}
-use Rattle.tomex_asm_text.specs.declared.cause.Cause.{Cause}
-use Rattle.tomex_asm_text.specs.declared.cause.Fault.{Fault}
+use Rattle.tomex_asm_tokens.specs.declared.cause.Cause.{Cause}
+use Rattle.tomex_asm_tokens.specs.declared.cause.Fault.{Fault}
 use Rattle.tomex_asm_text.specs.declared.list.Element.{Element}
-use Rattle.tomex_asm_text.specs.declared.token.Mark.TheVariants.{Colon, Comma}
-use Rattle.tomex_asm_text.specs.declared.token.Token.{Token}
+use Rattle.tomex_asm_tokens.specs.declared.token.Mark.TheVariants.{Colon, Comma}
+use Rattle.tomex_asm_tokens.specs.declared.token.Token.{Token}
 use Rattle.tomex_asm_text.specs.Directives.{unless, element_fault, elements_from}
-use Rattle.tomex_asm_text.specs.Tokens.{◌>>=◌}
-use Rattle.tomex_asm_text.specs.Values.{is_mark, one_more}
+use Rattle.tomex_asm_tokens.specs.Tokens.{◌>>=◌, is_mark}
+use Rattle.tomex_asm_text.specs.Values.{one_more}
 use Rattle.tomex_asm_text.specs.Lines.{label_fault, two_more, labels_from}
 
 -- the tokens before, and those that are counted yet

@@ -2,10 +2,10 @@
 use Rattle.std.specs.Prelude.{ℕ, ◌+◌, ◌-◌, List, [], ◌∷◌, length, take, drop, slice_index, Option, Some, None, Result, Ok, Err}
 use Rattle.std.specs.Prelude.{Bool, true, false, nat_eq, nat_lt, ◌&&◌, ◌||◌, if◌then◌else◌, codes}
 use Rattle.std.specs.Str.{bytes_eq}
-use Rattle.tomex_asm_text.specs.declared.cause.Cause.{Cause}
-use Rattle.tomex_asm_text.specs.declared.cause.Cause.TheVariants.{Expected, NoSection}
-use Rattle.tomex_asm_text.specs.declared.cause.Fault.{Fault}
-use Rattle.tomex_asm_text.specs.declared.cause.Thing.TheVariants as things
+use Rattle.tomex_asm_tokens.specs.declared.cause.Cause.{Cause}
+use Rattle.tomex_asm_tokens.specs.declared.cause.Cause.TheVariants.{Expected, NoSection}
+use Rattle.tomex_asm_tokens.specs.declared.cause.Fault.{Fault}
+use Rattle.tomex_asm_tokens.specs.declared.cause.Thing.TheVariants as things
 use Rattle.tomex_asm_text.specs.declared.directive.Directive.{Directive}
 use Rattle.tomex_asm_text.specs.declared.directive.Directive.TheVariants as directives
 use Rattle.tomex_asm_text.specs.declared.list.Element.{Element}
@@ -16,16 +16,16 @@ use Rattle.tomex_asm_text.specs.declared.statement.Alignment.TheVariants as alig
 use Rattle.tomex_asm_text.specs.declared.statement.Binding.TheVariants as bindings
 use Rattle.tomex_asm_text.specs.declared.statement.Kind.{Kind}
 use Rattle.tomex_asm_text.specs.declared.statement.Kind.TheVariants as kinds
-use Rattle.tomex_asm_text.specs.declared.token.Mark.TheVariants as marks
-use Rattle.tomex_asm_text.specs.declared.token.Sort.{Sort}
-use Rattle.tomex_asm_text.specs.declared.token.Sort.TheVariants as sorts
-use Rattle.tomex_asm_text.specs.declared.token.Token.{Token}
+use Rattle.tomex_asm_tokens.specs.declared.token.Mark.TheVariants as marks
+use Rattle.tomex_asm_tokens.specs.declared.token.Sort.{Sort}
+use Rattle.tomex_asm_tokens.specs.declared.token.Sort.TheVariants as sorts
+use Rattle.tomex_asm_tokens.specs.declared.token.Token.{Token}
 use Rattle.tomex_asm_text.specs.Instructions.{Reading, comma_at, next_value, second_is}
-use Rattle.tomex_asm_text.specs.Registers.{named}
+use Rattle.tomex_asm_tokens.specs.Registers.{named}
 use Rattle.tomex_asm_text.specs.Statement.{Statement, Nothing, InSection, Align, Space, Strings, Data, Define, Common}
 use Rattle.tomex_asm_text.specs.Statement.{Bind, OfKind, Size}
-use Rattle.tomex_asm_text.specs.Tokens.{◌>>=◌, refused}
-use Rattle.tomex_asm_text.specs.Values.{text_of, lacks, is_mark, begins_mark, sort_is_word, name_fault, name_at, value_at}
+use Rattle.tomex_asm_tokens.specs.Tokens.{◌>>=◌, refused, is_mark, sort_is_word}
+use Rattle.tomex_asm_text.specs.Values.{text_of, lacks, begins_mark, name_fault, name_at, value_at}
 use Rattle.tomex_asm_text.specs.Values.{values_at, one_more, split_at}
 
 abbrev pub directive_names : List (List ℕ × Directive)

@@ -10,19 +10,19 @@ use Rattle.tomex_rvdec.specs.declared.op.Op.TheVariants as ops
 use Rattle.tomex_rvdec.specs.declared.op.Form.{Form}
 use Rattle.tomex_rvdec.specs.declared.op.Form.TheVariants as forms
 use Rattle.tomex_rvdec.specs.Meaning.{form_of}
-use Rattle.tomex_asm_text.specs.declared.cause.Fault.{Fault}
-use Rattle.tomex_asm_text.specs.declared.cause.Thing.TheVariants as things
+use Rattle.tomex_asm_tokens.specs.declared.cause.Fault.{Fault}
+use Rattle.tomex_asm_tokens.specs.declared.cause.Thing.TheVariants as things
 use Rattle.tomex_asm_text.specs.declared.mnemonic.Mnemonic.{Mnemonic}
 use Rattle.tomex_asm_text.specs.declared.mnemonic.Mnemonic.TheVariants as mnemonics
 use Rattle.tomex_asm_text.specs.declared.operands.Place as places
 use Rattle.tomex_asm_text.specs.declared.operands.Place.TheVariants as found
-use Rattle.tomex_asm_text.specs.declared.token.Mark.TheVariants as marks
-use Rattle.tomex_asm_text.specs.declared.token.Token.{Token}
-use Rattle.tomex_asm_text.specs.Registers.{named}
+use Rattle.tomex_asm_tokens.specs.declared.token.Mark.TheVariants as marks
+use Rattle.tomex_asm_tokens.specs.declared.token.Token.{Token}
+use Rattle.tomex_asm_tokens.specs.Registers.{named}
 use Rattle.tomex_asm_text.specs.Statement.{Immediate, Fixed, Plain, Low, High, Target, PcHigh, PcLow, immediate_of}
 use Rattle.tomex_asm_text.specs.Statement.{Template, Statement, One, Two, LoadNumber}
-use Rattle.tomex_asm_text.specs.Tokens.{◌>>=◌}
-use Rattle.tomex_asm_text.specs.Values.{text_of, lacks, is_mark, begins_mark, mark_at, sort_is_word, is_register, register_at}
+use Rattle.tomex_asm_tokens.specs.Tokens.{◌>>=◌, sort_is_word}
+use Rattle.tomex_asm_text.specs.Values.{text_of, lacks, begins_mark, mark_at, is_register, register_at}
 use Rattle.tomex_asm_text.specs.Values.{value_at}
 
 -- what was read, and the rest of the line

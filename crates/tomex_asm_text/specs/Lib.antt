@@ -1,12 +1,7 @@
--- Definitions that contracts cite, from a text to its statements, in the order in which to read them.
-pub mod Characters
-pub mod Bare
-pub mod Tokens
-pub mod Registers
+-- Definitions that contracts cite, from tokens to statements, in the order in which to read them.
 pub mod Values
 pub mod Statement
 pub mod Mnemonics
 pub mod Instructions
 pub mod Directives
 pub mod Lines
-pub mod Reading

@@ -5,23 +5,23 @@
 --     statement = mnemonic operands | directive           a word; a directive's begins with "."
 use Rattle.std.specs.Prelude.{ℕ, ◌+◌, List, [], ◌∷◌, length, take, drop, slice_index, Option, Some, None, Result, Ok, Err}
 use Rattle.std.specs.Prelude.{Bool, true, false, nat_eq, if◌then◌else◌}
-use Rattle.tomex_asm_text.specs.declared.cause.Cause.{Cause}
-use Rattle.tomex_asm_text.specs.declared.cause.Cause.TheVariants.{Expected, NoInstruction, NoDirective}
-use Rattle.tomex_asm_text.specs.declared.cause.Fault.{Fault}
-use Rattle.tomex_asm_text.specs.declared.cause.Thing.TheVariants as things
+use Rattle.tomex_asm_tokens.specs.declared.cause.Cause.{Cause}
+use Rattle.tomex_asm_tokens.specs.declared.cause.Cause.TheVariants.{Expected, NoInstruction, NoDirective}
+use Rattle.tomex_asm_tokens.specs.declared.cause.Fault.{Fault}
+use Rattle.tomex_asm_tokens.specs.declared.cause.Thing.TheVariants as things
 use Rattle.tomex_asm_text.specs.declared.directive.Directive.{Directive}
 use Rattle.tomex_asm_text.specs.declared.mnemonic.Mnemonic.{Mnemonic}
 use Rattle.tomex_asm_text.specs.declared.line.Line as lines
-use Rattle.tomex_asm_text.specs.declared.token.Mark.TheVariants as marks
-use Rattle.tomex_asm_text.specs.declared.token.Sort.{Sort}
-use Rattle.tomex_asm_text.specs.declared.token.Sort.TheVariants as sorts
-use Rattle.tomex_asm_text.specs.declared.token.Token.{Token}
+use Rattle.tomex_asm_tokens.specs.declared.token.Mark.TheVariants as marks
+use Rattle.tomex_asm_tokens.specs.declared.token.Sort.{Sort}
+use Rattle.tomex_asm_tokens.specs.declared.token.Sort.TheVariants as sorts
+use Rattle.tomex_asm_tokens.specs.declared.token.Token.{Token}
 use Rattle.tomex_asm_text.specs.Directives.{directive_named, directive_at, unless}
 use Rattle.tomex_asm_text.specs.Instructions.{Reading, instruction_at}
 use Rattle.tomex_asm_text.specs.Mnemonics.{mnemonic_named}
 use Rattle.tomex_asm_text.specs.Statement.{Statement, Nothing, statement_of}
-use Rattle.tomex_asm_text.specs.Tokens.{◌>>=◌, refused, tokens}
-use Rattle.tomex_asm_text.specs.Values.{text_of, place_of, lacks, is_mark, sort_is_word, name_fault, split_at}
+use Rattle.tomex_asm_tokens.specs.Tokens.{◌>>=◌, refused, tokens, is_mark, sort_is_word}
+use Rattle.tomex_asm_text.specs.Values.{text_of, place_of, lacks, name_fault, split_at}
 
 -- a line: its labels with their colons, the place of its statement, and the statement
 pub record Line : Type 0 where

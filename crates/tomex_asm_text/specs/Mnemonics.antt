@@ -10,7 +10,7 @@ use Rattle.tomex_asm_text.specs.declared.mnemonic.Mnemonic.{Mnemonic}
 use Rattle.tomex_asm_text.specs.declared.mnemonic.Mnemonic.TheVariants.{Real, OfNumber, OfZero, Swapped, BranchOfZero}
 use Rattle.tomex_asm_text.specs.declared.mnemonic.Mnemonic.TheVariants.{BranchSwapped, NoOperation, Return, Jump}
 use Rattle.tomex_asm_text.specs.declared.mnemonic.Mnemonic.TheVariants.{JumpRegister, LoadAddress, Far, LoadNumber}
-use Rattle.tomex_asm_text.specs.Registers.{named}
+use Rattle.tomex_asm_tokens.specs.Registers.{named}
 
 -- A row for each pseudoinstruction. The sides of what is compared with x0: true if x0 is the first
 abbrev pub pseudoinstructions : List (List ℕ × Mnemonic)

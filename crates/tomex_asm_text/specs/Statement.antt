@@ -2,7 +2,7 @@
 -- a list of values, of names or of strings, with its commas. In the code the tokens are borrowed; here they aren't.
 use Rattle.std.specs.Prelude.{ℕ, ℤ, Bool, List}
 use Rattle.tomex_rvdec.specs.declared.op.Op.{Op}
-use Rattle.tomex_asm_text.specs.declared.token.Token.{Token}
+use Rattle.tomex_asm_tokens.specs.declared.token.Token.{Token}
 use Rattle.tomex_asm_text.specs.declared.statement.Section.{Section}
 use Rattle.tomex_asm_text.specs.declared.statement.Alignment.{Alignment}
 use Rattle.tomex_asm_text.specs.declared.statement.Binding.{Binding}

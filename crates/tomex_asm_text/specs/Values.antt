@@ -7,23 +7,23 @@
 use Rattle.std.specs.Prelude.{ℕ, ◌+◌, ◌-◌, List, [], ◌∷◌, length, take, drop, map, Option, Some, None, Result, Ok, Err}
 use Rattle.std.specs.Prelude.{Bool, true, false, nat_eq, is_some, not, ◌&&◌, ◌||◌, if◌then◌else◌, codes}
 use Rattle.std.specs.Str.{bytes_eq}
-use Rattle.tomex_asm_text.specs.declared.cause.Cause.{Cause}
-use Rattle.tomex_asm_text.specs.declared.cause.Cause.TheVariants.{Expected, RegisterName}
-use Rattle.tomex_asm_text.specs.declared.cause.Fault.{Fault}
-use Rattle.tomex_asm_text.specs.declared.cause.Thing.{Thing}
-use Rattle.tomex_asm_text.specs.declared.cause.Thing.TheVariants as things
-use Rattle.tomex_asm_text.specs.declared.token.Mark.{Mark}
-use Rattle.tomex_asm_text.specs.declared.token.Mark.TheVariants as marks
-use Rattle.tomex_asm_text.specs.declared.token.Sort.{Sort}
-use Rattle.tomex_asm_text.specs.declared.token.Sort.TheVariants as sorts
-use Rattle.tomex_asm_text.specs.declared.token.Token.{Token}
+use Rattle.tomex_asm_tokens.specs.declared.cause.Cause.{Cause}
+use Rattle.tomex_asm_tokens.specs.declared.cause.Cause.TheVariants.{Expected, RegisterName}
+use Rattle.tomex_asm_tokens.specs.declared.cause.Fault.{Fault}
+use Rattle.tomex_asm_tokens.specs.declared.cause.Thing.{Thing}
+use Rattle.tomex_asm_tokens.specs.declared.cause.Thing.TheVariants as things
+use Rattle.tomex_asm_tokens.specs.declared.token.Mark.{Mark}
+use Rattle.tomex_asm_tokens.specs.declared.token.Mark.TheVariants as marks
+use Rattle.tomex_asm_tokens.specs.declared.token.Sort.{Sort}
+use Rattle.tomex_asm_tokens.specs.declared.token.Sort.TheVariants as sorts
+use Rattle.tomex_asm_tokens.specs.declared.token.Token.{Token}
 use Rattle.tomex_asm_text.specs.declared.value.Position.{Position}
 use Rattle.tomex_asm_text.specs.declared.value.Position.TheVariants as positions
 use Rattle.tomex_asm_text.specs.declared.value.Step.{Step}
 use Rattle.tomex_asm_text.specs.declared.value.Step.TheVariants as steps
-use Rattle.tomex_asm_text.specs.Characters.{is_blank}
-use Rattle.tomex_asm_text.specs.Registers.{register_named}
-use Rattle.tomex_asm_text.specs.Tokens.{◌>>=◌, refused}
+use Rattle.tomex_asm_tokens.specs.Characters.{is_blank}
+use Rattle.tomex_asm_tokens.specs.Registers.{register_named}
+use Rattle.tomex_asm_tokens.specs.Tokens.{◌>>=◌, refused, is_mark, sort_is_word}
 
 -- the bytes of a token
 abbrev pub text_of : List ℕ → Token → List ℕ
@@ -46,25 +46,6 @@ lack line ts thing = record { at = place_of line ts; cause = Expected thing }
 abbrev pub lacks : {A : Type 0} → List ℕ → List Token → Thing → Result A Fault
 lacks line ts thing = Err (lack line ts thing)
 
--- Marks
-abbrev pub character_of : Mark → ℕ
-character_of marks.Comma = 44
-character_of marks.Open = 40
-character_of marks.Close = 41
-character_of marks.Colon = 58
-character_of marks.Plus = 43
-character_of marks.Minus = 45
-character_of marks.Star = 42
-character_of marks.Percent = 37
-character_of marks.At = 64
-
-abbrev pub sort_is_mark : Mark → Sort → Bool
-sort_is_mark mark (sorts.Mark other) = nat_eq (character_of mark) (character_of other)
-sort_is_mark mark _ = false
-
-abbrev pub is_mark : Mark → Token → Bool
-is_mark mark t = sort_is_mark mark t.sort
-
 -- the rest begins with this mark
 abbrev pub begins_mark : Mark → List Token → Bool
 begins_mark mark [] = false
@@ -75,10 +56,6 @@ unfoldable pub mark_at : Mark → Thing → List ℕ → List Token → Result (
 mark_at mark thing line ts = if begins_mark mark ts then Ok (drop 1 ts) else lacks line ts thing
 
 -- Words, registers and names
-abbrev pub sort_is_word : Sort → Bool
-sort_is_word sorts.Word = true
-sort_is_word _ = false
-
 abbrev pub register_of : List ℕ → Token → Option ℕ
 register_of line t = if sort_is_word t.sort then register_named (text_of line t) else None
 

@@ -3,8 +3,8 @@
 ghost use Rattle.std.specs.Prelude.{◌≡◌, map};
 ghost use Rattle.tomex_asm_text.specs.Directives.{begins_text, directive_named, is_part_of, section_in, section_named};
 
-use crate::names::named;
 use crate::statement::{Alignment, Binding, Section};
+use tomex_asm_tokens::named;
 
 /// What a directive says.
 #[derive(Clone, Copy)]

@@ -1,22 +1,20 @@
 //! Directives, by what they say.
 
 ghost use Rattle.std.specs.Prelude.{◌≡◌, ◌-◌, length, take, drop};
-ghost use Rattle.tomex_asm_text.specs.Reading.{Reads};
+ghost use Rattle.tomex_asm_tokens.specs.Reading.{Reads};
 ghost use Rattle.tomex_asm_text.specs.Statement.{statement_of};
 ghost use Rattle.std.specs.Option.{option_copied};
 ghost use Rattle.tomex_asm_text.specs.Directives.{section_name, found_section, section_named, section_at, kind_of, kind_behind, kind_at, name_and_value, common_at};
 ghost use Rattle.tomex_asm_text.specs.Directives.{directive_at};
 
-use crate::cause::{Cause, Fault, Thing};
 use crate::directive::{Directive, section_named};
 use crate::forms::Read;
 use crate::list::{Element, elements_at};
-use crate::names::named;
 use crate::operands::{comma_at, next_value};
 use crate::reading::{lack, name_at, text_of};
 use crate::statement::{Kind, Statement};
-use crate::token::{Mark, Sort, Token};
 use crate::value::{value_at, values_at};
+use tomex_asm_tokens::{Cause, Fault, Mark, Sort, Thing, Token, named};
 
 const KINDS: [(&str, Kind); 2] = [("function", Kind::Function), ("object", Kind::Object)];
 

@@ -1,22 +1,20 @@
 //! The instructions of RV32IM, by the forms of their operands.
 
 ghost use Rattle.std.specs.Prelude.{◌≡◌};
-ghost use Rattle.tomex_asm_text.specs.Reading.{Reads};
+ghost use Rattle.tomex_asm_tokens.specs.Reading.{Reads};
 ghost use Rattle.tomex_asm_text.specs.Statement.{immediate_of, template_of, statement_of};
 ghost use Rattle.tomex_asm_text.specs.Instructions.{made, register_form, immediate_form, shift_form, branch_form};
 ghost use Rattle.tomex_asm_text.specs.Instructions.{upper_at, upper_form, load_of, load_form, jalr_base, jalr_behind};
 ghost use Rattle.tomex_asm_text.specs.Instructions.{jalr_form, store_to, store_form, jump_form, set_of, set_at, fence_form, of_form, place_of, is_lui, is_jalr};
 
-use crate::cause::{Fault, Thing};
-use crate::names::named;
 use crate::operands::{
     Place, begins_register, comma_at, immediate_at, memory_at, next_register, next_value, part_at,
     place_at, three_registers, two_registers,
 };
 use crate::reading::{begins_mark, lack, register_at, text_of};
 use crate::statement::{Immediate, Statement, Template};
-use crate::token::{Mark, Token};
 use crate::value::value_at;
+use tomex_asm_tokens::{Fault, Mark, Thing, Token, named};
 use tomex_rvdec::{Form, Op};
 
 /// A statement, and what follows it.

@@ -1,12 +1,11 @@
 //! From a line to what it says.
 
 ghost use Rattle.std.specs.Prelude.{◌≡◌, ◌≤◌, IfOk, length};
-ghost use Rattle.tomex_asm_text.specs.Reading.{Reads};
+ghost use Rattle.tomex_asm_tokens.specs.Reading.{Reads};
 ghost use Rattle.tomex_asm_text.specs.Statement.{statement_of};
 ghost use Rattle.tomex_asm_text.specs.Values.{place_of};
 ghost use Rattle.tomex_asm_text.specs.Lines.{line_of, label_fault, labels_from, labels_at, of_word, statement_at, line_from};
 
-use crate::cause::{Cause, Fault, Thing};
 use crate::directive::directive_named;
 use crate::directives::directive_at;
 use crate::forms::Read;
@@ -14,7 +13,7 @@ use crate::mnemonic::mnemonic_named;
 use crate::pseudo::instruction_at;
 use crate::reading::{lack, name_fault, text_of};
 use crate::statement::Statement;
-use crate::token::{Mark, Sort, Token};
+use tomex_asm_tokens::{Cause, Fault, Mark, Sort, Thing, Token};
 
 /// A line: its labels with their colons, and its statement.
 #[derive(Clone, Copy)]

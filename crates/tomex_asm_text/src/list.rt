@@ -1,12 +1,11 @@
 //! Lists of names, and of strings.
 
 ghost use Rattle.std.specs.Prelude.{◌≡◌, ◌≤◌, IfOk, length, false};
-ghost use Rattle.tomex_asm_text.specs.Reading.{Reads};
+ghost use Rattle.tomex_asm_tokens.specs.Reading.{Reads};
 ghost use Rattle.tomex_asm_text.specs.Directives.{element_fault, element_end, elements_from, elements_at};
 
-use crate::cause::{Cause, Fault, Thing};
 use crate::reading::{lack, name_fault};
-use crate::token::{Mark, Sort, Token};
+use tomex_asm_tokens::{Cause, Fault, Mark, Sort, Thing, Token};
 
 /// What a list is of.
 #[derive(Clone, Copy)]

@@ -3,7 +3,7 @@
 ghost use Rattle.std.specs.Prelude.{◌≡◌};
 ghost use Rattle.tomex_asm_text.specs.Mnemonics.{operation_named, mnemonic_named};
 
-use crate::names::named;
+use tomex_asm_tokens::named;
 use tomex_rvdec::Op;
 
 /// What a mnemonic stands for. A flag is set if x0 is the first of what is compared or taken away.

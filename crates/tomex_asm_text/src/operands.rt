@@ -1,17 +1,16 @@
 //! Operands, and the parts of them.
 
 ghost use Rattle.std.specs.Prelude.{◌≡◌};
-ghost use Rattle.tomex_asm_text.specs.Reading.{Reads};
+ghost use Rattle.tomex_asm_tokens.specs.Reading.{Reads};
 ghost use Rattle.tomex_asm_text.specs.Statement.{immediate_of};
 ghost use Rattle.tomex_asm_text.specs.Instructions.{begins_register, comma_at, next_register, next_value, two_registers};
 ghost use Rattle.tomex_asm_text.specs.Instructions.{three_registers, is_text, second_is, part_at, immediate_at, base_at};
 ghost use Rattle.tomex_asm_text.specs.Instructions.{memory_at, place_of, behind_value, place_at};
 
-use crate::cause::{Fault, Thing};
 use crate::reading::{begins_mark, is_register, lack, mark_at, register_at, text_of};
 use crate::statement::Immediate;
-use crate::token::{Mark, Token};
 use crate::value::value_at;
+use tomex_asm_tokens::{Fault, Mark, Thing, Token};
 
 /// What a load or a store is of.
 #[derive(Clone, Copy)]

@@ -1,7 +1,7 @@
 //! Instructions and pseudoinstructions, by their mnemonics.
 
 ghost use Rattle.std.specs.Prelude.{◌≡◌};
-ghost use Rattle.tomex_asm_text.specs.Reading.{Reads};
+ghost use Rattle.tomex_asm_tokens.specs.Reading.{Reads};
 ghost use Rattle.tomex_asm_text.specs.Statement.{statement_of};
 ghost use Rattle.tomex_asm_text.specs.Instructions.{of_number, of_zero, swapped, branch_of_zero, branch_swapped, jump};
 ghost use Rattle.tomex_asm_text.specs.Instructions.{jump_register, load_address, behind_plt, far, load_number};
@@ -12,8 +12,8 @@ use crate::mnemonic::Mnemonic;
 use crate::operands::{next_value, second_is, three_registers, two_registers};
 use crate::reading::{begins_mark, register_at};
 use crate::statement::{Immediate, Statement};
-use crate::token::{Mark, Token};
 use crate::value::value_at;
+use tomex_asm_tokens::{Mark, Token};
 use tomex_rvdec::Op;
 
 #[tactic(auto, unfolding(crate::specs::Instructions::of_number))]

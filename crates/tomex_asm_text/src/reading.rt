@@ -1,14 +1,11 @@
 //! Parts of statements, read from left to right: marks, registers, names.
 
 ghost use Rattle.std.specs.Prelude.{◌≡◌, is_some};
-ghost use Rattle.tomex_asm_text.specs.Reading.{Reads};
+ghost use Rattle.tomex_asm_tokens.specs.Reading.{Reads};
 ghost use Rattle.tomex_asm_text.specs.Values.{text_of, end_from, lack, begins_mark, mark_at, register_of, is_register};
 ghost use Rattle.tomex_asm_text.specs.Values.{register_at, name_fault, name_at};
 
-use crate::cause::{Cause, Fault, Thing};
-use crate::characters::is_blank;
-use crate::registers::register_named;
-use crate::token::{Mark, Token};
+use tomex_asm_tokens::{Cause, Fault, Mark, Thing, Token, is_blank, register_named};
 
 /// The bytes of a token of the line.
 pub fn text_of(line: &[u8], token: Token) -> &[u8]

@@ -1,6 +1,6 @@
 //! What a line says.
 
-use crate::token::Token;
+use tomex_asm_tokens::Token;
 use tomex_rvdec::Op;
 
 /// What an instruction's immediate will be. A value is its tokens.

@@ -3,11 +3,10 @@
 ghost use Rattle.std.specs.Prelude.{◌≡◌, ◌≤◌, IfOk, length};
 ghost use Rattle.tomex_asm_text.specs.Values.{is_joint, is_operand, step_of, value_from, value_at, values_at};
 ghost use Rattle.tomex_asm_text.specs.declared.value.Position.TheVariants.{Atom};
-ghost use Rattle.tomex_asm_text.specs.Reading.{Reads};
+ghost use Rattle.tomex_asm_tokens.specs.Reading.{Reads};
 
-use crate::cause::{Cause, Fault, Thing};
 use crate::reading::{is_register, lack};
-use crate::token::{Mark, Sort, Token};
+use tomex_asm_tokens::{Cause, Fault, Mark, Sort, Thing, Token};
 
 /// What may come next in a value.
 #[derive(Clone, Copy)]

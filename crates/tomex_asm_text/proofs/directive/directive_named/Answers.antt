@@ -1,7 +1,7 @@
 -- The rows of the code are those of the definition.
 use Rattle.std.proofs.Common.{◌≡◌, ◌∙◌, sym, ap, Bool, true, false, cond, Some, codes}
 use Rattle.tomex_asm_text.specs.declared.directive.Directive.TheVariants as directives
-use Rattle.tomex_asm_text.specs.Registers.{named}
+use Rattle.tomex_asm_tokens.specs.Registers.{named}
 use Rattle.tomex_asm_text.specs.Directives.{begins_text, directive_named, directive_names}
 use Rattle.tomex_asm_text.proofs.directive.directive_named.Goals as goal
 

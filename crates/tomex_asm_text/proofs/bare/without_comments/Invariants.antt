@@ -1,8 +1,0 @@
--- What is bare so far, and what is left of the rest.
-use Rattle.std.proofs.Common.{◌≡◌, ◌++◌, drop}
-use Rattle.tomex_asm_text.specs.declared.mode.Mode.TheVariants.{Code}
-use Rattle.tomex_asm_text.specs.Bare.{bare_from}
-use Rattle.tomex_asm_text.proofs.bare.without_comments.Given as goal
-
-abbrev pub invariant-loop-place : goal.invariant-loop-place
-invariant-loop-place g l = l.bytes.items ++ bare_from l.mode (drop l.place l.text) ≡ bare_from Code l.text
