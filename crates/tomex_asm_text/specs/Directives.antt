@@ -1,6 +1,6 @@
 -- The directives that compilers print, and what each says.
-use Rattle.std.specs.Prelude.{ℕ, ◌+◌, ◌-◌, List, [], ◌∷◌, length, take, drop, slice_index, Option, Some, None, Result, Ok, Err}
-use Rattle.std.specs.Prelude.{Bool, true, false, nat_eq, nat_lt, ◌&&◌, ◌||◌, if◌then◌else◌, codes}
+use Rattle.std.specs.Prelude.{ℕ, ◌-◌, List, [], ◌∷◌, length, take, drop, slice_index, Option, Some, None, Result, Ok}
+use Rattle.std.specs.Prelude.{Bool, true, false, nat_eq, ◌&&◌, ◌||◌, if◌then◌else◌, codes}
 use Rattle.std.specs.Str.{bytes_eq}
 use Rattle.tomex_asm_tokens.specs.declared.cause.Cause.{Cause}
 use Rattle.tomex_asm_tokens.specs.declared.cause.Cause.TheVariants.{Expected, NoSection}
@@ -20,7 +20,7 @@ use Rattle.tomex_asm_tokens.specs.declared.token.Mark.TheVariants as marks
 use Rattle.tomex_asm_tokens.specs.declared.token.Sort.{Sort}
 use Rattle.tomex_asm_tokens.specs.declared.token.Sort.TheVariants as sorts
 use Rattle.tomex_asm_tokens.specs.declared.token.Token.{Token}
-use Rattle.tomex_asm_text.specs.Instructions.{Reading, comma_at, next_value, second_is}
+use Rattle.tomex_asm_text.specs.Instructions.{Reading, comma_at, next_value}
 use Rattle.tomex_asm_tokens.specs.Registers.{named}
 use Rattle.tomex_asm_text.specs.Statement.{Statement, Nothing, InSection, Align, Space, Strings, Data, Define, Common}
 use Rattle.tomex_asm_text.specs.Statement.{Bind, OfKind, Size}

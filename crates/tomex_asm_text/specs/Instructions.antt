@@ -2,8 +2,8 @@
 -- a value, i an immediate, l a target and a an address.
 --
 --     immediate = value | "%" "lo" "(" value ")"          memory = [immediate] "(" register ")"
-use Rattle.std.specs.Prelude.{ℕ, ◌+◌, ◌*◌, List, [], ◌∷◌, length, drop, Option, Some, None, Result, Ok, Err, ℤ, pos, negsuc}
-use Rattle.std.specs.Prelude.{Bool, true, false, nat_eq, ◌&&◌, ◌||◌, if◌then◌else◌, codes}
+use Rattle.std.specs.Prelude.{ℕ, ◌+◌, ◌*◌, List, [], ◌∷◌, drop, Option, Some, None, Result, Ok, ℤ, pos}
+use Rattle.std.specs.Prelude.{Bool, true, false, ◌&&◌, ◌||◌, if◌then◌else◌, codes}
 use Rattle.std.specs.Str.{bytes_eq}
 use Rattle.tomex_rvdec.specs.declared.op.Op.{Op}
 use Rattle.tomex_rvdec.specs.declared.op.Op.TheVariants as ops

@@ -3,7 +3,7 @@
 --     line      = {label ":"} [statement] end
 --     label     = decimal number | name                   any token before a ":" is one
 --     statement = mnemonic operands | directive           a word; a directive's begins with "."
-use Rattle.std.specs.Prelude.{ℕ, ◌+◌, List, [], ◌∷◌, length, take, drop, slice_index, Option, Some, None, Result, Ok, Err}
+use Rattle.std.specs.Prelude.{ℕ, ◌+◌, List, [], ◌∷◌, slice_index, Option, Some, None, Result, Ok}
 use Rattle.std.specs.Prelude.{Bool, true, false, nat_eq, if◌then◌else◌}
 use Rattle.tomex_asm_tokens.specs.declared.cause.Cause.{Cause}
 use Rattle.tomex_asm_tokens.specs.declared.cause.Cause.TheVariants.{Expected, NoInstruction, NoDirective}

@@ -4,8 +4,8 @@
 --     value    = product {("+" | "-") product}          product = atom {"*" atom}
 --     atom     = ["-"] (number | local label | word but registers)
 --     name     = word but "." and registers
-use Rattle.std.specs.Prelude.{ℕ, ◌+◌, ◌-◌, List, [], ◌∷◌, length, take, drop, map, Option, Some, None, Result, Ok, Err}
-use Rattle.std.specs.Prelude.{Bool, true, false, nat_eq, is_some, not, ◌&&◌, ◌||◌, if◌then◌else◌, codes}
+use Rattle.std.specs.Prelude.{ℕ, ◌+◌, ◌-◌, List, [], ◌∷◌, take, drop, Option, Some, None, Result, Ok, Err}
+use Rattle.std.specs.Prelude.{Bool, true, false, is_some, not, ◌&&◌, ◌||◌, if◌then◌else◌, codes}
 use Rattle.std.specs.Str.{bytes_eq}
 use Rattle.tomex_asm_tokens.specs.declared.cause.Cause.{Cause}
 use Rattle.tomex_asm_tokens.specs.declared.cause.Cause.TheVariants.{Expected, RegisterName}

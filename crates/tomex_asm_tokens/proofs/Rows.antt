@@ -1,5 +1,5 @@
 -- The definitions, computed on texts and lines whose meaning is known.
-use Rattle.std.proofs.Common.{ℕ, ◌≡◌, refl, List, [], ◌∷◌, ◌++◌, Option, Some, None, Result, Ok, Err, codes}
+use Rattle.std.proofs.Common.{◌≡◌, refl, [], ◌∷◌, ◌++◌, Ok, Err, codes}
 use Rattle.tomex_asm_tokens.specs.declared.cause.Cause.TheVariants.{UnclosedComment, UnclosedString, BadNumber}
 use Rattle.tomex_asm_tokens.specs.declared.cause.Cause.TheVariants.{BadCharacter, BadEscape}
 use Rattle.tomex_asm_tokens.specs.declared.token.Mark.TheVariants.{Comma, Open, Close, Minus}

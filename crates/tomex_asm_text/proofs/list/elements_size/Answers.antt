@@ -1,4 +1,4 @@
-use Rattle.std.proofs.Common.{◌≡◌, ℕ, ◌+◌, Bool, drop, sym, ap, ◌∙◌}
+use Rattle.std.proofs.Common.{◌+◌, Bool, drop, sym, ap, ◌∙◌}
 use Rattle.tomex_asm_text.specs.Directives.{elements_from}
 use Rattle.tomex_asm_text.proofs.Sizes.{counted, counted_none, comma_goes, element_goes}
 use Rattle.tomex_asm_text.proofs.list.elements_size.Goals as goal

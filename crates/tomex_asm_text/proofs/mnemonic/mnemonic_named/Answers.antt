@@ -1,5 +1,5 @@
 -- The rows of the code are those of the definition.
-use Rattle.std.proofs.Common.{◌≡◌, ◌∙◌, sym, ap, Option}
+use Rattle.std.proofs.Common.{◌∙◌, ap, Option}
 use Rattle.tomex_rvdec.specs.declared.op.Op.{Op}
 use Rattle.tomex_asm_text.specs.Mnemonics.{real_or, mnemonic_named}
 use Rattle.tomex_asm_text.proofs.mnemonic.mnemonic_named.Goals as goal

@@ -1,4 +1,3 @@
-use Rattle.std.proofs.Common.{arith}
 use Rattle.tomex_asm_tokens.proofs.Ends.{last_before, none_before, none_at_all}
 use Rattle.tomex_asm_tokens.proofs.bare.last_end.Goals as goal
 
