@@ -14,13 +14,13 @@ use Rattle.tomex_asm_tokens.specs.Registers.{register_named}
 use Rattle.tomex_asm_text.specs.Values.{mark_at, register_at, name_at, value_at, values_at}
 use Rattle.tomex_asm_text.specs.Mnemonics.{mnemonic_named}
 use Rattle.tomex_asm_text.specs.Instructions.{made, plain, next_register, next_value, two_registers}
-use Rattle.tomex_asm_text.specs.Instructions.{part_at, immediate_at, base_at, behind_value, place_at}
+use Rattle.tomex_asm_text.specs.Instructions.{part_at, immediate_at, base_at, after_value, place_at}
 use Rattle.tomex_asm_text.specs.Instructions.{immediate_form, upper_at}
-use Rattle.tomex_asm_text.specs.Instructions.{upper_form, load_form, jalr_behind, jalr_form, store_form}
+use Rattle.tomex_asm_text.specs.Instructions.{upper_form, load_form, jalr_after, jalr_form, store_form}
 use Rattle.tomex_asm_text.specs.Instructions.{set_at, fence_form, of_zero}
 use Rattle.tomex_asm_text.specs.Instructions.{branch_of_zero, branch_swapped, load_address, far}
 use Rattle.tomex_asm_text.specs.Instructions.{load_number}
-use Rattle.tomex_asm_text.specs.Directives.{directive_named, section_named, section_at, elements_at, kind_behind}
+use Rattle.tomex_asm_text.specs.Directives.{directive_named, section_named, section_at, elements_at, kind_after}
 use Rattle.tomex_asm_text.specs.Directives.{kind_at, name_and_value, common_at}
 use Rattle.tomex_asm_tokens.specs.declared.cause.Fault.{Fault}
 use Rattle.tomex_asm_tokens.specs.declared.token.Token.{Token}
@@ -47,7 +47,7 @@ pub load_word : line_said (codes "1: lw t1, -4(sp)")
 load_word =
     unfold line_said in unfold tokens in unfold token in unfold line_from in unfold labels_at in
     unfold statement_at in unfold mnemonic_named in unfold register_named in unfold digits in unfold register_at in
-    unfold mark_at in unfold load_form in unfold place_at in unfold behind_value in unfold value_at in
+    unfold mark_at in unfold load_form in unfold place_at in unfold after_value in unfold value_at in
     unfold base_at in refl
 
 pub load_from_address : line_said (codes "lw a0, x")
@@ -57,7 +57,7 @@ pub load_from_address : line_said (codes "lw a0, x")
 load_from_address =
     unfold line_said in unfold tokens in unfold token in unfold line_from in unfold labels_at in
     unfold statement_at in unfold mnemonic_named in unfold register_named in unfold digits in unfold register_at in
-    unfold mark_at in unfold load_form in unfold place_at in unfold behind_value in unfold value_at in refl
+    unfold mark_at in unfold load_form in unfold place_at in unfold after_value in unfold value_at in refl
 
 pub store_to_address : line_said (codes "sw a0, x, t1")
     ≡ said [] 0
@@ -66,7 +66,7 @@ pub store_to_address : line_said (codes "sw a0, x, t1")
 store_to_address =
     unfold line_said in unfold tokens in unfold token in unfold line_from in unfold labels_at in
     unfold statement_at in unfold mnemonic_named in unfold register_named in unfold digits in unfold register_at in
-    unfold mark_at in unfold store_form in unfold place_at in unfold behind_value in unfold value_at in
+    unfold mark_at in unfold store_form in unfold place_at in unfold after_value in unfold value_at in
     unfold next_register in refl
 
 pub upper_part : line_said (codes "lui a5, %hi(x+4)")
@@ -107,7 +107,7 @@ pub call_of_register : line_said (codes "jalr a0")
 call_of_register =
     unfold line_said in unfold tokens in unfold token in unfold line_from in unfold labels_at in
     unfold statement_at in unfold mnemonic_named in unfold register_named in unfold digits in unfold register_at in
-    unfold mark_at in unfold jalr_form in unfold jalr_behind in refl
+    unfold mark_at in unfold jalr_form in unfold jalr_after in refl
 
 pub fence_of_sets : line_said (codes "fence rw, w")
     ≡ said [] 0 (One (made ops.Fence 0 0 0 (Fixed (pos 49))))
@@ -146,7 +146,7 @@ pub function_kind : line_said (codes ".type f, @function")
     ≡ said [] 0 (OfKind (token_of sorts.Word 6 1) kinds.Function)
 function_kind =
     unfold line_said in unfold tokens in unfold token in unfold line_from in unfold labels_at in
-    unfold statement_at in unfold directive_named in unfold kind_at in unfold kind_behind in unfold name_at in
+    unfold statement_at in unfold directive_named in unfold kind_at in unfold kind_after in unfold name_at in
     unfold mark_at in unfold register_named in unfold digits in refl
 
 pub empty_line : line_said (codes " ")
@@ -179,13 +179,13 @@ pub address_without_register : line_said (codes "sw a0, f ") ≡ refused 8 (Expe
 address_without_register =
     unfold line_said in unfold tokens in unfold token in unfold line_from in unfold labels_at in
     unfold statement_at in unfold mnemonic_named in unfold register_named in unfold digits in unfold register_at in
-    unfold mark_at in unfold store_form in unfold place_at in unfold behind_value in unfold value_at in refl
+    unfold mark_at in unfold store_form in unfold place_at in unfold after_value in unfold value_at in refl
 
 pub open_parenthesis : line_said (codes "lw a3,4(x9") ≡ refused 10 (Expected things.Close)
 open_parenthesis =
     unfold line_said in unfold tokens in unfold token in unfold line_from in unfold labels_at in
     unfold statement_at in unfold mnemonic_named in unfold register_named in unfold digits in unfold register_at in
-    unfold mark_at in unfold load_form in unfold place_at in unfold behind_value in unfold value_at in
+    unfold mark_at in unfold load_form in unfold place_at in unfold after_value in unfold value_at in
     unfold base_at in refl
 
 pub sum_ends_early : line_said (codes "li a0, 1 +") ≡ refused 10 (Expected things.Value)
@@ -231,7 +231,7 @@ unknown_section =
 pub kind_without_at : line_said (codes ".type f, function") ≡ refused 9 (Expected things.Type)
 kind_without_at =
     unfold line_said in unfold tokens in unfold token in unfold line_from in unfold labels_at in
-    unfold statement_at in unfold directive_named in unfold kind_at in unfold kind_behind in unfold name_at in
+    unfold statement_at in unfold directive_named in unfold kind_at in unfold kind_after in unfold name_at in
     unfold mark_at in unfold register_named in unfold digits in refl
 
 pub word_for_string : line_said (codes ".ascii a") ≡ refused 7 (Expected things.Text)

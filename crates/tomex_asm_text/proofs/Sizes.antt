@@ -1,5 +1,6 @@
 -- How many tokens of a line belong together, from left to right.
-use Rattle.std.proofs.Common.{◌≡◌, ℕ, ◌+◌, ◌<◌, ◌≤◌, Bool, true, false, List, [], ◌∷◌, length, take, drop, get_or, Option, None}
+use Rattle.std.proofs.Common.{◌≡◌, ℕ, ◌+◌, ◌<◌, ◌≤◌, Bool, true, false, List, [], ◌∷◌, length, take, drop, get_or}
+use Rattle.std.proofs.Common.{Option, None}
 use Rattle.std.proofs.Common.{Result, Ok, Err, cond, ◌-◌, refl, sym, ap, ◌∙◌, subst, arith}
 use Rattle.std.proofs.lemmas.List.{drop_more, drop-drop, take_rest}
 use Rattle.tomex_asm_tokens.specs.declared.cause.Cause.{Cause}
@@ -46,7 +47,8 @@ pub element_goes : (element : Element) (line : List ℕ) (i : ℕ) (rest : List 
 element_goes element line i rest d h f =
     ap (counted i)
     (ap (elements_from element line false) (drop_more rest i d h)
-    ∙ ap (λ (o : Option Cause). unless o (get_or rest i d) (one_more (elements_from element line true (drop (i + 1) rest)))) f)
+    ∙ ap (λ (o : Option Cause). unless o (get_or rest i d)
+    (one_more (elements_from element line true (drop (i + 1) rest)))) f)
     ∙ counted_more i (elements_from element line true (drop (i + 1) rest))
 
 -- Labels, of what is left of the line

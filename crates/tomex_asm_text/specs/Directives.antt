@@ -70,7 +70,7 @@ begins_text front w = bytes_eq front (take (length front) w)
 unfoldable pub directive_named : List ℕ → Option Directive
 directive_named w = if begins_text (codes ".cfi_") w then Some directives.Ignored else named directive_names w
 
--- a name, or one with a `.` and more behind it
+-- the name, or the name with a `.` and more after it
 abbrev pub is_part_of : List ℕ → List ℕ → Bool
 is_part_of w name = begins_text name w && (nat_eq (length w) (length name) || nat_eq (slice_index w (length name)) 46)
 
@@ -154,8 +154,8 @@ abbrev pub kind_of : List ℕ → List Token → Option Kind
 kind_of line [] = None
 kind_of line (t ∷ ts) = if sort_is_word t.sort then named kind_names (text_of line t) else None
 
-unfoldable pub kind_behind : List ℕ → Token → List Token → Reading Statement
-kind_behind line name ts =
+unfoldable pub kind_after : List ℕ → Token → List Token → Reading Statement
+kind_after line name ts =
     if begins_mark marks.At ts then found_kind line name (drop 1 ts) (kind_of line (drop 1 ts))
     else lacks line ts things.Type
 
@@ -164,7 +164,7 @@ unfoldable pub kind_at : List ℕ → List Token → Reading Statement
 kind_at line ts = do
   name ← name_at line ts
   rest ← comma_at line name.1
-  kind_behind line name.0 rest
+  kind_after line name.0 rest
 
 -- N,v
 unfoldable pub name_and_value : List ℕ → List Token → Reading (Token × List Token)
@@ -190,7 +190,8 @@ directive_at directives.Size line ts = name_and_value line ts >>= λ x. Ok (Size
 directive_at directives.Define line ts = name_and_value line ts >>= λ x. Ok (Define x.0.0 x.0.1, x.1)
 directive_at directives.Common line ts = common_at line ts
 directive_at (directives.Data size) line ts = values_at line ts >>= λ x. Ok (Data size x.0, x.1)
-directive_at (directives.Strings with_zero) line ts = elements_at elements.Text line ts >>= λ x. Ok (Strings with_zero x.0, x.1)
+directive_at (directives.Strings with_zero) line ts =
+    elements_at elements.Text line ts >>= λ x. Ok (Strings with_zero x.0, x.1)
 directive_at directives.Space line ts = value_at line ts >>= λ x. Ok (Space x.0, x.1)
 directive_at (directives.Align alignment) line ts = value_at line ts >>= λ x. Ok (Align alignment x.0, x.1)
 directive_at directives.Ignored line ts = Ok (Nothing, [])

@@ -1,5 +1,5 @@
--- From the tokens of a statement to instructions whose values aren't known yet. In comments d, s and t are registers, v is
--- a value, i an immediate, l a target and a an address.
+-- From the tokens of a statement to instructions whose values aren't known yet. In comments d, s and t are registers,
+-- v is a value, i an immediate, l a target and a an address.
 --
 --     immediate = value | "%" "lo" "(" value ")"          memory = [immediate] "(" register ")"
 use Rattle.std.specs.Prelude.{ℕ, ◌+◌, ◌*◌, List, [], ◌∷◌, drop, Option, Some, None, Result, Ok, ℤ, pos}
@@ -67,7 +67,7 @@ three_registers line ts = do
 abbrev pub is_text : List ℕ → List ℕ → Token → Bool
 is_text w line t = sort_is_word t.sort && bytes_eq (text_of line t) w
 
--- the word behind the first token is this one
+-- the word after the first token is this one
 abbrev pub second_is : List ℕ → List ℕ → List Token → Bool
 second_is w line (t ∷ u ∷ ts) = is_text w line u
 second_is w line _ = false
@@ -114,7 +114,7 @@ memory_at line ts =
       s ← base_at line i.1
       Ok ((i.0, s.0), s.1))
 
--- what a load or a store is of: a memory operand, or an address
+-- where a load reads or a store writes: a memory operand, or an address
 pub data Place : Type 0 where
   Memory : (offset : Immediate) → (base : ℕ) → Place
   Address : (value : List Token) → Place
@@ -123,9 +123,9 @@ abbrev pub place_of : places.Place → Place
 place_of (found.Memory i s) = Memory (immediate_of i) s
 place_of (found.Address v) = Address v.now
 
--- a value is a memory operand's if a `(` comes behind it
-unfoldable pub behind_value : List ℕ → List Token → List Token → Reading Place
-behind_value line v ts =
+-- a value belongs to a memory operand if a `(` comes after it
+unfoldable pub after_value : List ℕ → List Token → List Token → Reading Place
+after_value line v ts =
     if begins_mark marks.Open ts
     then (do
       s ← base_at line ts
@@ -140,7 +140,7 @@ place_at line ts =
       Ok (Memory m.0.0 m.0.1, m.1))
     else (do
       v ← value_at line ts
-      behind_value line v.0 v.1)
+      after_value line v.0 v.1)
 
 -- an instruction of these parts
 abbrev pub made : Op → ℕ → ℕ → ℕ → Immediate → Template
@@ -181,7 +181,7 @@ abbrev pub is_lui : Op → Bool
 is_lui ops.Lui = true
 is_lui _ = false
 
--- v, and of `lui` %hi(v)
+-- v, or for `lui` also %hi(v)
 unfoldable pub upper_at : Op → List ℕ → List Token → Reading Immediate
 upper_at op line ts =
     if is_lui op && begins_mark marks.Percent ts
@@ -224,9 +224,9 @@ jalr_base line ts =
     else memory_at line ts
 
 -- what follows the first register
-unfoldable pub jalr_behind : Op → ℕ → List ℕ → List Token → Reading Statement
-jalr_behind op r line [] = Ok (One (plain op 1 r 0), [])
-jalr_behind op r line (t ∷ ts) = do
+unfoldable pub jalr_after : Op → ℕ → List ℕ → List Token → Reading Statement
+jalr_after op r line [] = Ok (One (plain op 1 r 0), [])
+jalr_after op r line (t ∷ ts) = do
   rest ← comma_at line (t ∷ ts)
   m ← jalr_base line rest
   Ok (One (made op r m.0.1 0 m.0.0), m.1)
@@ -235,7 +235,7 @@ jalr_behind op r line (t ∷ ts) = do
 unfoldable pub jalr_form : Op → List ℕ → List Token → Reading Statement
 jalr_form op line ts = do
   r ← register_at line ts
-  jalr_behind op r.0 line r.1
+  jalr_after op r.0 line r.1
 
 -- what follows a store's place
 abbrev pub store_to : Op → ℕ → List ℕ → List Token → Place → Reading Statement
@@ -289,8 +289,8 @@ fence_form op line [] = Ok (One (made op 0 0 0 (Fixed (pos 255))), [])
 fence_form op line (t ∷ ts) = do
   before ← set_at line (t ∷ ts)
   rest ← comma_at line before.1
-  behind ← set_at line rest
-  Ok (One (made op 0 0 0 (Fixed (pos (before.0 * 16 + behind.0)))), behind.1)
+  after ← set_at line rest
+  Ok (One (made op 0 0 0 (Fixed (pos (before.0 * 16 + after.0)))), after.1)
 
 abbrev pub is_jalr : Op → Bool
 is_jalr ops.Jalr = true
@@ -359,14 +359,14 @@ load_address line ts = do
   Ok (Two (made ops.Auipc d.0 0 0 (PcHigh a.0)) (made ops.Addi d.0 d.0 0 (PcLow a.0)), a.1)
 
 -- what follows an address: `@plt` says nothing
-abbrev pub behind_plt : List ℕ → List Token → List Token
-behind_plt line ts = if begins_mark marks.At ts && second_is (codes "plt") line ts then drop 2 ts else ts
+abbrev pub after_plt : List ℕ → List Token → List Token
+after_plt line ts = if begins_mark marks.At ts && second_is (codes "plt") line ts then drop 2 ts else ts
 
 -- a, by way of a register
 unfoldable pub far : ℕ → ℕ → List ℕ → List Token → Reading Statement
 far base link line ts = do
   a ← value_at line ts
-  Ok (Two (made ops.Auipc base 0 0 (PcHigh a.0)) (made ops.Jalr link base 0 (PcLow a.0)), behind_plt line a.1)
+  Ok (Two (made ops.Auipc base 0 0 (PcHigh a.0)) (made ops.Jalr link base 0 (PcLow a.0)), after_plt line a.1)
 
 -- d,v
 unfoldable pub load_number : List ℕ → List Token → Reading Statement

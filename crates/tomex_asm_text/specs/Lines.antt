@@ -71,7 +71,7 @@ statement_at line [] = Ok (Nothing, [])
 statement_at line (t ∷ ts) =
     if sort_is_word t.sort then of_word line t ts (text_of line t) else refused t.from (Expected things.Instruction)
 
--- nothing comes behind the statement
+-- nothing follows the statement
 abbrev pub ended : List ℕ → Line → List Token → Result Line Fault
 ended line said [] = Ok said
 ended line said (t ∷ ts) = lacks line (t ∷ ts) things.EndOfLine

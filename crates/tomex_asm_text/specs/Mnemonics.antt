@@ -1,5 +1,5 @@
--- The mnemonics: those of RV32IM, and the manual's pseudoinstructions, with what each stands for (chapter "RISC-V Assembly
--- Programmer's Handbook", tables "RISC-V pseudoinstructions"). `sgt` and `sgtu` are GCC's.
+-- The mnemonics: those of RV32IM, and the manual's pseudoinstructions, with what each stands for (chapter "RISC-V
+-- Assembly Programmer's Handbook", tables "RISC-V pseudoinstructions"). `sgt` and `sgtu` are GCC's.
 use Rattle.std.specs.Prelude.{List, ℕ, [], ◌∷◌, Option, Some, None, pos, negsuc, true, false, codes, find}
 use Rattle.std.specs.Str.{bytes_eq}
 use Rattle.tomex_rvdec.specs.declared.op.Op.{Op}

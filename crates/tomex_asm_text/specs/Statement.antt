@@ -1,5 +1,5 @@
--- What a line says: instructions whose values aren't known yet, or what a directive says. A value is its tokens, and so is
--- a list of values, of names or of strings, with its commas. In the code the tokens are borrowed; here they aren't.
+-- What a line says: instructions whose values aren't known yet, or what a directive says. A value is its tokens, and so
+-- is a list of values, of names or of strings, with its commas. In the code the tokens are borrowed; here they aren't.
 use Rattle.std.specs.Prelude.{ℕ, ℤ, Bool, List}
 use Rattle.tomex_rvdec.specs.declared.op.Op.{Op}
 use Rattle.tomex_asm_tokens.specs.declared.token.Token.{Token}

@@ -1,5 +1,5 @@
 -- Parts of statements, read from left to right: marks, registers, names, values, and lists of them. What is lacking is
--- expected at the token where it should be, or right behind the line's last one.
+-- expected at the token where it should be, or right after the line's last one.
 --
 --     value    = product {("+" | "-") product}          product = atom {"*" atom}
 --     atom     = ["-"] (number | local label | word but registers)
@@ -29,7 +29,7 @@ use Rattle.tomex_asm_tokens.specs.Tokens.{◌>>=◌, refused, is_mark, sort_is_w
 abbrev pub text_of : List ℕ → Token → List ℕ
 text_of line t = take (t.to - t.from) (drop t.from line)
 
--- the place right behind the last byte that is no blank
+-- the place right after the last byte that isn't blank
 abbrev pub end_from : ℕ → ℕ → List ℕ → ℕ
 end_from end at [] = end
 end_from end at (c ∷ rest) = end_from (if is_blank c then end else at + 1) (at + 1) rest
@@ -71,7 +71,7 @@ unfoldable pub register_at : List ℕ → List Token → Result (ℕ × List Tok
 register_at line [] = lacks line [] things.Register
 register_at line (t ∷ ts) = found_register line (t ∷ ts) (register_of line t)
 
--- the word, if the token is one that isn't `.`: why it can't be the name of a label or a symbol
+-- why a token can't be the name of a label or a symbol: it isn't a word, it is `.`, or it is a register
 abbrev pub name_fault : List ℕ → Token → Option Cause
 name_fault line t =
     if not (sort_is_word t.sort) || bytes_eq (text_of line t) (codes ".") then Some (Expected things.Name)
@@ -106,14 +106,14 @@ is_joint is_list t =
 abbrev pub step_of : Bool → List ℕ → Position → Token → Step
 step_of is_list line positions.Atom t =
     if is_mark marks.Minus t then steps.Goes positions.Operand
-    else (if is_operand line t then steps.Goes positions.Behind
+    else (if is_operand line t then steps.Goes positions.After
     else steps.Lacks)
-step_of is_list line positions.Operand t = if is_operand line t then steps.Goes positions.Behind else steps.Lacks
-step_of is_list line positions.Behind t = if is_joint is_list t then steps.Goes positions.Atom else steps.Stops
+step_of is_list line positions.Operand t = if is_operand line t then steps.Goes positions.After else steps.Lacks
+step_of is_list line positions.After t = if is_joint is_list t then steps.Goes positions.Atom else steps.Stops
 
 -- how many of the tokens belong to the value
 abbrev pub value_end : List ℕ → Position → Result ℕ Fault
-value_end line positions.Behind = Ok 0
+value_end line positions.After = Ok 0
 value_end line _ = lacks line [] things.Value
 
 abbrev pub one_more : Result ℕ Fault → Result ℕ Fault
@@ -127,7 +127,7 @@ after_step t steps.Lacks read = refused t.from (Expected things.Value)
 abbrev pub value_from : Bool → List ℕ → Position → List Token → Result ℕ Fault
 value_from is_list line position [] = value_end line position
 value_from is_list line position (t ∷ ts) =
-    after_step t (step_of is_list line position t) (λ behind. value_from is_list line behind ts)
+    after_step t (step_of is_list line position t) (λ after. value_from is_list line after ts)
 
 abbrev pub split_at : List Token → ℕ → Result (List Token × List Token) Fault
 split_at ts n = Ok (take n ts, drop n ts)
@@ -136,6 +136,6 @@ split_at ts n = Ok (take n ts, drop n ts)
 unfoldable pub value_at : List ℕ → List Token → Result (List Token × List Token) Fault
 value_at line ts = value_from false line positions.Atom ts >>= split_at ts
 
--- the same of values with commas between them
+-- the same for values with commas between them
 unfoldable pub values_at : List ℕ → List Token → Result (List Token × List Token) Fault
 values_at line ts = value_from true line positions.Atom ts >>= split_at ts

@@ -10,20 +10,20 @@ use tomex_asm_tokens::named;
 #[derive(Clone, Copy)]
 pub enum Directive {
     InSection(Section),
-    /// The section is named.
+    /// The section whose name follows.
     Section,
     Bind(Binding),
     OfKind,
     Size,
     Define,
     Common,
-    /// Numbers of this many bytes.
+    /// Numbers, each of this many bytes.
     Data(u8),
-    /// Strings, each with a zero behind it if the flag is set.
+    /// Strings, each with a zero after it if the flag is set.
     Strings(bool),
     Space,
     Align(Alignment),
-    /// Nothing.
+    /// Nothing; the rest of the line is ignored.
     Ignored,
 }
 
@@ -89,7 +89,7 @@ pub(crate) fn directive_named(word: &[u8]) -> Option<Directive>
     }
 }
 
-/// True of a name, and of it with a `.` and more behind it.
+/// True if the word is the name, or begins with the name and a `.`.
 fn is_part_of(word: &[u8], name: &[u8]) -> bool
     ensures { result ≡ is_part_of word.now name.now }
 {
@@ -97,7 +97,7 @@ fn is_part_of(word: &[u8], name: &[u8]) -> bool
         && (word.len() == name.len() || word.get(name.len()).copied().unwrap_or(0) == b'.')
 }
 
-/// The section of the first row of which the word is a name.
+/// The section in the first row for which `is_part_of` is true.
 fn section_in(rows: &[(&str, Section)], word: &[u8]) -> Option<Section>
     ensures { result ≡ section_in (map (λ row. (row.0.now, row.1)) rows.now) word.now }
 {

@@ -4,7 +4,8 @@ ghost use Rattle.std.specs.Prelude.{◌≡◌, ◌-◌, length, take, drop};
 ghost use Rattle.tomex_asm_tokens.specs.Reading.{Reads};
 ghost use Rattle.tomex_asm_text.specs.Statement.{statement_of};
 ghost use Rattle.std.specs.Option.{option_copied};
-ghost use Rattle.tomex_asm_text.specs.Directives.{section_name, found_section, section_named, section_at, kind_of, kind_behind, kind_at, name_and_value, common_at};
+ghost use Rattle.tomex_asm_text.specs.Directives.{section_name, found_section, section_named, section_at, kind_of};
+ghost use Rattle.tomex_asm_text.specs.Directives.{kind_after, kind_at, name_and_value, common_at};
 ghost use Rattle.tomex_asm_text.specs.Directives.{directive_at};
 
 use crate::directive::{Directive, section_named};
@@ -52,7 +53,7 @@ fn found_section<'a>(token: Token, name: &[u8]) -> Read<'a>
     }
 }
 
-/// A section's name, and anything behind it.
+/// A section's name, and anything after it.
 #[tactic(auto, unfolding(crate::specs::Directives::section_at))]
 fn section_at<'a>(line: &[u8], rest: &'a [Token]) -> Read<'a>
     ensures { Reads (λ x. (statement_of x.0, x.1.now)) result (section_at line.now rest.now) }
@@ -75,15 +76,15 @@ fn kind_of(line: &[u8], rest: &[Token]) -> Option<Kind>
     }
 }
 
-/// A kind behind an `@`.
-#[tactic(auto, unfolding(crate::specs::Directives::kind_behind))]
-fn kind_behind<'a>(line: &[u8], name: Token, rest: &'a [Token]) -> Read<'a>
-    ensures { Reads (λ x. (statement_of x.0, x.1.now)) result (kind_behind line.now name rest.now) }
+/// A kind after an `@`.
+#[tactic(auto, unfolding(crate::specs::Directives::kind_after))]
+fn kind_after<'a>(line: &[u8], name: Token, rest: &'a [Token]) -> Read<'a>
+    ensures { Reads (λ x. (statement_of x.0, x.1.now)) result (kind_after line.now name rest.now) }
 {
     match rest {
-        [mark, behind @ ..] if mark.is_mark(Mark::At) => match kind_of(line, behind) {
-            Some(kind) => Ok((Statement::OfKind(name, kind), &behind[1..])),
-            None => Err(lack(line, behind, Thing::Type)),
+        [mark, after @ ..] if mark.is_mark(Mark::At) => match kind_of(line, after) {
+            Some(kind) => Ok((Statement::OfKind(name, kind), &after[1..])),
+            None => Err(lack(line, after, Thing::Type)),
         },
         _ => Err(lack(line, rest, Thing::Type)),
     }
@@ -95,7 +96,7 @@ fn kind_at<'a>(line: &[u8], rest: &'a [Token]) -> Read<'a>
 {
     let (name, rest) = name_at(line, rest)?;
     let rest = comma_at(line, rest)?;
-    kind_behind(line, name, rest)
+    kind_after(line, name, rest)
 }
 
 #[tactic(auto, unfolding(crate::specs::Directives::name_and_value))]

@@ -4,8 +4,9 @@ ghost use Rattle.std.specs.Prelude.{◌≡◌};
 ghost use Rattle.tomex_asm_tokens.specs.Reading.{Reads};
 ghost use Rattle.tomex_asm_text.specs.Statement.{immediate_of, template_of, statement_of};
 ghost use Rattle.tomex_asm_text.specs.Instructions.{made, register_form, immediate_form, shift_form, branch_form};
-ghost use Rattle.tomex_asm_text.specs.Instructions.{upper_at, upper_form, load_of, load_form, jalr_base, jalr_behind};
-ghost use Rattle.tomex_asm_text.specs.Instructions.{jalr_form, store_to, store_form, jump_form, set_of, set_at, fence_form, of_form, place_of, is_lui, is_jalr};
+ghost use Rattle.tomex_asm_text.specs.Instructions.{upper_at, upper_form, load_of, load_form, jalr_base, jalr_after};
+ghost use Rattle.tomex_asm_text.specs.Instructions.{jalr_form, store_to, store_form, jump_form, set_of, set_at};
+ghost use Rattle.tomex_asm_text.specs.Instructions.{fence_form, of_form, place_of, is_lui, is_jalr};
 
 use crate::operands::{
     Place, begins_register, comma_at, immediate_at, memory_at, next_register, next_value, part_at,
@@ -20,7 +21,7 @@ use tomex_rvdec::{Form, Op};
 /// A statement, and what follows it.
 pub(crate) type Read<'a> = Result<(Statement<'a>, &'a [Token]), Fault>;
 
-/// Sets of input, output, reads and writes.
+/// The sets of input, output, reads and writes that a fence orders, with their bits.
 const FENCE_SETS: [(&str, u8); 15] = [
     ("i", 8),
     ("o", 4),
@@ -103,7 +104,7 @@ fn is_lui(op: Op) -> bool
     matches!(op, Op::Lui)
 }
 
-/// A value, or of LUI its upper 20 bits.
+/// A value, or for LUI also the upper 20 bits of one.
 #[tactic(auto, unfolding(crate::specs::Instructions::upper_at))]
 fn upper_at<'a>(
     op: Op,
@@ -131,7 +132,7 @@ fn upper_form<'a>(op: Op, line: &[u8], rest: &'a [Token]) -> Read<'a>
     Ok((Statement::One(made(op, rd, 0, 0, immediate)), rest))
 }
 
-/// A load from a place. One from an address leaves its upper bits in the register first.
+/// A load from a place. A load from an address first leaves the upper bits of the address in its register.
 fn load_of<'a>(op: Op, rd: u8, place: Place<'a>) -> Statement<'a>
     ensures { statement_of result ≡ load_of op rd (place_of place.entry) }
 {
@@ -173,9 +174,9 @@ fn jalr_base<'a>(
 }
 
 /// What follows the first register of a JALR: nothing if it is the base.
-#[tactic(auto, unfolding(crate::specs::Instructions::jalr_behind))]
-fn jalr_behind<'a>(op: Op, register: u8, line: &[u8], rest: &'a [Token]) -> Read<'a>
-    ensures { Reads (λ x. (statement_of x.0, x.1.now)) result (jalr_behind op register line.now rest.now) }
+#[tactic(auto, unfolding(crate::specs::Instructions::jalr_after))]
+fn jalr_after<'a>(op: Op, register: u8, line: &[u8], rest: &'a [Token]) -> Read<'a>
+    ensures { Reads (λ x. (statement_of x.0, x.1.now)) result (jalr_after op register line.now rest.now) }
 {
     if rest.is_empty() {
         return Ok((
@@ -193,12 +194,13 @@ fn jalr_form<'a>(op: Op, line: &[u8], rest: &'a [Token]) -> Read<'a>
     ensures { Reads (λ x. (statement_of x.0, x.1.now)) result (jalr_form op line.now rest.now) }
 {
     let (register, rest) = register_at(line, rest)?;
-    jalr_behind(op, register, line, rest)
+    jalr_after(op, register, line, rest)
 }
 
-/// A store to a place, behind which a register has to come if it is an address.
+/// A store to a place. If the place is an address, a register has to follow it.
 fn store_to<'a>(op: Op, stored: u8, line: &[u8], rest: &'a [Token], place: Place<'a>) -> Read<'a>
-    ensures { Reads (λ x. (statement_of x.0, x.1.now)) result (store_to op stored line.now rest.now (place_of place.entry)) }
+    ensures { Reads (λ x. (statement_of x.0, x.1.now)) result
+        (store_to op stored line.now rest.now (place_of place.entry)) }
 {
     match place {
         Place::Memory(offset, base) => Ok((
@@ -263,8 +265,8 @@ fn set_at<'a>(line: &[u8], rest: &'a [Token]) -> Result<(u8, &'a [Token]), Fault
 {
     match rest {
         [] => Err(lack(line, rest, Thing::FenceSet)),
-        [token, behind @ ..] => match set_of(line, *token) {
-            Some(set) => Ok((set, behind)),
+        [token, after @ ..] => match set_of(line, *token) {
+            Some(set) => Ok((set, after)),
             None => Err(lack(line, rest, Thing::FenceSet)),
         },
     }
@@ -282,8 +284,8 @@ fn fence_form<'a>(op: Op, line: &[u8], rest: &'a [Token]) -> Read<'a>
     }
     let (before, rest) = set_at(line, rest)?;
     let rest = comma_at(line, rest)?;
-    let (behind, rest) = set_at(line, rest)?;
-    let sets = i32::from(before) * 16 + i32::from(behind);
+    let (after, rest) = set_at(line, rest)?;
+    let sets = i32::from(before) * 16 + i32::from(after);
     Ok((
         Statement::One(made(op, 0, 0, 0, Immediate::Fixed(sets))),
         rest,

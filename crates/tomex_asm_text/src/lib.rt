@@ -1,8 +1,8 @@
 //! A program in assembly, from the tokens of a line to what it says: labels, instructions, pseudoinstructions and
 //! directives, before any value is known.
 //!
-//! Source: The RISC-V Instruction Set Manual, Volume I: Unprivileged ISA, version 20191213, chapters "RV32I Base Integer
-//! Instruction Set", "M Standard Extension" and "RISC-V Assembly Programmer's Handbook".
+//! Source: The RISC-V Instruction Set Manual, Volume I: Unprivileged ISA, version 20191213, chapters "RV32I Base
+//! Integer Instruction Set", "M Standard Extension" and "RISC-V Assembly Programmer's Handbook".
 #![tactic(auto)]
 
 mod directive;

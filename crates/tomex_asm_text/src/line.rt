@@ -4,7 +4,8 @@ ghost use Rattle.std.specs.Prelude.{◌≡◌, ◌≤◌, IfOk, length};
 ghost use Rattle.tomex_asm_tokens.specs.Reading.{Reads};
 ghost use Rattle.tomex_asm_text.specs.Statement.{statement_of};
 ghost use Rattle.tomex_asm_text.specs.Values.{place_of};
-ghost use Rattle.tomex_asm_text.specs.Lines.{line_of, label_fault, labels_from, labels_at, of_word, statement_at, line_from};
+ghost use Rattle.tomex_asm_text.specs.Lines.{line_of, label_fault, labels_from, labels_at, of_word, statement_at};
+ghost use Rattle.tomex_asm_text.specs.Lines.{line_from};
 
 use crate::directive::directive_named;
 use crate::directives::directive_at;
@@ -24,7 +25,7 @@ pub struct Line<'a> {
     pub statement: Statement<'a>,
 }
 
-/// Why a token is no label.
+/// Why a token can't be a label.
 fn label_fault(line: &[u8], token: Token) -> Option<Cause>
     ensures { result ≡ label_fault line.now token }
 {
@@ -34,7 +35,7 @@ fn label_fault(line: &[u8], token: Token) -> Option<Cause>
     }
 }
 
-/// How many tokens the labels and their colons are.
+/// The number of tokens of the labels and their colons.
 fn labels_size(line: &[u8], tokens: &[Token]) -> Result<usize, Fault>
     ensures value { result ≡ labels_from line.now tokens.now }
     ensures within { IfOk result (λ size. size ≤ length tokens.now) }
@@ -63,7 +64,7 @@ fn labels_at<'a>(line: &[u8], tokens: &'a [Token]) -> Result<(&'a [Token], &'a [
     Ok(tokens.split_at(labels_size(line, tokens)?))
 }
 
-/// The statement of a word: a directive if it begins with a `.`.
+/// The statement that begins with a word: a directive if the word begins with a `.`.
 fn of_word<'a>(line: &[u8], token: Token, rest: &'a [Token], word: &[u8]) -> Read<'a>
     ensures { Reads (λ x. (statement_of x.0, x.1.now)) result (of_word line.now token rest.now word.now) }
 {
@@ -93,10 +94,10 @@ fn statement_at<'a>(line: &[u8], rest: &'a [Token]) -> Read<'a>
 {
     match rest {
         [] => Ok((Statement::Nothing, rest)),
-        [token, behind @ ..] if token.is_word() => of_word(
+        [token, after @ ..] if token.is_word() => of_word(
             line,
             *token,
-            behind,
+            after,
             text_of(line, *token),
         ),
         [token, ..] => Err(Fault {
@@ -118,14 +119,14 @@ fn place_of(line: &[u8], rest: &[Token]) -> usize
 pub fn line_at<'a>(line: &[u8], tokens: &'a [Token]) -> Result<Line<'a>, Fault>
     ensures { Reads line_of result (line_from line.now tokens.now) }
 {
-    let (labels, behind) = labels_at(line, tokens)?;
-    let (statement, rest) = statement_at(line, behind)?;
+    let (labels, after) = labels_at(line, tokens)?;
+    let (statement, rest) = statement_at(line, after)?;
     if !rest.is_empty() {
         return Err(lack(line, rest, Thing::EndOfLine));
     }
     Ok(Line {
         labels,
-        at: place_of(line, behind),
+        at: place_of(line, after),
         statement,
     })
 }

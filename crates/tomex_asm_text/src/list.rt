@@ -7,7 +7,7 @@ ghost use Rattle.tomex_asm_text.specs.Directives.{element_fault, element_end, el
 use crate::reading::{lack, name_fault};
 use tomex_asm_tokens::{Cause, Fault, Mark, Sort, Thing, Token};
 
-/// What a list is of.
+/// What the elements of a list are.
 #[derive(Clone, Copy)]
 pub enum Element {
     Name,
@@ -15,7 +15,7 @@ pub enum Element {
     Text,
 }
 
-/// Why a token is no element of a list.
+/// Why a token can't be an element of a list.
 fn element_fault(element: Element, line: &[u8], token: Token) -> Option<Cause>
     ensures { result ≡ element_fault element line.now token }
 {
@@ -28,7 +28,7 @@ fn element_fault(element: Element, line: &[u8], token: Token) -> Option<Cause>
     }
 }
 
-/// The refusal of a list that ends without an element behind its last comma.
+/// The refusal of a list that ends without an element after its last comma.
 fn element_end(element: Element, line: &[u8]) -> Result<usize, Fault>
     ensures { result ≡ element_end element line.now }
 {

@@ -6,7 +6,7 @@ ghost use Rattle.tomex_asm_text.specs.Mnemonics.{operation_named, mnemonic_named
 use tomex_asm_tokens::named;
 use tomex_rvdec::Op;
 
-/// What a mnemonic stands for. A flag is set if x0 is the first of what is compared or taken away.
+/// What a mnemonic stands for. A flag is set if x0 is the first operand, and not the second.
 #[derive(Clone, Copy)]
 pub enum Mnemonic {
     /// An instruction of RV32IM.

@@ -3,16 +3,18 @@
 ghost use Rattle.std.specs.Prelude.{◌≡◌};
 ghost use Rattle.tomex_asm_tokens.specs.Reading.{Reads};
 ghost use Rattle.tomex_asm_text.specs.Statement.{immediate_of};
-ghost use Rattle.tomex_asm_text.specs.Instructions.{begins_register, comma_at, next_register, next_value, two_registers};
-ghost use Rattle.tomex_asm_text.specs.Instructions.{three_registers, is_text, second_is, part_at, immediate_at, base_at};
-ghost use Rattle.tomex_asm_text.specs.Instructions.{memory_at, place_of, behind_value, place_at};
+ghost use Rattle.tomex_asm_text.specs.Instructions.{begins_register, comma_at, next_register, next_value};
+ghost use Rattle.tomex_asm_text.specs.Instructions.{two_registers};
+ghost use Rattle.tomex_asm_text.specs.Instructions.{three_registers, is_text, second_is, part_at, immediate_at};
+ghost use Rattle.tomex_asm_text.specs.Instructions.{base_at};
+ghost use Rattle.tomex_asm_text.specs.Instructions.{memory_at, place_of, after_value, place_at};
 
 use crate::reading::{begins_mark, is_register, lack, mark_at, register_at, text_of};
 use crate::statement::Immediate;
 use crate::value::value_at;
 use tomex_asm_tokens::{Fault, Mark, Thing, Token};
 
-/// What a load or a store is of.
+/// Where a load reads, or a store writes.
 #[derive(Clone, Copy)]
 pub enum Place<'a> {
     /// An offset from a base register.
@@ -32,7 +34,7 @@ pub(crate) fn begins_register(line: &[u8], rest: &[Token]) -> bool
 }
 
 pub(crate) fn comma_at<'a>(line: &[u8], rest: &'a [Token]) -> Result<&'a [Token], Fault>
-    ensures { Reads (λ behind. behind.now) result (comma_at line.now rest.now) }
+    ensures { Reads (λ after. after.now) result (comma_at line.now rest.now) }
 {
     mark_at(Mark::Comma, Thing::Comma, line, rest)
 }
@@ -88,7 +90,7 @@ pub(crate) fn is_text(word: &[u8], line: &[u8], token: Token) -> bool
     token.is_word() && text_of(line, token) == word
 }
 
-/// True if the token behind the first one is this word.
+/// True if the token after the first one is this word.
 pub(crate) fn second_is(word: &[u8], line: &[u8], rest: &[Token]) -> bool
     ensures { result ≡ second_is word.now line.now rest.now }
 {
@@ -98,7 +100,7 @@ pub(crate) fn second_is(word: &[u8], line: &[u8], rest: &[Token]) -> bool
     }
 }
 
-/// The value in parentheses behind `%` and a word, where the rest begins with a `%`.
+/// The value in parentheses after `%` and a word, where the rest begins with a `%`.
 #[tactic(auto, unfolding(crate::specs::Instructions::part_at))]
 pub(crate) fn part_at<'a>(
     word: &[u8],
@@ -108,8 +110,8 @@ pub(crate) fn part_at<'a>(
     ensures { Reads (λ x. (x.0.now, x.1.now)) result (part_at word.now line.now rest.now) }
 {
     match rest {
-        [_, token, behind @ ..] if is_text(word, line, *token) => {
-            let open = mark_at(Mark::Open, Thing::Open, line, behind)?;
+        [_, token, after @ ..] if is_text(word, line, *token) => {
+            let open = mark_at(Mark::Open, Thing::Open, line, after)?;
             let (value, close) = value_at(line, open)?;
             Ok((value, mark_at(Mark::Close, Thing::Close, line, close)?))
         }
@@ -161,14 +163,14 @@ pub(crate) fn memory_at<'a>(
     }
 }
 
-/// What a value is of: a base register in parentheses may follow it.
-#[tactic(auto, unfolding(crate::specs::Instructions::behind_value))]
-fn behind_value<'a>(
+/// The place that begins with a value: a base register in parentheses may follow it.
+#[tactic(auto, unfolding(crate::specs::Instructions::after_value))]
+fn after_value<'a>(
     line: &[u8],
     value: &'a [Token],
     rest: &'a [Token],
 ) -> Result<(Place<'a>, &'a [Token]), Fault>
-    ensures { Reads (λ x. (place_of x.0, x.1.now)) result (behind_value line.now value.now rest.now) }
+    ensures { Reads (λ x. (place_of x.0, x.1.now)) result (after_value line.now value.now rest.now) }
 {
     if begins_mark(rest, Mark::Open) {
         let (base, rest) = base_at(line, rest)?;
@@ -178,7 +180,7 @@ fn behind_value<'a>(
     }
 }
 
-/// A memory operand, or an address. A value is an offset if a `(` comes behind it.
+/// A memory operand, or an address. A value is an offset if a `(` comes after it.
 #[tactic(auto, unfolding(crate::specs::Instructions::place_at))]
 pub(crate) fn place_at<'a>(
     line: &[u8],
@@ -191,6 +193,6 @@ pub(crate) fn place_at<'a>(
         Ok((Place::Memory(offset, base), rest))
     } else {
         let (value, rest) = value_at(line, rest)?;
-        behind_value(line, value, rest)
+        after_value(line, value, rest)
     }
 }

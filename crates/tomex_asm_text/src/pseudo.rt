@@ -4,7 +4,7 @@ ghost use Rattle.std.specs.Prelude.{◌≡◌};
 ghost use Rattle.tomex_asm_tokens.specs.Reading.{Reads};
 ghost use Rattle.tomex_asm_text.specs.Statement.{statement_of};
 ghost use Rattle.tomex_asm_text.specs.Instructions.{of_number, of_zero, swapped, branch_of_zero, branch_swapped, jump};
-ghost use Rattle.tomex_asm_text.specs.Instructions.{jump_register, load_address, behind_plt, far, load_number};
+ghost use Rattle.tomex_asm_text.specs.Instructions.{jump_register, load_address, after_plt, far, load_number};
 ghost use Rattle.tomex_asm_text.specs.Instructions.{instruction_at};
 
 use crate::forms::{Read, made, of_form};
@@ -111,12 +111,11 @@ fn load_address<'a>(line: &[u8], rest: &'a [Token]) -> Read<'a>
 }
 
 /// What follows an address: `@plt` says nothing.
-fn behind_plt<'a>(line: &[u8], rest: &'a [Token]) -> &'a [Token]
-    ensures { result.now ≡ behind_plt line.now rest.now }
+fn after_plt<'a>(line: &[u8], rest: &'a [Token]) -> &'a [Token]
+    ensures { result.now ≡ after_plt line.now rest.now }
 {
     match rest {
-        [_, _, behind @ ..] if begins_mark(rest, Mark::At) && second_is(b"plt", line, rest) =>
-            behind,
+        [_, _, after @ ..] if begins_mark(rest, Mark::At) && second_is(b"plt", line, rest) => after,
         _ => rest,
     }
 }
@@ -128,7 +127,7 @@ fn far<'a>(base: u8, link: u8, line: &[u8], rest: &'a [Token]) -> Read<'a>
     let (address, rest) = value_at(line, rest)?;
     let upper = made(Op::Auipc, base, 0, 0, Immediate::PcHigh(address));
     let jump = made(Op::Jalr, link, base, 0, Immediate::PcLow(address));
-    Ok((Statement::Two(upper, jump), behind_plt(line, rest)))
+    Ok((Statement::Two(upper, jump), after_plt(line, rest)))
 }
 
 #[tactic(auto, unfolding(crate::specs::Instructions::load_number))]

@@ -16,7 +16,7 @@ pub fn text_of(line: &[u8], token: Token) -> &[u8]
     &line[start..end]
 }
 
-/// The place right behind the last byte that is no blank.
+/// The place right after the last byte that isn't blank.
 fn line_end(line: &[u8]) -> usize
     ensures { result ≡ end_from 0 0 line.now }
 {
@@ -29,7 +29,7 @@ fn line_end(line: &[u8]) -> usize
     end
 }
 
-/// The refusal of a rest of the line that lacks something.
+/// The refusal of the rest of a line that lacks something.
 pub(crate) fn lack(line: &[u8], rest: &[Token], thing: Thing) -> Fault
     ensures { result ≡ lack line.now rest.now thing }
 {
@@ -61,10 +61,10 @@ pub(crate) fn mark_at<'a>(
     line: &[u8],
     rest: &'a [Token],
 ) -> Result<&'a [Token], Fault>
-    ensures { Reads (λ behind. behind.now) result (mark_at mark thing line.now rest.now) }
+    ensures { Reads (λ after. after.now) result (mark_at mark thing line.now rest.now) }
 {
     match rest {
-        [token, behind @ ..] if token.is_mark(mark) => Ok(behind),
+        [token, after @ ..] if token.is_mark(mark) => Ok(after),
         _ => Err(lack(line, rest, thing)),
     }
 }
@@ -79,7 +79,7 @@ fn register_of(line: &[u8], token: Token) -> Option<u8>
     }
 }
 
-/// True of a word that is the name of a register.
+/// True if the token is the name of a register.
 pub(crate) fn is_register(line: &[u8], token: Token) -> bool
     ensures { result ≡ is_register line.now token }
 {
@@ -93,8 +93,8 @@ pub(crate) fn register_at<'a>(line: &[u8], rest: &'a [Token]) -> Result<(u8, &'a
 {
     match rest {
         [] => Err(lack(line, rest, Thing::Register)),
-        [token, behind @ ..] => match register_of(line, *token) {
-            Some(register) => Ok((register, behind)),
+        [token, after @ ..] => match register_of(line, *token) {
+            Some(register) => Ok((register, after)),
             None => Err(lack(line, rest, Thing::Register)),
         },
     }
@@ -120,8 +120,8 @@ pub(crate) fn name_at<'a>(line: &[u8], rest: &'a [Token]) -> Result<(Token, &'a 
 {
     match rest {
         [] => Err(lack(line, rest, Thing::Name)),
-        [token, behind @ ..] => match name_fault(line, *token) {
-            None => Ok((*token, behind)),
+        [token, after @ ..] => match name_fault(line, *token) {
+            None => Ok((*token, after)),
             Some(cause) => Err(Fault {
                 at: token.from,
                 cause,

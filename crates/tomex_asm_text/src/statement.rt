@@ -38,23 +38,23 @@ pub enum Section {
     Data,
 }
 
-/// What an alignment is given as.
+/// How an alignment is given.
 #[derive(Clone, Copy)]
 pub enum Alignment {
-    /// The power of 2.
+    /// As the exponent of a power of 2.
     Power,
-    /// The number of bytes.
+    /// As the number of bytes.
     Bytes,
 }
 
-/// Who sees a symbol, if not its file alone.
+/// Who sees a symbol, if it isn't only its own file.
 #[derive(Clone, Copy)]
 pub enum Binding {
     Global,
     Weak,
 }
 
-/// What a symbol is of.
+/// What a symbol is the name of.
 #[derive(Clone, Copy)]
 pub enum Kind {
     Function,
@@ -72,13 +72,13 @@ pub enum Statement<'a> {
     LoadNumber(u8, &'a [Token]),
     InSection(Section),
     Align(Alignment, &'a [Token]),
-    /// As many zeros.
+    /// This many zeros.
     Space(&'a [Token]),
-    /// Strings, each with a zero behind it if the flag is set.
+    /// Strings, each with a zero after it if the flag is set.
     Strings(bool, &'a [Token]),
-    /// Numbers of this many bytes.
+    /// Numbers, each of this many bytes.
     Data(u8, &'a [Token]),
-    /// A name, and the value that it is.
+    /// A name, and the value that it stands for.
     Define(Token, &'a [Token]),
     /// A label in the data, its size and its alignment.
     Common(Token, &'a [Token], &'a [Token]),

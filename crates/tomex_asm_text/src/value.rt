@@ -13,10 +13,10 @@ use tomex_asm_tokens::{Cause, Fault, Mark, Sort, Thing, Token};
 pub enum Position {
     /// A product's next factor, with its sign.
     Atom,
-    /// A factor, behind its sign.
+    /// A factor, after its sign.
     Operand,
     /// What joins the next factor, or what follows the value.
-    Behind,
+    After,
 }
 
 /// What a token is to a value.
@@ -57,11 +57,11 @@ fn step_of(is_list: bool, line: &[u8], position: Position, token: Token) -> Step
     match position {
         Position::Atom if token.is_mark(Mark::Minus) => Step::Goes(Position::Operand),
         Position::Atom | Position::Operand => if is_operand(line, token) {
-            Step::Goes(Position::Behind)
+            Step::Goes(Position::After)
         } else {
             Step::Lacks
         },
-        Position::Behind => if is_joint(is_list, token) {
+        Position::After => if is_joint(is_list, token) {
             Step::Goes(Position::Atom)
         } else {
             Step::Stops
@@ -86,7 +86,7 @@ fn value_size(is_list: bool, line: &[u8], rest: &[Token]) -> Result<usize, Fault
         }
     }
     match position {
-        Position::Behind => Ok(rest.len()),
+        Position::After => Ok(rest.len()),
         Position::Atom | Position::Operand => Err(lack(line, &[], Thing::Value)),
     }
 }
@@ -102,7 +102,7 @@ pub(crate) fn value_at<'a>(
     Ok(rest.split_at(value_size(false, line, rest)?))
 }
 
-/// The same of values with commas between them.
+/// The same for values with commas between them.
 #[tactic(auto, unfolding(crate::specs::Values::values_at))]
 pub(crate) fn values_at<'a>(
     line: &[u8],

@@ -1,5 +1,6 @@
 -- Where the last `*/` is.
-use Rattle.std.proofs.Common.{◌≡◌, ℕ, zero, suc, ◌+◌, ◌-◌, ◌<◌, ◌≤◌, Bool, true, false, ◌||◌, nat_lt, List, [], ◌∷◌, length, take, drop, get_or}
+use Rattle.std.proofs.Common.{◌≡◌, ℕ, zero, suc, ◌+◌, ◌-◌, ◌<◌, ◌≤◌, Bool, true, false, ◌||◌, nat_lt, List, [], ◌∷◌}
+use Rattle.std.proofs.Common.{length, take, drop, get_or}
 use Rattle.std.proofs.Common.{refl, sym, ap, ◌∙◌, subst, ⊎_elim, arith}
 use Rattle.std.proofs.lemmas.Bool.{cases_Bool, cases_lt, false≢true}
 use Rattle.std.proofs.lemmas.Bool.Decides.{nat_tests}
@@ -32,7 +33,8 @@ ends_more i text h =
     ap has_end d ∙ ap (λ (xs : List ℕ). begins_end xs || has_end (drop (i + 1) text)) (sym d)
 
 -- the part of the text that a call gets
-begins_here : (i : ℕ) (text : List ℕ) (b : Bool) (e : Bool) → b ≡ begins_end (take (length text - i) (drop i text)) → b ≡ e
+begins_here : (i : ℕ) (text : List ℕ) (b : Bool) (e : Bool)
+    → b ≡ begins_end (take (length text - i) (drop i text)) → b ≡ e
     → begins_end (drop i text) ≡ e
 begins_here i text b e h f = sym (ap begins_end (take_rest text i)) ∙ sym h ∙ f
 

@@ -1,5 +1,6 @@
 -- Strings and tokens, from left to right.
-use Rattle.std.proofs.Common.{◌≡◌, ℕ, zero, suc, ◌+◌, ◌-◌, ◌<◌, ◌≤◌, Bool, true, false, List, [], ◌∷◌, ◌++◌, length, take, drop, get_or}
+use Rattle.std.proofs.Common.{◌≡◌, ℕ, zero, suc, ◌+◌, ◌-◌, ◌<◌, ◌≤◌, Bool, true, false, List, [], ◌∷◌, ◌++◌, length}
+use Rattle.std.proofs.Common.{take, drop, get_or}
 use Rattle.std.proofs.Common.{Result, Ok, Err, nat_eq, cond, refl, sym, ap, ◌∙◌, arith}
 use Rattle.std.proofs.lemmas.List.{append-nil, drop_all, drop_more, take_rest}
 use Rattle.std.proofs.lemmas.Bool.Decides.{nat_tests}
@@ -27,27 +28,32 @@ pub string_here : (begin next i c n : ℕ) (rest : List ℕ) → i < length rest
     → n ≡ escape_length (drop (i + 1) rest)
     → string_rest begin next i rest
     ≡ cond (nat_eq c 34) (Ok (begin + 1 + i + 1))
-    (cond (nat_eq c 92) (cond (nat_eq n 0) (refused (begin + 1 + i) BadEscape) (string_end begin n (begin + 1 + (i + 1)) (drop (i + 1) rest)))
+    (cond (nat_eq c 92) (cond (nat_eq n 0) (refused (begin + 1 + i) BadEscape)
+    (string_end begin n (begin + 1 + (i + 1)) (drop (i + 1) rest)))
     (string_end begin 0 (begin + 1 + (i + 1)) (drop (i + 1) rest)))
 string_here begin next i c n rest h le e f =
     let k : next - i ≡ 0 = omega arith in
     let a : begin + 1 + i + 1 ≡ begin + 1 + (i + 1) = omega arith in
-    let d : drop i rest ≡ c ∷ drop (i + 1) rest = drop_more rest i 0 h ∙ ap (λ (x : ℕ). x ∷ drop (i + 1) rest) (sym e) in
+    let d : drop i rest ≡ c ∷ drop (i + 1) rest =
+    drop_more rest i 0 h ∙ ap (λ (x : ℕ). x ∷ drop (i + 1) rest) (sym e) in
     ap (λ (m : ℕ). string_end begin m (begin + 1 + i) (drop i rest)) k
     ∙ ap (string_end begin 0 (begin + 1 + i)) d
     ∙ ap (λ (m : ℕ). cond (nat_eq c 34) (Ok (begin + 1 + i + 1))
-    (cond (nat_eq c 92) (cond (nat_eq m 0) (refused (begin + 1 + i) BadEscape) (string_end begin m (begin + 1 + i + 1) (drop (i + 1) rest)))
+    (cond (nat_eq c 92) (cond (nat_eq m 0) (refused (begin + 1 + i) BadEscape)
+    (string_end begin m (begin + 1 + i + 1) (drop (i + 1) rest)))
     (string_end begin 0 (begin + 1 + i + 1) (drop (i + 1) rest)))) (sym f)
     ∙ ap (λ (p : ℕ). cond (nat_eq c 34) (Ok (begin + 1 + i + 1))
-    (cond (nat_eq c 92) (cond (nat_eq n 0) (refused (begin + 1 + i) BadEscape) (string_end begin n p (drop (i + 1) rest)))
+    (cond (nat_eq c 92) (cond (nat_eq n 0) (refused (begin + 1 + i) BadEscape)
+    (string_end begin n p (drop (i + 1) rest)))
     (string_end begin 0 p (drop (i + 1) rest)))) a
 
 pub string_ends : (begin next i : ℕ) (rest : List ℕ) → length rest ≤ i
     → string_rest begin next i rest ≡ refused begin UnclosedString
-string_ends begin next i rest h = ap (string_end begin (next - i) (begin + 1 + i)) (drop_all i rest h) ∙ nothing (next - i) where
-  nothing : (k : ℕ) → string_end begin k (begin + 1 + i) [] ≡ refused begin UnclosedString
-  nothing zero = refl
-  nothing (suc k) = refl
+string_ends begin next i rest h = ap (string_end begin (next - i) (begin + 1 + i)) (drop_all i rest h)
+    ∙ nothing (next - i) where
+      nothing : (k : ℕ) → string_end begin k (begin + 1 + i) [] ≡ refused begin UnclosedString
+      nothing zero = refl
+      nothing (suc k) = refl
 
 -- what was read before, and what is still read
 abbrev pub with_front : List Token → Result (List Token) Fault → Result (List Token) Fault
@@ -69,11 +75,13 @@ pub tokens_here : (next i c : ℕ) (line : List ℕ) → i < length line → nex
     >>= λ first. (tokens_from (first.to - (i + 1)) (i + 1) (drop (i + 1) line) >>= λ others. Ok (first ∷ others)))
 tokens_here next i c line h le e =
     let k : next - i ≡ 0 = omega arith in
-    let d : drop i line ≡ c ∷ drop (i + 1) line = drop_more line i 0 h ∙ ap (λ (x : ℕ). x ∷ drop (i + 1) line) (sym e) in
+    let d : drop i line ≡ c ∷ drop (i + 1) line =
+    drop_more line i 0 h ∙ ap (λ (x : ℕ). x ∷ drop (i + 1) line) (sym e) in
     ap (λ (m : ℕ). tokens_from m i (drop i line)) k ∙ ap (tokens_from 0 i) d
     ∙ ap (λ (xs : List ℕ). cond (is_blank c) (tokens_from 0 (i + 1) (drop (i + 1) line))
     (token i xs
-    >>= λ first. (tokens_from (first.to - (i + 1)) (i + 1) (drop (i + 1) line) >>= λ others. Ok (first ∷ others)))) (sym d)
+    >>= λ first. (tokens_from (first.to - (i + 1)) (i + 1) (drop (i + 1) line)
+    >>= λ others. Ok (first ∷ others)))) (sym d)
 
 pub string_escapes : (begin next i c n later : ℕ) (rest : List ℕ) → i < length rest → next ≤ i → c ≡ get_or rest i 0
     → (c ≡ 34 → ⊥) → c ≡ 92 → n ≡ escape_length (take (length rest - (i + 1)) (drop (i + 1) rest)) → (n ≡ 0 → ⊥)
@@ -86,11 +94,14 @@ string_escapes begin next i c n later rest h le e not_end is_escape f some l =
     let three : nat_eq n 0 ≡ false = grind (arith, nat_tests) in
     s
     ∙ ap (λ (b : Bool). cond b (Ok (begin + 1 + i + 1))
-    (cond (nat_eq c 92) (cond (nat_eq n 0) (refused (begin + 1 + i) BadEscape) (string_end begin n (begin + 1 + (i + 1)) (drop (i + 1) rest)))
+    (cond (nat_eq c 92) (cond (nat_eq n 0) (refused (begin + 1 + i) BadEscape)
+    (string_end begin n (begin + 1 + (i + 1)) (drop (i + 1) rest)))
     (string_end begin 0 (begin + 1 + (i + 1)) (drop (i + 1) rest)))) one
-    ∙ ap (λ (b : Bool). cond b (cond (nat_eq n 0) (refused (begin + 1 + i) BadEscape) (string_end begin n (begin + 1 + (i + 1)) (drop (i + 1) rest)))
+    ∙ ap (λ (b : Bool). cond b (cond (nat_eq n 0) (refused (begin + 1 + i) BadEscape)
+    (string_end begin n (begin + 1 + (i + 1)) (drop (i + 1) rest)))
     (string_end begin 0 (begin + 1 + (i + 1)) (drop (i + 1) rest))) two
-    ∙ ap (λ (b : Bool). cond b (refused (begin + 1 + i) BadEscape) (string_end begin n (begin + 1 + (i + 1)) (drop (i + 1) rest))) three
+    ∙ ap (λ (b : Bool). cond b (refused (begin + 1 + i) BadEscape)
+    (string_end begin n (begin + 1 + (i + 1)) (drop (i + 1) rest))) three
     ∙ ap (λ (m : ℕ). string_end begin m (begin + 1 + (i + 1)) (drop (i + 1) rest)) (sym k)
 
 pub string_goes : (begin next i c later : ℕ) (rest : List ℕ) → i < length rest → next ≤ i → c ≡ get_or rest i 0
@@ -102,9 +113,11 @@ string_goes begin next i c later rest h le e not_end no_escape l =
     let two : nat_eq c 92 ≡ false = grind (arith, nat_tests) in
     s
     ∙ ap (λ (b : Bool). cond b (Ok (begin + 1 + i + 1))
-    (cond (nat_eq c 92) (cond (nat_eq (escape_length (drop (i + 1) rest)) 0) (refused (begin + 1 + i) BadEscape) (string_end begin (escape_length (drop (i + 1) rest)) (begin + 1 + (i + 1)) (drop (i + 1) rest)))
+    (cond (nat_eq c 92) (cond (nat_eq (escape_length (drop (i + 1) rest)) 0) (refused (begin + 1 + i) BadEscape)
+    (string_end begin (escape_length (drop (i + 1) rest)) (begin + 1 + (i + 1)) (drop (i + 1) rest)))
     (string_end begin 0 (begin + 1 + (i + 1)) (drop (i + 1) rest)))) one
-    ∙ ap (λ (b : Bool). cond b (cond (nat_eq (escape_length (drop (i + 1) rest)) 0) (refused (begin + 1 + i) BadEscape) (string_end begin (escape_length (drop (i + 1) rest)) (begin + 1 + (i + 1)) (drop (i + 1) rest)))
+    ∙ ap (λ (b : Bool). cond b (cond (nat_eq (escape_length (drop (i + 1) rest)) 0) (refused (begin + 1 + i) BadEscape)
+    (string_end begin (escape_length (drop (i + 1) rest)) (begin + 1 + (i + 1)) (drop (i + 1) rest)))
     (string_end begin 0 (begin + 1 + (i + 1)) (drop (i + 1) rest))) two
     ∙ ap (λ (m : ℕ). string_end begin m (begin + 1 + (i + 1)) (drop (i + 1) rest)) (sym k)
 

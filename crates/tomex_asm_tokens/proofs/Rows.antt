@@ -25,7 +25,8 @@ none_in_quotes = refl
 -- Tokens: words and marks,
 pub load : tokens (codes "lw t1, -4(sp)")
     ≡ Ok
-    (token_of sorts.Word 0 2 ∷ token_of sorts.Word 3 2 ∷ token_of (sorts.Mark Comma) 5 1 ∷ token_of (sorts.Mark Minus) 7 1
+    (token_of sorts.Word 0 2 ∷ token_of sorts.Word 3 2 ∷ token_of (sorts.Mark Comma) 5 1
+    ∷ token_of (sorts.Mark Minus) 7 1
     ∷ token_of (sorts.Decimal 4) 8 1 ∷ token_of (sorts.Mark Open) 9 1 ∷ token_of sorts.Word 10 2
     ∷ token_of (sorts.Mark Close) 12 1 ∷ [])
 unfolding tokens token

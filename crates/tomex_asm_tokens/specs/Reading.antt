@@ -9,7 +9,7 @@ abbrev pub Reads : {X Y : Type 0} → (X → Y) → Result X Fault → Result Y 
 Reads shown (Ok x) defined = defined ≡ Ok (shown x)
 Reads shown (Err fault) defined = defined ≡ Err fault
 
--- the same, unless memory ran out
+-- the same, except if memory ran out
 abbrev pub Answers : {X Y : Type 0} → (X → Y) → Result X ReadError → Result Y Fault → Type 0
 Answers shown (Ok x) defined = defined ≡ Ok (shown x)
 Answers shown (Err Memory) defined = Unit {0}

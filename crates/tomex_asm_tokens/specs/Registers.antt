@@ -6,7 +6,7 @@ use Rattle.std.specs.List.{range_with_len, zip}
 use Rattle.std.specs.Str.{bytes_eq}
 use Rattle.tomex_rvdec.specs.Text.{register_text}
 
--- what stands beside the first of these names that is the word
+-- the value in the first row whose name is the word
 abbrev pub named : {A : Type 0} → List (List ℕ × A) → List ℕ → Option A
 named [] w = None
 named (row ∷ rows) w = if bytes_eq row.0 w then Some row.1 else named rows w

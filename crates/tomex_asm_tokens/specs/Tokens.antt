@@ -1,7 +1,8 @@
 -- The tokens of a line without comments: words, numbers, local labels, strings and marks, from left to right. A place
 -- in a line is a number of bytes from its beginning. A refusal is at the first place where no token is possible.
 use Rattle.std.specs.Prelude.{ℕ, zero, suc, ◌+◌, ◌-◌, ◌^◌, List, [], ◌∷◌, length, take, drop, slice_index}
-use Rattle.std.specs.Prelude.{Option, Some, None, is_some, Result, Ok, Err, pos, negsuc, Bool, true, false, nat_eq, nat_lt, nat_le}
+use Rattle.std.specs.Prelude.{Option, Some, None, is_some, Result, Ok, Err, pos, negsuc, Bool, true, false, nat_eq}
+use Rattle.std.specs.Prelude.{nat_lt, nat_le}
 use Rattle.std.specs.Prelude.{not, ◌&&◌, ◌||◌, if◌then◌else◌}
 use Rattle.std.specs.List.{prefix_len, take_while, list_all}
 use Rattle.std.specs.Char.{is_ascii_digit}
@@ -18,7 +19,7 @@ use Rattle.tomex_asm_tokens.specs.declared.token.Token.{Token}
 use Rattle.tomex_asm_tokens.specs.Characters.{star, slash, quote, double_quote, backslash, is_blank, begins_word}
 use Rattle.tomex_asm_tokens.specs.Characters.{is_in_word, is_plain, is_octal, is_hexadecimal, is_binary}
 
--- a step that may be refused, and what comes behind it
+-- a step that may be refused, and the step after it
 infixl 10 ◌>>=◌
 abbrev pub ◌>>=◌ : {A B : Type 0} → Result A Fault → (A → Result B Fault) → Result B Fault
 (Ok x) >>= f = f x
@@ -39,7 +40,8 @@ is_decimal (c ∷ rest) = list_all is_ascii_digit (c ∷ rest) && (nat_eq (lengt
 -- a 0, this letter, and digits
 abbrev pub is_based : ℕ → (ℕ → Bool) → List ℕ → Bool
 is_based letter is_digit w =
-    nat_lt 2 (length w) && nat_eq (slice_index w 0) 48 && nat_eq (slice_index w 1) letter && list_all is_digit (drop 2 w)
+    nat_lt 2 (length w) && nat_eq (slice_index w 0) 48 && nat_eq (slice_index w 1) letter
+    && list_all is_digit (drop 2 w)
 
 -- a decimal number, and this letter
 abbrev pub is_local : ℕ → List ℕ → Bool
@@ -52,7 +54,7 @@ out_of_range = OutOfRange (negsuc 2147483647) (pos 4294967295)
 abbrev pub bounded : (ℕ → Sort) → ℕ → Result Sort Cause
 bounded sort n = if nat_lt n (2 ^ 32) then Ok (sort n) else Err out_of_range
 
--- what a word is that begins with a digit
+-- what a word that begins with a digit is
 abbrev pub numeral : List ℕ → Result Sort Cause
 numeral w =
     if is_decimal w then bounded sorts.Decimal (digits_value 10 w)
@@ -77,7 +79,7 @@ escaped around c =
     else (if nat_eq c backslash || nat_eq c around then Some c
     else None)))))
 
--- a character of size bytes, if the byte behind it is a quote
+-- a character of size bytes, if the byte after it is a quote
 abbrev pub closed : ℕ → ℕ → ℕ → List ℕ → Result Token Fault
 closed at size n rest =
     if nat_eq (slice_index rest 0) quote then Ok (token_of (sorts.Number n) at size) else refused at BadCharacter
@@ -86,7 +88,7 @@ abbrev pub escape_at : ℕ → Option ℕ → List ℕ → Result Token Fault
 escape_at at None rest = refused (at + 1) BadEscape
 escape_at at (Some n) rest = closed at 4 n rest
 
--- the character whose quote is at a place; what follows the quote
+-- the character whose first quote is at a place, by what follows this quote
 abbrev pub character_at : ℕ → List ℕ → Result Token Fault
 character_at at [] = refused at BadCharacter
 character_at at (c ∷ []) = if nat_eq c backslash then refused (at + 1) BadEscape else refused at BadCharacter
@@ -112,7 +114,8 @@ string_end begin (suc skip) at (c ∷ rest) = string_end begin skip (at + 1) res
 string_end begin zero at (c ∷ rest) =
     if nat_eq c double_quote then Ok (at + 1)
     else (if nat_eq c backslash
-    then (if nat_eq (escape_length rest) 0 then refused at BadEscape else string_end begin (escape_length rest) (at + 1) rest)
+    then (if nat_eq (escape_length rest) 0 then refused at BadEscape
+    else string_end begin (escape_length rest) (at + 1) rest)
     else string_end begin zero (at + 1) rest)
 
 abbrev pub string_at : ℕ → List ℕ → Result Token Fault
@@ -138,12 +141,13 @@ mark_at at (Some mark) c rest = Ok (token_of (sorts.Mark mark) at 1)
 mark_at at None c rest =
     if nat_eq c slash && nat_eq (slice_index rest 0) star then refused at UnclosedComment else refused at BadCharacter
 
--- the token with which the bytes begin, which are those from a place on
+-- the token with which the bytes from a place on begin
 unfoldable pub token : ℕ → List ℕ → Result Token Fault
 token at [] = refused at BadCharacter
 token at (c ∷ rest) =
     if begins_word c then Ok (token_of sorts.Word at (prefix_len is_in_word (c ∷ rest)))
-    else (if is_ascii_digit c then placed at (prefix_len is_in_word (c ∷ rest)) (numeral (take_while is_in_word (c ∷ rest)))
+    else (if is_ascii_digit c
+    then placed at (prefix_len is_in_word (c ∷ rest)) (numeral (take_while is_in_word (c ∷ rest)))
     else (if nat_eq c quote then character_at at rest
     else (if nat_eq c double_quote then string_at at rest
     else mark_at at (mark_of c) c rest)))
@@ -154,7 +158,8 @@ tokens_from skip at [] = Ok []
 tokens_from (suc skip) at (c ∷ rest) = tokens_from skip (at + 1) rest
 tokens_from zero at (c ∷ rest) =
     if is_blank c then tokens_from zero (at + 1) rest
-    else (token at (c ∷ rest) >>= λ first. (tokens_from (first.to - (at + 1)) (at + 1) rest >>= λ others. Ok (first ∷ others)))
+    else (token at (c ∷ rest) >>= λ first.
+    (tokens_from (first.to - (at + 1)) (at + 1) rest >>= λ others. Ok (first ∷ others)))
 
 unfoldable pub tokens : List ℕ → Result (List Token) Fault
 tokens line = tokens_from 0 0 line

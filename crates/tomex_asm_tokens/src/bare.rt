@@ -12,7 +12,7 @@ fn begins_end(bytes: &[u8]) -> bool
     matches!(bytes, [b'*', b'/', ..])
 }
 
-/// The place behind the last `*` that a `/` follows, or 0.
+/// The place after the last `*` that a `/` follows, or 0.
 fn last_end(text: &[u8]) -> usize
     ensures { (place : ℕ) → has_end (drop place text.now) ≡ nat_lt place result }
 {
@@ -33,9 +33,9 @@ pub fn without_comments<A: Allocator>(alloc: A, text: &[u8]) -> Result<Vec<u8, A
     let mut mode = Mode::Code;
     for (place, byte) in text.iter().enumerate() {
         let next = text.get(place + 1).copied();
-        let behind = mode.behind(*byte, next, place + 2 < end);
-        bytes.push(bare_byte(mode, behind, *byte))?;
-        mode = behind;
+        let after = mode.after(*byte, next, place + 2 < end);
+        bytes.push(bare_byte(mode, after, *byte))?;
+        mode = after;
     }
     Ok(bytes)
 }

@@ -23,14 +23,14 @@ pub enum Thing {
     Address,
 }
 
-/// Why a text is refused. Where a cause is of a name, the name stands at the place.
+/// Why a text is refused. If the cause is about a name, the name is at the place of the refusal.
 #[derive(Clone, Copy)]
 pub enum Cause {
     /// A `/*` without a `*/`.
     UnclosedComment,
     UnclosedString,
     BadNumber,
-    /// A byte that begins nothing, or that is no character between quotes.
+    /// A byte with which no token begins, or between single quotes something that isn't one character.
     BadCharacter,
     BadEscape,
     Expected(Thing),
@@ -40,7 +40,7 @@ pub enum Cause {
     NoInstruction,
     NoDirective,
     DefinedTwice,
-    /// `_start` isn't in the text, or at no multiple of 4.
+    /// `_start` isn't in the text, or isn't at a multiple of 4.
     BadEntry,
     InstructionInData,
     InstructionMisaligned,

@@ -4,7 +4,7 @@ ghost use Rattle.std.specs.Prelude.{◌≡◌, ◌≤◌, length};
 ghost use Rattle.std.specs.List.{prefix_len};
 ghost use Rattle.tomex_asm_tokens.specs.Characters.{is_blank, begins_word, is_in_word, is_plain, is_octal};
 
-/// True of a space, a tab and a carriage return.
+/// True if the byte is a space, a tab or a carriage return.
 pub fn is_blank(byte: u8) -> bool
     ensures { result ≡ is_blank byte }
 {
@@ -23,7 +23,7 @@ fn is_in_word(byte: u8) -> bool
     begins_word(byte) || byte.is_ascii_digit()
 }
 
-/// True of a character that stands for itself between quotes.
+/// True if the byte is a character that stands for itself between quotes.
 pub(crate) fn is_plain(byte: u8) -> bool
     ensures { result ≡ is_plain byte }
 {
@@ -36,7 +36,7 @@ pub(crate) fn is_octal(byte: u8) -> bool
     byte >= b'0' && byte <= b'7'
 }
 
-/// How many of the first bytes are letters, digits, `_`, `.` or `$`.
+/// How many letters, digits, `_`, `.` and `$` the bytes begin with.
 pub(crate) fn word_length(bytes: &[u8]) -> usize
     ensures value { result ≡ prefix_len is_in_word bytes.now }
     ensures within { result ≤ length bytes.now }

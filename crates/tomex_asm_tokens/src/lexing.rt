@@ -49,7 +49,7 @@ fn mark_at(at: usize, byte: u8, rest: &[u8]) -> Result<Token, Fault>
     }
 }
 
-/// The token with which the bytes begin, which are those of a line from a place on.
+/// The token with which the bytes of a line from a place on begin.
 #[tactic(auto, unfolding(crate::specs::Tokens::token))]
 fn token_at(at: usize, bytes: &[u8]) -> Result<Token, Fault>
     requires { at + length bytes.now + 4 < 2 ^ 64 }

@@ -1,5 +1,5 @@
-//! A program in assembly, from its characters to the tokens of its lines: comments, words, numbers, local labels, strings
-//! and marks, and the names of registers.
+//! A program in assembly, from its characters to the tokens of its lines: comments, words, numbers, local labels,
+//! strings and marks, and the names of registers.
 //!
 //! Source: The RISC-V Instruction Set Manual, Volume I: Unprivileged ISA, version 20191213, chapter "RISC-V Assembly
 //! Programmer's Handbook".

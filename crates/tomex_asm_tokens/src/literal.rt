@@ -26,7 +26,7 @@ pub(crate) fn escaped(around: u8, byte: u8) -> Option<u8>
     }
 }
 
-/// A character of `size` bytes, if the byte behind it is a quote.
+/// A character of `size` bytes, if the byte after it is a quote.
 fn closed(at: usize, size: usize, character: u8, rest: &[u8]) -> Result<Token, Fault>
     requires { at + size < 2 ^ 64 }
     ensures { result ≡ closed at size character rest.now }
@@ -44,7 +44,7 @@ fn closed(at: usize, size: usize, character: u8, rest: &[u8]) -> Result<Token, F
     }
 }
 
-/// The character whose quote is at a place, and what follows the quote.
+/// The character whose first quote is at a place; `rest` is what follows this quote.
 pub(crate) fn character_at(at: usize, rest: &[u8]) -> Result<Token, Fault>
     requires { at + 4 < 2 ^ 64 }
     ensures { result ≡ character_at at rest.now }
@@ -60,20 +60,20 @@ pub(crate) fn character_at(at: usize, rest: &[u8]) -> Result<Token, Fault>
     match rest {
         [] => Err(refused),
         [b'\\'] => Err(escape),
-        [b'\\', byte, behind @ ..] => match escaped(b'\'', *byte) {
+        [b'\\', byte, after @ ..] => match escaped(b'\'', *byte) {
             None => Err(escape),
-            Some(character) => closed(at, 4, character, behind),
+            Some(character) => closed(at, 4, character, after),
         },
         [_] => Err(refused),
-        [byte, behind @ ..] => if is_plain(*byte) {
-            closed(at, 3, *byte, behind)
+        [byte, after @ ..] => if is_plain(*byte) {
+            closed(at, 3, *byte, after)
         } else {
             Err(refused)
         },
     }
 }
 
-/// How many of the bytes are one to three octal digits, up to 377; 0 if none are.
+/// The length of the octal number that the bytes begin with: one to three digits, up to 377. 0 if there is none.
 fn octal_length(bytes: &[u8]) -> usize
     ensures value { result ≡ octal_length bytes.now }
     ensures small { result ≤ 3 }
@@ -90,7 +90,7 @@ fn octal_length(bytes: &[u8]) -> usize
     }
 }
 
-/// How many bytes of an escape follow its `\` in a string; 0 if it isn't one.
+/// How many bytes of an escape follow its `\` in a string; 0 if it isn't an escape.
 fn escape_length(bytes: &[u8]) -> usize
     ensures value { result ≡ escape_length bytes.now }
     ensures small { result ≤ 3 }
@@ -105,7 +105,7 @@ fn escape_length(bytes: &[u8]) -> usize
     }
 }
 
-/// The end of a string that begins at a place, and what follows its first quote.
+/// The end of the string that begins at a place; `rest` is what follows its first quote.
 pub(crate) fn string_end(begin: usize, rest: &[u8]) -> Result<usize, Fault>
     requires { begin + 1 + length rest.now < 2 ^ 64 }
     ensures { result ≡ string_end begin 0 (begin + 1) rest.now }

@@ -1,7 +1,7 @@
 //! Where a text is, and what is left of a byte.
 
 ghost use Rattle.std.specs.Prelude.{◌≡◌};
-ghost use Rattle.tomex_asm_tokens.specs.Bare.{mode_behind, is_comment, bare_byte};
+ghost use Rattle.tomex_asm_tokens.specs.Bare.{mode_after, is_comment, bare_byte};
 ghost use Rattle.tomex_asm_tokens.specs.Characters.{is_quote};
 
 /// Where a text is between two bytes.
@@ -9,15 +9,15 @@ ghost use Rattle.tomex_asm_tokens.specs.Characters.{is_quote};
 pub enum Mode {
     /// In neither quotes nor a comment.
     Code,
-    /// Behind this quote, before the next of the same.
+    /// After this quote, before the next quote of the same kind.
     Quoted(u8),
-    /// The same, right behind a `\`.
+    /// Between such quotes, right after a `\`.
     Escaped(u8),
     /// In a comment that ends with its line.
     Line,
     /// Between the two bytes of a `/*`.
     Open,
-    /// Behind a `/*`.
+    /// After a `/*`.
     Block,
     /// Between the two bytes of a `*/`.
     Close,
@@ -26,16 +26,16 @@ pub enum Mode {
 /// The byte that ends a line.
 pub(crate) const NEWLINE: u8 = b'\n';
 
-/// True if a character or a string begins and ends so.
+/// True if the byte is a quote, with which a character or a string begins and ends.
 fn is_quote(byte: u8) -> bool
     ensures { result ≡ is_quote byte }
 {
     byte == b'"' || byte == b'\''
 }
 
-/// Where code goes on behind a byte. A comment that isn't closed isn't one.
-fn behind_code(byte: u8, next: Option<u8>, is_closed: bool) -> Mode
-    ensures { result ≡ mode_behind Mode.Code byte next is_closed }
+/// Where the text is after a byte of code. A `/*` that isn't closed doesn't begin a comment.
+fn after_code(byte: u8, next: Option<u8>, is_closed: bool) -> Mode
+    ensures { result ≡ mode_after Mode.Code byte next is_closed }
 {
     if byte == b'#' || byte == b'/' && next == Some(b'/') {
         Mode::Line
@@ -49,12 +49,12 @@ fn behind_code(byte: u8, next: Option<u8>, is_closed: bool) -> Mode
 }
 
 impl Mode {
-    /// Where the text is behind the byte, if the byte `next` comes, and then a `*/` if `is_closed`.
-    pub(crate) fn behind(self, byte: u8, next: Option<u8>, is_closed: bool) -> Mode
-        ensures { result ≡ mode_behind self byte next is_closed }
+    /// Where the text is after the byte, if the byte `next` follows, and then a `*/` if `is_closed`.
+    pub(crate) fn after(self, byte: u8, next: Option<u8>, is_closed: bool) -> Mode
+        ensures { result ≡ mode_after self byte next is_closed }
     {
         match self {
-            Mode::Code => behind_code(byte, next, is_closed),
+            Mode::Code => after_code(byte, next, is_closed),
             Mode::Quoted(quote) => {
                 if byte == b'\\' {
                     Mode::Escaped(quote)
@@ -95,10 +95,10 @@ impl Mode {
 }
 
 /// What is left of a byte between two modes.
-pub(crate) fn bare_byte(before: Mode, behind: Mode, byte: u8) -> u8
-    ensures { result ≡ bare_byte before behind byte }
+pub(crate) fn bare_byte(before: Mode, after: Mode, byte: u8) -> u8
+    ensures { result ≡ bare_byte before after byte }
 {
-    if byte != NEWLINE && (before.is_comment() || behind.is_comment()) {
+    if byte != NEWLINE && (before.is_comment() || after.is_comment()) {
         b' '
     } else {
         byte

@@ -3,7 +3,7 @@
 ghost use Rattle.std.specs.Prelude.{◌≡◌, map};
 ghost use Rattle.tomex_asm_tokens.specs.Registers.{named};
 
-/// What stands beside the first of the names that is the word.
+/// The value in the first row whose name is the word.
 pub fn named<T: Copy>(rows: &[(&str, T)], word: &[u8]) -> Option<T>
     ensures { result ≡ named (map (λ row. (row.0.now, row.1)) rows.now) word.now }
 {

@@ -33,7 +33,7 @@ fn are_binary(digits: &[u8]) -> bool
     digits.iter().all(|digit| *digit == b'0' || *digit == b'1')
 }
 
-/// True of 0, and of digits without a leading 0.
+/// True if the word is 0, or digits without a leading 0.
 fn is_decimal(word: &[u8]) -> bool
     ensures { result ≡ is_decimal word.now }
 {
@@ -43,7 +43,7 @@ fn is_decimal(word: &[u8]) -> bool
     }
 }
 
-/// True of `0x` and hexadecimal digits.
+/// True if the word is `0x` and hexadecimal digits.
 fn is_hexadecimal(word: &[u8]) -> bool
     ensures { result ≡ is_based 120 is_hexadecimal word.now }
 {
@@ -53,7 +53,7 @@ fn is_hexadecimal(word: &[u8]) -> bool
     }
 }
 
-/// True of `0b` and binary digits.
+/// True if the word is `0b` and binary digits.
 fn is_binary(word: &[u8]) -> bool
     ensures { result ≡ is_based 98 is_binary word.now }
 {
@@ -63,7 +63,7 @@ fn is_binary(word: &[u8]) -> bool
     }
 }
 
-/// True of a decimal number with this letter behind it.
+/// True if the word is a decimal number with this letter after it.
 fn is_local(word: &[u8], letter: u8) -> bool
     ensures { result ≡ is_local letter word.now }
 {
@@ -86,7 +86,7 @@ fn digit_value(digit: u8) -> u8
     }
 }
 
-/// The number that digits are in a base, if 32 bits hold it.
+/// The number that the digits mean in a base, if 32 bits hold it.
 fn value_of(digits: &[u8], base: u8) -> Option<u32>
     requires one { 0 < base }
     requires base { base ≤ 16 }
@@ -100,7 +100,7 @@ fn value_of(digits: &[u8], base: u8) -> Option<u32>
     u32::try_from(value).ok()
 }
 
-/// The number that decimal digits are, if 32 bits hold it.
+/// The number that decimal digits mean, if 32 bits hold it.
 fn decimal(digits: &[u8]) -> Result<Sort, Cause>
     ensures { result ≡ bounded Sort.Decimal (digits_value 10 digits.now) }
 {
@@ -110,7 +110,7 @@ fn decimal(digits: &[u8]) -> Result<Sort, Cause>
     }
 }
 
-/// The number of a word whose digits in a base begin behind two bytes, if 32 bits hold it.
+/// The number that a word means in a base, if 32 bits hold it. The digits begin after two bytes.
 fn prefixed(word: &[u8], base: u8) -> Result<Sort, Cause>
     requires one { 0 < base }
     requires base { base ≤ 16 }
@@ -123,7 +123,7 @@ fn prefixed(word: &[u8], base: u8) -> Result<Sort, Cause>
     }
 }
 
-/// What a word is that begins with a digit.
+/// What a word that begins with a digit is.
 pub(crate) fn numeral(word: &[u8]) -> Result<Sort, Cause>
     ensures { result ≡ numeral word.now }
 {

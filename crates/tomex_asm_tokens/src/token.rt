@@ -20,7 +20,7 @@ pub enum Mark {
 #[derive(Clone, Copy)]
 pub enum Sort {
     Word,
-    /// A number as a local label has it: decimal, without a prefix.
+    /// A number that can be a local label: decimal, without a prefix.
     Decimal(u32),
     /// Any other number, or a character.
     Number(u32),
@@ -38,7 +38,7 @@ pub enum Sort {
 pub struct Token {
     pub sort: Sort,
     pub from: usize,
-    /// Right behind its last byte.
+    /// Right after its last byte.
     pub to: usize,
 }
 

@@ -7,4 +7,5 @@ use Rattle.tomex_asm_text.proofs.value.value_size.Given as goal
 
 abbrev pub invariant-loop-size : goal.invariant-loop-size
 invariant-loop-size l =
-    counted l.size (value_from l.is_list l.line l.position (drop l.size l.rest)) ≡ value_from l.is_list l.line Atom l.rest
+    counted l.size (value_from l.is_list l.line l.position (drop l.size l.rest))
+    ≡ value_from l.is_list l.line Atom l.rest

@@ -2,7 +2,8 @@ use Rattle.std.proofs.Common.{◌∙◌, sym, ap, refl}
 use Rattle.std.proofs.lemmas.Result.{err_from_is_err_and}
 use Rattle.tomex_asm_tokens.proofs.Lines.{with_front, tokens_skip, tokens_blank, tokens_refused, tokens_end}
 use Rattle.tomex_asm_tokens.proofs.lexing.read_tokens.Goals as goal
-use Rattle.tomex_asm_tokens.proofs.lexing.read_tokens.Goals.{then-at-next-via-then-at-next, then-at-next-via-else-at-next+then-is_blank}
+use Rattle.tomex_asm_tokens.proofs.lexing.read_tokens.Goals.{then-at-next-via-then-at-next}
+use Rattle.tomex_asm_tokens.proofs.lexing.read_tokens.Goals.{then-at-next-via-else-at-next+then-is_blank}
 
 pub loop-at-preserved-then-at-next : goal.loop-at-preserved-then-at-next
 loop-at-preserved-then-at-next g c =
