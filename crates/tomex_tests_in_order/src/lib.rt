@@ -5,6 +5,8 @@
 #[cfg(test)]
 mod arithmetic;
 #[cfg(test)]
+mod assembly;
+#[cfg(test)]
 mod broken_images;
 #[cfg(test)]
 mod cut;
