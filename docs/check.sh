@@ -10,7 +10,8 @@
 # slow` is run only with --slow, and in the repository itself: it proves and builds. A `toml` block is a
 # study, of which `tomex all` makes a report. No other block is run. The examples in the help texts are
 # run too, in the folder examples. What needs a program that isn't installed is skipped, and reported;
-# so are the slow blocks without --slow. The pages in examples are opened in a browser, if there is one.
+# so are the slow blocks without --slow. What only a terminal shows is tried on one: progress, hints, and that
+# no image is written there. The pages in examples and the program's own page are opened in a browser, if there is one.
 #
 # Only what pages show is tried here. The gate compares whole outputs: the golden cases in crates/tomex_cases.
 #
@@ -31,7 +32,7 @@ else
   find . -name out -prune -o -type f -print
 fi | tar -c -T - | tar -x -C "$work/top"
 PATH="$work/bin:$PATH" TOP=$top python3 - "$work/top" "$@" <<'PYTHON'
-import glob, os, pty, re, shutil, subprocess, sys
+import glob, os, pty, re, shutil, subprocess, sys, time
 
 copy, words = sys.argv[1], sys.argv[2:]
 slow = "--slow" in words
@@ -150,14 +151,58 @@ for command in [""] + [name for name in re.findall(r"^  (\w+)", listed, re.M) if
             begins = line[:-2] if line.endswith("..") else line + "\n"
             report("passed" if "\n" + begins in "\n" + printed else "failed", f"help {command}: {line}")
 
+
+
+def on_terminal(command, folder, output=subprocess.DEVNULL):
+    """What a command shows on the terminal of standard error, for how many seconds, and its status."""
+    above, terminal = pty.openpty()
+    start = time.monotonic()
+    running = subprocess.Popen(command.split(), cwd=folder, stdout=terminal if output is pty else output,
+                               stderr=terminal)
+    os.close(terminal)
+    pieces = []
+    while True:
+        try:
+            piece = os.read(above, 4096)
+        except OSError:  # the end, on Linux
+            piece = b""
+        if not piece:
+            break
+        pieces.append(piece)
+    status = running.wait()
+    os.close(above)
+    return b"".join(pieces).decode(errors="replace").replace("\r\n", "\n"), time.monotonic() - start, status
+
+
+def check_terminal(what, shown, right):
+    report("passed" if right else "failed", f"{what} on a terminal", "" if right else f"\n{shown!r}")
+
+
 # A refused command: on a terminal a second line names `tomex explain`, a pipe gets one line.
+hint = "tomex: `tomex explain` and these words say what it means\n"
 piped = subprocess.run(["tomex", "run", "none"], cwd=copy, stderr=subprocess.PIPE, text=True).stderr
-above, terminal = pty.openpty()
-subprocess.run(["tomex", "run", "none"], cwd=copy, stderr=terminal)
-os.close(terminal)
-shown = os.read(above, 4096).decode().replace("\r\n", "\n")
-right = piped == "tomex: cannot read none\n" and shown.startswith(piped) and "tomex explain" in shown[len(piped):]
-report("passed" if right else "failed", "a refusal on a terminal", "" if right else f"\n{shown}")
+shown, _, status = on_terminal("tomex run none", copy)
+right = (piped, shown, status) == ("tomex: cannot read none\n", piped + hint, 3)
+check_terminal("a refusal", shown, right)
+
+# An image isn't written there.
+fresh_examples()
+shown, _, status = on_terminal("tomex cut examples/mul.bin 2 1", copy, output=pty)
+check_terminal("an image", shown, (shown, status) == ("tomex: output is a terminal\n" + hint, 3))
+
+# Long work is shown, at most ten times a second, and removed at its end.
+with open("examples/ever.bin", "wb") as ever:
+    ever.write(b"\x6f\x00\x00\x00")  # jal x0,0
+LONG = [
+    ("tomex cut ever.bin 300000001 1", "of 300000000 steps", "tomex: no end\n" + hint),
+    ("tomex parts ever.bin 15000", "of at most 245760000 steps", "tomex: too long\n" + hint),
+    ("tomex all explore.toml", "of 384 configurations", ""),
+]
+for command, text, end in LONG:
+    shown, seconds, _ = on_terminal(command, "examples")
+    lines = re.fullmatch(rf"((?:\r\x1b\[K\d+ {text})+)\r\x1b\[K{re.escape(end)}", shown)
+    count = lines.group(1).count("\r") if lines else 0
+    check_terminal(command, shown[:2000], 1 <= count <= 10 * seconds + 1)
 
 # The pages that the program printed, in a browser: TOMEX_BROWSER names a script that opens a file and says what is wrong.
 browser = os.environ.get("TOMEX_BROWSER", os.path.join(os.environ["TOP"], "..", "shared", "tools", "browser"))
@@ -169,6 +214,16 @@ for made in sorted(glob.glob("examples/*.html")):
     looked = subprocess.run([browser, made], stdout=subprocess.PIPE, stderr=subprocess.STDOUT, text=True)
     shown = "" if looked.returncode == 0 else f"\n{looked.stdout[:2000]}"
     report("passed" if looked.returncode == 0 else "failed", made, shown)
+
+# The program as WebAssembly: whether it is of these sources, and its page, in a browser.
+web = os.path.join(os.environ["TOP"], "web")
+current = subprocess.run([f"{web}/build.py", "--is-current"], stdout=subprocess.PIPE, text=True)
+report("passed" if current.returncode == 0 else "failed", "web/tomex.html", f": {current.stdout}" if current.returncode else "")
+if shutil.which("node") and shutil.which("chromium"):
+    looked = subprocess.run(["node", f"{web}/try-page.mjs"], stdout=subprocess.PIPE, stderr=subprocess.STDOUT, text=True)
+    report("passed" if looked.returncode == 0 else "failed", "web/try-page.mjs", f"\n{looked.stdout[:2000]}" if looked.returncode else "")
+else:
+    report("skipped", "web/try-page.mjs", ": no browser to open the page, or no node")
 
 print(", ".join(f"{count} {outcome}" for outcome, count in counts.items()))
 sys.exit(1 if counts["failed"] else 0)

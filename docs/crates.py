@@ -5,7 +5,8 @@
   docs/crates.py --list    prints the crates by group, each with the first sentence of its root file, and in brackets
                            the kit's crates that it lists
   docs/crates.py --sizes   prints each crate's functions, and its lines of code, definitions and proofs
-  docs/crates.py --check   prints what is above a bound; the status is 1 if there is any
+  docs/crates.py --check   prints what is above a bound, and the lines that name `Wait` in crates that wait for nobody;
+                           the status is 1 if there is any
 
 A path begins at a crate and goes from a crate to one that its line lists, one step or more; the kit's crates end it.
 So the number of a crate's paths is the sum, over the crates listed, of 1 and the number of the crate listed.
@@ -17,6 +18,8 @@ os.chdir(os.path.join(os.path.dirname(os.path.abspath(__file__)), ".."))
 BOUNDS = {"crates of the product": 64, "above tomex_cycle": 4}
 PATHS = {"tomex_command": 7100, "tomex_page": 2600}
 MOST_FUNCTIONS = 100
+# What a worker does with what it shares: no lock, so nothing that may wait.
+WAIT_FOR_NOBODY = ["tomex_board", "tomex_lanes", "tomex_plateaus", "tomex_workers"]
 
 
 def read():
@@ -112,12 +115,22 @@ def sizes():
         yield f"{functions:9} {code:6} {definitions:12} {proofs:7}  {name}"
 
 
+def waiting():
+    """The lines that name `Wait` in crates that wait for nobody."""
+    for name in WAIT_FOR_NOBODY:
+        for file in sorted(glob.glob(f"crates/{name}/src/**/*.rt", recursive=True)):
+            for number, line in enumerate(open(file, encoding="utf8"), 1):
+                if re.search(r"\bWait\b", line):
+                    yield f"{file}:{number}: Wait"
+
+
 def faults():
     for what, number, _ in figures():
         bound = BOUNDS.get(what, PATHS.get(what.removeprefix("paths below "), number))
         if number > bound:
             yield f"{what}: {number}, above {bound}"
     yield from later()
+    yield from waiting()
     for name in LISTS:
         if size(name)[0] > MOST_FUNCTIONS:
             yield f"functions of {name}: {size(name)[0]}, above {MOST_FUNCTIONS}"

@@ -3,6 +3,7 @@
 //!
 //! Source: The RISC-V Instruction Set Manual, Volume I: Unprivileged ISA, version 20191213, chapters "RV32I Base
 //! Integer Instruction Set", "M Standard Extension" and "RISC-V Assembly Programmer's Handbook".
+//! Tests: tomex_tests_in_order.
 #![tactic(auto)]
 
 mod directive;

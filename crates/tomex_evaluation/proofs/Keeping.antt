@@ -79,6 +79,7 @@ module _ {A : Type 0} (config : Configuration) (steps : List Step) (run : Blocks
     different = so.different;
     few = so.few;
     count = so.count;
+    bound = so.bound;
     rows = so.rows;
     passed = λ v k. omega (arith, so.passed v k);
     shown = so.shown;
@@ -96,6 +97,7 @@ module _ {A : Type 0} (config : Configuration) (steps : List Step) (run : Blocks
     different = different;
     few = few;
     count = rw states refl;
+    bound = rw states (omega arith);
     rows = rw next (omega arith);
     passed = λ v k. absurd (omega arith);
     shown = λ v z k. absurd (omega arith);
@@ -104,7 +106,7 @@ module _ {A : Type 0} (config : Configuration) (steps : List Step) (run : Blocks
   }
 
   module _ (i : ℕ) (places : List ℕ) (state : State A) (before after : Known A) (more : HasOneMore state before after)
-      (can : CanBeKept config state) (shows : ShowsState config (history_to config steps i) state)
+      (room : length before.states.items < 32) (can : CanBeKept config state) (shows : ShowsState config (history_to config steps i) state)
       (so : AreKnown config steps run i places before) where
     there : (v : ℕ) → v < length (places ++ (i ∷ [])) → (v < length places ⊎ (v ≡ length places))
     there v l =
@@ -153,6 +155,9 @@ module _ {A : Type 0} (config : Configuration) (steps : List Step) (run : Blocks
       count =
           ap length more.states ∙ length_push before.states.items more.copy ∙ ap (λ n. n + 1) so.count
           ∙ sym (length_push places i);
+      bound =
+          let long = length_push before.states.items more.copy in
+          rw more.states (omega (arith, long, room));
       rows =
           let long : length after.next.items ≡ length before.next.items + before.different =
           ap length more.next ∙ length-append before.next.items (replicate before.different None)
@@ -184,6 +189,7 @@ module _ {A : Type 0} (config : Configuration) (steps : List Step) (run : Blocks
     different = different ∙ so.different;
     few = rw different so.few;
     count = rw states so.count;
+    bound = rw states so.bound;
     rows = rw (noted, different) (length-set before.next.items _ _ ∙ so.rows);
     passed = so.passed;
     shown = rw states so.shown;

@@ -62,7 +62,8 @@ module _ {A : Type 0} (config : Configuration) (steps : List Step) (run : Blocks
         let e : length places ≡ v = sym (new.number ∙ so.count) in
         record {
           places = places ++ (i ∷ []);
-          known = known_more config steps run i places state before after new.more new.kept shows so;
+          known = known_more config steps run i places state before after new.more new.room new.kept
+              shows so;
           number = record {
             number = omega arith;
             back = rw (get_or_push places i 0 v e) (looks_refl config 4 (history_to config steps i)

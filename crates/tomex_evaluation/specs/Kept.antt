@@ -42,10 +42,11 @@ pub record IsFound {A : Type 0} (config : Configuration) (state : State A) (befo
   pub number : v < length before.states.items
   pub alike : LookAlike config (slice_index_or before.states.items v state) state
 
--- it is kept, with the next number
+-- it is kept, with the next number; there is room for at most 32
 pub record IsNew {A : Type 0} (config : Configuration) (state : State A) (before after : Known A) (v : ℕ)
     : Type 0 where
   pub more : HasOneMore state before after
+  pub room : length before.states.items < 32
   pub number : v ≡ length before.states.items
   pub kept : CanBeKept config state
 

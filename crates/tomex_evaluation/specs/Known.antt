@@ -23,12 +23,14 @@ pub record IsEntry (config : Configuration) (steps : List Step) (run : Blocks) (
   pub state : next.state < length places
   pub went : WentThrough config steps run i (slice_index places v) number (slice_index places next.state) next.passed
 
--- each kept state shows the run up to a place that has passed, and each entry says what followed it there
+-- each kept state, of at most 32, shows the run up to a place that has passed, and each entry says what followed it
+-- there
 pub record AreKnown {A : Type 0} (config : Configuration) (steps : List Step) (run : Blocks) (i : ℕ)
     (places : List ℕ) (known : Known A) : Type 0 where
   pub different : known.different ≡ run.different
   pub few : known.different < 2 ^ 32
   pub count : length known.states.items ≡ length places
+  pub bound : length known.states.items ≤ 32
   pub rows : length known.next.items ≡ length places * known.different
   pub passed : (v : ℕ) → v < length places → slice_index places v ≤ i
   pub shown : (v : ℕ) (z : State A) → v < length places

@@ -77,7 +77,7 @@ impl<'s, A: Allocator + Clone> Evaluator<'s, A> {
         self.cut(alloc)?;
         if let Some(blocks) = &self.blocks {
             if come_again(blocks) {
-                return demands_by_blocks(alloc, self.run, blocks, config);
+                return Ok(demands_by_blocks(alloc, self.run, blocks, config)?.demands);
             }
         }
         self.run.demands(alloc, config)

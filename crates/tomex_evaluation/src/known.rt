@@ -1,6 +1,6 @@
 //! The states that are kept of a run, and what follows them.
 
-ghost use Rattle.std.specs.Prelude.{◌≡◌, ◌+◌, ◌*◌, ◌^◌, ◌<◌, ◌≤◌, [], length, All, IfOk, IfSome};
+ghost use Rattle.std.specs.Prelude.{◌≡◌, ◌↔◌, ◌+◌, ◌*◌, ◌^◌, ◌<◌, ◌≤◌, [], length, All, IfOk, IfSome, IsTrue};
 ghost use Rattle.std.specs.Prelude.{slice_index_or};
 ghost use Rattle.tomex_timing.specs.Ahead.{IsSettledBy, held_by};
 ghost use Rattle.tomex_states.specs.Reuse.{LookAlike};
@@ -77,7 +77,9 @@ impl<A: Allocator> Known<A> {
     }
 
     /// True if no more states may be kept.
-    pub(crate) fn is_full(&self) -> bool {
+    pub(crate) fn is_full(&self) -> bool
+        ensures { IsTrue result ↔ (32 ≤ length self.now.states.items) }
+    {
         self.states.len() >= MOST
     }
 

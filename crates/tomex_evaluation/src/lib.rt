@@ -13,5 +13,5 @@ mod evaluation;
 mod evaluator;
 mod known;
 
-pub use demands::demands_by_blocks;
+pub use demands::{ByBlocks, demands_by_blocks};
 pub use evaluator::Evaluator;

@@ -1,6 +1,6 @@
 -- A loop on two machines.
 use Rattle.std.proofs.Common.{ℕ, suc, ◌+◌, ◌≡◌, ◌∙◌, refl, sym, ap, arith, cond, inl, Bool, true, false, List, [], ◌∷◌}
-use Rattle.std.proofs.Common.{length, map, nat_eq, reverse, slice_index, Option}
+use Rattle.std.proofs.Common.{length, map, nat_eq, reverse, slice_index, Option, Some, None}
 use Rattle.std.specs.Option.{option_map}
 use Rattle.std.proofs.lemmas.List.{length-map}
 use Rattle.tomex_rvexec.specs.declared.step.Step.{Step}
@@ -9,16 +9,19 @@ use Rattle.tomex_timing.specs.Search.{times_in}
 use Rattle.tomex_timing.proofs.Limits.{width_low}
 use Rattle.tomex_symbols.specs.Symbols.{symbols_of}
 use Rattle.tomex_symbols.specs.Functions.{function_at}
-use Rattle.tomex_loops.specs.Runs.{innermost_of, rounds_of, visits_of}
+use Rattle.tomex_loops.specs.Runs.{here_of, innermost_of, rounds_of, visits_of}
 use Rattle.tomex_loops.proofs.EachRun.{loops_are_sound}
 use Rattle.tomex_stretches.specs.Cycles.{floor_cycles, is_key, sum_where}
 use Rattle.tomex_stretches.proofs.Cycles.{floor_cycles_add_up}
 use Rattle.tomex_stretches.proofs.Totals.{stretches_take_their_floors, sum_reverse}
 use Rattle.tomex_loop_sums.specs.Around.{around_of}
 use Rattle.tomex_loop_sums.specs.ByLoop.{loops_of, round_cycles, rounds_of_loop}
+use Rattle.tomex_loop_sums.specs.Extents.{IsExtent, is_in_visit_of}
 use Rattle.tomex_loop_sums.specs.Groups.{with_key}
+use Rattle.tomex_loop_sums.specs.declared.extents.Extent.{Extent}
 use Rattle.tomex_floor.proofs.Above.{floor_is_bound}
 use Rattle.tomex_path.proofs.FreePaths.{free_is_floor}
+use Rattle.tomex_run_views.specs.ByPlace.{pc_of}
 use Rattle.tomex_loop_views.specs.Laws.{FloorsAreWithinTheRuns, FreeRunsAreLeast, LoopsAreThePrograms}
 use Rattle.tomex_loop_views.specs.Laws.{NoMachineSavesMore}
 
@@ -64,6 +67,26 @@ many_rounds config other steps n = many_with n _ (round_cycles (issues config st
     (round_cycles (issues other steps) (rounds_of steps))
     (length-map (rounds_of steps) _ ∙ sym (length-map (rounds_of steps) _))
 
+-- the steps that pass a test have one extent
+only_extent : (passes : ℕ → Bool) (addresses : List ℕ) (a b : Option Extent) → IsExtent passes addresses a
+    → IsExtent passes addresses b → a ≡ b
+only_extent passes addresses None None is are = refl
+only_extent passes addresses None (Some b) none are =
+    absurd (cc (none are.first.step are.first.before, are.first.is))
+only_extent passes addresses (Some a) None is none = absurd (cc (none is.first.step is.first.before, is.first.is))
+only_extent passes addresses (Some a) (Some b) is are =
+    let i = is.first in
+    let j = are.first in
+    let first : a.first ≡ b.first =
+    omega (arith, is.low j.step j.before j.is, j.at, are.low i.step i.before i.is, i.at) in
+    let k = is.last in
+    let l = are.last in
+    let last : a.last ≡ b.last =
+    omega (arith, is.high l.step l.before l.is, l.at, are.high k.step k.before k.is, k.at) in
+    let with_first : ℕ → Option Extent = λ n. Some (record { first = n; last = a.last }) in
+    let with_last : ℕ → Option Extent = λ n. Some (record { first = b.first; last = n }) in
+    ap with_first first ∙ ap with_last last
+
 pub loops_are_the_programs : LoopsAreThePrograms
 loops_are_the_programs config other file steps n line others is are =
     let around : is.around ≡ are.around = is.place.around_is ∙ sym are.place.around_is in
@@ -74,6 +97,9 @@ loops_are_the_programs config other file steps n line others is are =
     is.turn.many_are ∙ many_rounds config other steps n ∙ sym are.turn.many_are in
     record {
       head = head;
+      extent = only_extent (is_in_visit_of (loops_of (visits_of steps)) (map (λ v. v.within) (visits_of steps))
+          (here_of steps) n) (map pc_of steps) line.sums.extent others.sums.extent is.place.extent_is
+          are.place.extent_is;
       function = is.place.function_is ∙ ap (λ (a : ℕ). function_at (symbols_of file) a) head
           ∙ sym are.place.function_is;
       around = is.around_is ∙ ap (λ (xs : List (Option ℕ)). around_of xs) around ∙ sym are.around_is;

@@ -21,9 +21,11 @@ abbrev pub FloorsAreWithinTheRuns : Type 0
 FloorsAreWithinTheRuns = (config : Configuration) (steps : List Step) (total : RestLine) → IsWithinLimits config
     → IsTotal config steps total → total.sums.floor ≤ floor_of (latency_of config) config.width steps
 
--- A loop's places, and how often it goes round, are the same.
+-- A loop's places, the least and the greatest address of its steps among them, and how often it goes round, are the
+-- same.
 pub record IsSameLoop (a b : LoopSums) : Type 0 where
   pub head : a.head ≡ b.head
+  pub extent : a.extent ≡ b.extent
   pub function : a.function ≡ b.function
   pub around : a.around ≡ b.around
   pub entered : a.entered ≡ b.entered

@@ -1,7 +1,7 @@
 //! Loops one in the other: which places are in which loop.
 
-ghost use Rattle.std.specs.Prelude.{◌≡◌, ℕ, ◌^◌, ◌<◌, ◌≤◌, List, Option, false, length, IfOk, IfSome, slice_index};
-ghost use Rattle.std.specs.Prelude.{slice_index_or};
+ghost use Rattle.std.specs.Prelude.{◌≡◌, ℕ, ◌+◌, ◌*◌, ◌^◌, ◌<◌, ◌≤◌, List, Option, false, length, IfOk, IfSome};
+ghost use Rattle.std.specs.Prelude.{slice_index, slice_index_or};
 ghost use Rattle.tomex_loops.specs.Jumps.{AreJumps, IsForest, next_to};
 ghost use Rattle.tomex_loops.specs.Loops.{heads_below, is_in_loop};
 ghost use Rattle.tomex_loops.specs.Ways.{AreLower, loop_in};
@@ -33,6 +33,9 @@ fn jump_from(jumps: &[u32], depths: &[u32], head: u32) -> u32
     ensures low { result ≤ head }
     ensures far { (loops : List (Option ℕ)) (v : ℕ) → AreJumps loops jumps.now → v ≤ result
         → is_in_loop (loop_in loops) v head ≡ is_in_loop (loop_in loops) v result }
+    ensures over { let near = slice_index jumps.now head in let far = slice_index jumps.now near in
+        slice_index depths.now head + slice_index depths.now far ≡ 2 * slice_index depths.now near
+        → result ≡ far }
 {
     let near = jumps[head as usize];
     let far = jumps[near as usize];

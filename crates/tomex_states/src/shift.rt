@@ -45,6 +45,7 @@ impl Window {
     fn count_under_way(&self, from: u64) -> usize
         ensures few { result ≤ 4 }
         ensures past { (i : ℕ) → result ≤ i → i < 4 → slice_index self.now.finishes i < from }
+        ensures last { (i : ℕ) → i + 1 ≡ result → from ≤ slice_index self.now.finishes i }
     {
         let mut count = 0;
         for (number, finish) in self.finishes.iter().enumerate() {

@@ -14,6 +14,10 @@ mod granting;
 #[cfg(test)]
 mod greatest;
 #[cfg(test)]
+mod hints;
+#[cfg(test)]
+mod large;
+#[cfg(test)]
 mod machines;
 #[cfg(test)]
 mod memory;

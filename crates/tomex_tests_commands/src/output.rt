@@ -9,7 +9,7 @@ use std::sync::Wait;
 use std::sync::atomic::Ordering;
 use std::test::Fail;
 use std::thread::Threads;
-use tomex_streams::NoMeter;
+use tomex_streams::{Counted, NoMeter, Progress};
 use tomex_tests_fixtures::OVERLAP;
 use tomex_tests_fixtures::in_memory::Narrow;
 
@@ -123,14 +123,36 @@ fn an_image_is_not_for_a_terminal(rt: HostRuntime) -> Result<(), Fail> {
     Ok(())
 }
 
+/// Lines on a long run, and what is shown at its start: the steps before a part, or the most that a run in stretches
+/// may have, 16,384 of them.
+static STEPS: [(&str, Progress); 2] = [
+    (
+        "tomex cut loop 999 1 --size 512",
+        Progress {
+            done: 0,
+            of: 998,
+            counted: Counted::Steps,
+        },
+    ),
+    (
+        "tomex parts loop 3 --size 512",
+        Progress {
+            done: 0,
+            of: 49_152,
+            counted: Counted::AtMostSteps,
+        },
+    ),
+];
+
 #[test]
 fn steps_are_shown_and_cleared(rt: HostRuntime) -> Result<(), Fail> {
-    let meter = LastShown::new();
-    let words = words_of(rt.alloc(), "tomex cut loop 999 1 --size 512")?;
-    let outcome = outcome_of(&rt, rt.alloc(), &files(), words.as_slice(), &meter, 10_000)?;
-    assert!(rt; outcome.status == 0 && outcome.out.len() == 84 + 512);
-    assert!(rt; meter.shows.load(Ordering::SeqCst) == 1);
-    assert!(rt; meter.of.load(Ordering::SeqCst) == 998);
-    assert!(rt; meter.clears.load(Ordering::SeqCst) == 1);
+    for (line, shown) in &STEPS {
+        let meter = LastShown::new();
+        let words = words_of(rt.alloc(), *line)?;
+        let outcome = outcome_of(&rt, rt.alloc(), &files(), words.as_slice(), &meter, 10_000)?;
+        assert!(rt; outcome.status == 0 && !outcome.out.is_empty(), "{line}");
+        assert!(rt; meter.shows.load(Ordering::SeqCst) == 1, "{line}");
+        assert!(rt; meter.is_over(*shown), "{line}");
+    }
     Ok(())
 }

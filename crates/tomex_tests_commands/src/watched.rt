@@ -7,13 +7,15 @@ use std::sync::Wait;
 use std::sync::atomic::{AtomicU64, Ordering};
 use std::test::Fail;
 use std::thread::Threads;
-use tomex_streams::{Meter, Progress};
+use tomex_streams::{Counted, Meter, Progress};
 
-/// Keeps what it showed last, and how often it showed something, was cleared and was asked for a hint.
+/// Keeps what it showed last, and how often it showed something, was cleared and was asked for a hint. What is counted
+/// is kept by its place among all that may be.
 #[derive(Drop)]
 pub struct LastShown {
     pub done: AtomicU64,
     pub of: AtomicU64,
+    pub counted: AtomicU64,
     pub shows: AtomicU64,
     pub clears: AtomicU64,
     pub hints: AtomicU64,
@@ -23,6 +25,8 @@ impl Meter for LastShown {
     fn show(&self, progress: Progress) {
         self.done.store(progress.done, Ordering::SeqCst);
         self.of.store(progress.of, Ordering::SeqCst);
+        self.counted
+            .store(progress.counted as u64, Ordering::SeqCst);
         self.shows.fetch_add(1, Ordering::SeqCst);
     }
 
@@ -41,18 +45,18 @@ impl LastShown {
         LastShown {
             done: AtomicU64::new(9),
             of: AtomicU64::new(9),
+            counted: AtomicU64::new(9),
             shows: AtomicU64::new(0),
             clears: AtomicU64::new(0),
             hints: AtomicU64::new(0),
         }
     }
 
-    /// True if two rows began, it showed last that this number of them is finished, it was cleared once, and it gave no
-    /// hint.
-    fn is_over(&self, done: u64) -> bool {
-        self.done.load(Ordering::SeqCst) == done
-            && self.of.load(Ordering::SeqCst) == 2
-            && self.shows.load(Ordering::SeqCst) == 2
+    /// True if it showed this last, was cleared once, and gave no hint.
+    pub fn is_over(&self, last: Progress) -> bool {
+        self.done.load(Ordering::SeqCst) == last.done
+            && self.of.load(Ordering::SeqCst) == last.of
+            && self.counted.load(Ordering::SeqCst) == last.counted as u64
             && self.clears.load(Ordering::SeqCst) == 1
             && self.hints.load(Ordering::SeqCst) == 0
     }
@@ -71,9 +75,10 @@ fn watched<R: AllocGlobal + Threads + Wait + Sync>(
 
 /// Lines that evaluate both rows, and how many they say are finished last: with one worker the first when the second
 /// begins, with two workers none.
-static DONE: [(&str, u64); 9] = [
+static DONE: [(&str, u64); 10] = [
     ("tomex all priced", 1),
     ("tomex explore priced", 1),
+    ("tomex explore priced --workers 2", 0),
     ("tomex rows priced", 1),
     ("tomex worth priced 1", 1),
     ("tomex worth priced row=1", 1),
@@ -88,7 +93,13 @@ fn a_meter_hears_how_far_it_is(rt: HostRuntime) -> Result<(), Fail> {
     for (line, done) in &DONE {
         let (outcome, meter) = watched(&rt, line)?;
         assert!(rt; outcome.status == 0 && outcome.err.is_empty(), "{line}");
-        assert!(rt; meter.is_over(*done), "{line}");
+        let last = Progress {
+            done: *done,
+            of: 2,
+            counted: Counted::Configurations,
+        };
+        assert!(rt; meter.is_over(last), "{line}");
+        assert!(rt; meter.shows.load(Ordering::SeqCst) == 2, "{line}");
     }
     Ok(())
 }

@@ -18,7 +18,7 @@ const LONG: [u32; 6] = [
 ];
 
 /// `jal x0,0`
-const EVER: [u32; 1] = [0x0000006f];
+pub(crate) const EVER: [u32; 1] = [0x0000006f];
 
 /// The bytes of `addi x5,x0,10; mul x6,x6,x5; addi x5,x5,-1; bne x5,x0,-8; ebreak`: 32 steps
 pub(crate) const TURNS_BYTES: [u8; 20] = [
@@ -46,32 +46,48 @@ fn the_greatest_part(rt: HostRuntime) -> Result<(), Fail> {
     Ok(())
 }
 
-/// Counts the reports, and keeps the number of steps of the last one.
+/// Counts the reports, and keeps the steps of the last one, and of how many they are.
 #[derive(Drop)]
-struct Reports {
+pub(crate) struct Reports {
     times: AtomicU64,
     steps: AtomicU64,
+    of: AtomicU64,
+}
+
+impl Reports {
+    /// None yet.
+    pub(crate) fn new() -> Reports {
+        Reports {
+            times: AtomicU64::new(0),
+            steps: AtomicU64::new(0),
+            of: AtomicU64::new(0),
+        }
+    }
+
+    /// How many there were, and what the last one said.
+    pub(crate) fn heard(&self) -> [u64; 3] {
+        [
+            self.times.load(Ordering::SeqCst),
+            self.steps.load(Ordering::SeqCst),
+            self.of.load(Ordering::SeqCst),
+        ]
+    }
 }
 
 impl Watch for Reports {
     fn passed(&self, steps: u64, of: u64) {
         self.times.fetch_add(1, Ordering::SeqCst);
-        if of == 3_000_000 {
-            self.steps.store(steps, Ordering::SeqCst);
-        }
+        self.steps.store(steps, Ordering::SeqCst);
+        self.of.store(of, Ordering::SeqCst);
     }
 }
 
 #[test]
 fn long_runs_report_their_steps(rt: HostRuntime) -> Result<(), Fail> {
     let image = image_of(rt.alloc(), 0, 320, &EVER)?;
-    let reports = Reports {
-        times: AtomicU64::new(0),
-        steps: AtomicU64::new(0),
-    };
-    let found = cut(rt.alloc(), &image, 3_000_001, 1, &reports);
+    let reports = Reports::new();
+    let found = cut(rt.alloc(), &image, 20_000_001, 1, &reports);
     assert!(rt; found.err() == Some(CutError::NoEnd));
-    assert!(rt; reports.times.load(Ordering::SeqCst) == 3);
-    assert!(rt; reports.steps.load(Ordering::SeqCst) == 2_097_152);
+    assert!(rt; reports.heard() == [20, 19_922_944, 20_000_000]);
     Ok(())
 }

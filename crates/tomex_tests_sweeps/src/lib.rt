@@ -1,8 +1,10 @@
 //! Tests of explorations, of what no contract and no golden case says: rows that are dropped, runs that rows share, the
-//! boards and the lanes of workers, workers that are held, threads and memory that are refused, and memory that is
-//! used again.
+//! boards and the lanes of workers, workers that are held, a worker without a runtime, threads and memory that are
+//! refused, and memory that is used again.
 #![tactic(auto)]
 
+#[cfg(test)]
+mod alone;
 #[cfg(test)]
 mod answers;
 #[cfg(test)]

@@ -3,12 +3,14 @@
 use std::alloc::{AllocError, Allocator, Global};
 use std::test::Fail;
 use tomex_config::{Config, UnitOption};
-use tomex_cycle::{Machine, Progress};
+use tomex_cycle::{Machine, Progress, Tables};
 use tomex_image::Image;
+use tomex_rvdec::{Op, PoolId};
 use tomex_rvexec::End;
 use tomex_tests_fixtures::image_of;
 use tomex_tests_fixtures::machines::{PLAIN, config_of, unit};
 use tomex_tests_fixtures::programs::{LOOP_WORDS, PRODUCT_WORDS};
+use tomex_timing::Tag;
 
 mod faults;
 
@@ -216,14 +218,33 @@ fn a_long_wait_is_skipped(rt: HostRuntime) -> Result<(), Fail> {
     Ok(())
 }
 
-/// True if the run continues through a million ticks and one, and the tables are those of this cycle.
+/// True if the run continues through a million ticks and one.
 fn continues<A: Allocator>(machine: &mut Machine<A>) -> bool {
     for _ in 0..1000001 {
         if !matches!(tick(machine), Progress::Running) {
             return false;
         }
     }
-    machine.tables().cycle() == 1000001
+    true
+}
+
+/// The first station of the alu.
+const ALU0: Tag = Tag {
+    pool: PoolId::Alu,
+    number: 0,
+};
+
+/// True if the tables are those of this cycle, and one station is busy: that one, with a JAL.
+fn hold_a_jal(tables: &Tables, cycle: u64) -> bool {
+    let mut busy = 0u32;
+    let mut is_right = tables.cycle() == cycle;
+    for station in tables.busy() {
+        if let Some(station) = station {
+            busy = busy.wrapping_add(1);
+            is_right = is_right && station.tag == ALU0 && station.instr.op() == Op::Jal;
+        }
+    }
+    is_right && busy == 1
 }
 
 /// No machine can know this run in advance: `jal x0,0` has no end.
@@ -233,5 +254,6 @@ fn a_jump_to_itself_runs_on(rt: HostRuntime) -> Result<(), Fail> {
     let image = image_at_0(&rt, &[0x0000006f])?;
     let mut machine = machine_of(&rt, &image, &config)?;
     assert!(rt; continues(&mut machine));
+    assert!(rt; hold_a_jal(&machine.tables(), 1000001));
     Ok(())
 }

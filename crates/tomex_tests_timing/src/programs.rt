@@ -17,6 +17,16 @@ pub const LOOP: Program = Program {
     words: &LOOP_WORDS,
 };
 
+/// `addi x1,x0,400; andi x2,x1,1; beq x2,x0,8; addi x3,x3,1; addi x1,x1,-1; bne x1,x0,-16; ebreak`: 400 rounds, in
+/// every other one of which the third step of the loop is left out.
+pub const IN_TURN: Program = Program {
+    base: 0,
+    size: 4096,
+    words: &[
+        0x19000093, 0x0010f113, 0x00010463, 0x00118193, 0xfff08093, 0xfe0098e3, 0x00100073,
+    ],
+};
+
 /// `addi x8,x0,256; addi x1,x0,768; mul x3,x1,x1; sw x1,0(x8); lb x2,1(x8); add x4,x3,x2; ebreak`
 pub const FOLLOWED: Program = Program {
     base: 0,

@@ -18,7 +18,7 @@ evaluate-requires-clause-block g c =
 
 pub evaluate-requires-clause-at : goal.evaluate-requires-clause-at
 evaluate-requires-clause-at g c =
-    let before = c.loop-next.invariant in
+    let before = c.loop-next.invariant.before in
     let l : c.loop-next.next < length c.args.blocks.now.blocks =
     omega (arith, c.loop-next-test.true, ap length c.blocks-row.ensures) in
     let first = (row_next before.place (length c.args.run.now) c.loop-next.next c.args.blocks.now.blocks nothing l
@@ -27,14 +27,14 @@ evaluate-requires-clause-at g c =
 
 pub total-requires : goal.total-requires
 total-requires g c =
-    let before = c.loop-next.invariant in
+    let before = c.loop-next.invariant.before in
     let e : length c.args.blocks.now.blocks ≡ c.loop-next.next =
     omega (arith, c.loop-next-test.false, ap length c.blocks-row.ensures, before.within) in
     rw e before
 
-pub returns : goal.returns
-returns g c =
-    let before = c.loop-next.invariant in
+pub returns-clause-demands : goal.returns-clause-demands
+returns-clause-demands g c =
+    let before = c.loop-next.invariant.before in
     let e : length c.args.blocks.now.blocks ≡ c.loop-next.next =
     omega (arith, c.loop-next-test.false, ap length c.blocks-row.ensures, before.within) in
     demands_there c.args.config.now c.args.run.now c.args.blocks.now before.cut c.loop-next.evaluation c.total.result
