@@ -1,9 +1,12 @@
-//! Tests of instructions, images, symbols of files, the in-order machine and parts of runs. They test what no contract
-//! says, compare with results from other programs or from a slow search, and refuse each growth of each call in turn.
+//! Tests of instructions, images, symbols of files, texts in assembly, the in-order machine and parts of runs. They test
+//! what no contract says, compare with results from other programs or from a slow search, and refuse each growth of each
+//! call in turn.
 #![tactic(auto)]
 
 #[cfg(test)]
 mod arithmetic;
+#[cfg(test)]
+mod assembly;
 #[cfg(test)]
 mod broken_images;
 #[cfg(test)]

@@ -1,0 +1,6 @@
+-- Lemmas of the crate.
+pub mod Ends
+pub mod BareBytes
+pub mod Lines
+pub mod Capped
+pub mod Rows
