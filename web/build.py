@@ -212,8 +212,8 @@ def wasm_of(module, place):
 
 def sources():
     """What the page is made of: the product's sources, this folder's, and the examples that the page names."""
-    found = [f"{TOP}/crates.txt"]
-    for name in sorted(below("tomex", crates())):
+    found = []
+    for name in below("tomex", crates()):
         for folder, _, files in os.walk(f"{TOP}/crates/{name}/src"):
             found += [f"{folder}/{file}" for file in files]
     found += [f"{HERE}/{it}" for it in os.listdir(HERE) if "." in it and it not in BESIDE]
@@ -223,7 +223,8 @@ def sources():
 
 
 def sum_of_sources():
-    total = hashlib.sha256()
+    lists = crates()
+    total = hashlib.sha256(repr(sorted((name, lists[name]) for name in below("tomex", lists))).encode())
     for file in sources():
         with open(file, "rb") as it:
             total.update(f"{os.path.relpath(file, TOP)} {hashlib.sha256(it.read()).hexdigest()}\n".encode())
