@@ -236,8 +236,10 @@ def build(page, module, folder, place):
     if not module:
         module = f"{folder}/module.bc"
         module_of(os.path.abspath(os.environ.get("BUILT", TOP)), module, place)
-    wasm = shutil.copy(wasm_of(module, place), folder)
+    wasm = wasm_of(module, place)
     run("node", f"{HERE}/pack.mjs", wasm, page)
+    if folder != place:
+        shutil.copy(wasm, folder)
 
 
 def is_current():
