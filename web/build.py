@@ -4,7 +4,7 @@
   web/build.py                  builds it, and web/tomex.sum
   web/build.py --check          builds it in a folder of its own, and compares it with the one that is there
   web/build.py --is-current     says whether web/tomex.sum is of these sources; builds nothing, needs only Python
-  web/build.py --module FILE    begins with the LLVM module that an earlier build left in web/out
+  web/build.py --module FILE    begins with a module that an earlier build left in web/out: LLVM's, or WebAssembly's
 
 The crates below `tomex` have to be built first: by `rt ci`, or by `rt lib` in crates/tomex_command. BUILT names another
 checkout of the same sources that has them. Needs the kit, node, and of Debian's packages binaryen, libclang-common-14-dev
@@ -236,9 +236,9 @@ def build(page, module, folder, place):
     if not module:
         module = f"{folder}/module.bc"
         module_of(os.path.abspath(os.environ.get("BUILT", TOP)), module, place)
-    wasm = wasm_of(module, place)
+    wasm = module if module.endswith(".wasm") else wasm_of(module, place)
     run("node", f"{HERE}/pack.mjs", wasm, page)
-    if folder != place:
+    if os.path.dirname(wasm) != folder:
         shutil.copy(wasm, folder)
 
 

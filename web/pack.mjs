@@ -22,7 +22,12 @@ const examples = Object.fromEntries(
 /** What the page's modules find in it: the program's module, files of examples, and the text of the worker. */
 const FINDERS = `
 const held = (id) => document.getElementById(id).textContent;
-const bytesOf = (text) => Uint8Array.from(atob(text), (byte) => byte.charCodeAt(0));
+function bytesOf(text) {
+  const characters = atob(text);
+  const bytes = new Uint8Array(characters.length);
+  for (let at = 0; at < bytes.length; at += 1) bytes[at] = characters.charCodeAt(at);
+  return bytes;
+}
 const unpacked = (bytes) => new Response(new Blob([bytes]).stream().pipeThrough(new DecompressionStream("gzip")));
 globalThis.tomexModule = unpacked(bytesOf(held("module"))).arrayBuffer().then((bytes) => WebAssembly.compile(bytes));
 const examples = JSON.parse(held("examples"));
