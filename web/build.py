@@ -7,9 +7,9 @@
   web/build.py --module FILE    begins with a module that an earlier build left in web/out: LLVM's, or WebAssembly's
 
 The crates below `tomex` have to be built first: by `rt ci`, or by `rt lib` in crates/tomex_command. BUILT names another
-checkout of the same sources that has them. Needs the kit, node, and of Debian's packages binaryen, libclang-common-14-dev
-and emscripten, of which only three files of C are taken (`apt-get download emscripten` is enough: EMSCRIPTEN names the
-folder where it is unpacked).
+checkout of the same sources that has them. Needs the kit, node, and of Debian's packages binaryen,
+libclang-common-14-dev and emscripten, of which only four files of C are taken (`apt-get download emscripten` is enough:
+EMSCRIPTEN names the folder where it is unpacked).
 
 `rattle build` proves `tomex` and lowers the whole program to one LLVM module, which it gives the clang of a toolchain
 folder to compile. Here that folder's clang keeps the module. It was made for x86-64: its few lines that name the target
@@ -39,6 +39,10 @@ HEAP = """-DUSE_DL_PREFIX=1 -DHAVE_MMAP=0 -DMORECORE=more_core -DMORECORE_CANNOT
  -DABORT=__builtin_trap() -DEINVAL=22 -DENOMEM=12 -Dmemcpy=__builtin_memcpy -Dmemset=__builtin_memset
  -DLACKS_SYS_TYPES_H -DLACKS_UNISTD_H -DLACKS_SYS_PARAM_H -DLACKS_SYS_MMAN_H -DLACKS_STRING_H -DLACKS_STRINGS_H
  -DLACKS_STDLIB_H -DLACKS_ERRNO_H -DLACKS_TIME_H -DLACKS_SCHED_H -DLACKS_FCNTL_H""".split()
+
+# What clang's processor lime1 has of WebAssembly, for binaryen, and the memory of 64 bits that is to go.
+FEATURES = """memory64 bulk-memory sign-ext nontrapping-float-to-int
+ mutable-globals multivalue reference-types""".split()
 
 # What of this folder isn't in the page.
 BESIDE = {"tomex.html", "tomex.sum", "README.md", "tomex.mjs", "packed.mjs", "golden.mjs", "cases.mjs", "chromium.mjs",
@@ -191,7 +195,7 @@ def wasm_of(module, place):
     ours = ["-O2", "-fwrapv", "-ffreestanding", "-fno-builtin", "-nostdinc", "-x", "c"]
     theirs = ["-O2", "-nostdinc", "-isystem", HEADERS, "-x", "c"]
     builtins = [f"{EMSCRIPTEN}/compiler-rt/lib/builtins/{name}.c" for name in ("multi3", "ashlti3", "lshrti3")]
-    objects = [object_of("module", os.environ.get("LEVEL", "-O2"), "-x", "ir", "module.ll")]
+    objects = [object_of("module", "-O2", "-x", "ir", "module.ll")]
     objects += [object_of("libc", *ours, f"{HERE}/libc.c")]
     objects += [object_of("heap", *theirs, *HEAP, "-include", "heap.h", f"{EMSCRIPTEN}/dlmalloc.c")]
     objects += [object_of(os.path.basename(it)[:-2], *theirs, it) for it in builtins]
@@ -202,8 +206,8 @@ def wasm_of(module, place):
         wide = with_small_table(it.read())
     with open("wide.wasm", "wb") as it:
         it.write(wide)
-    options = "--enable-memory64 --enable-bulk-memory --enable-sign-ext --enable-nontrapping-float-to-int --enable-mutable-globals --enable-multivalue --enable-reference-types".split()
-    run("wasm-opt", *options, "--memory64-lowering", *os.environ.get("OPT", "-O2").split(), "wide.wasm", "-o", "tomex.wasm")
+    enabled = [f"--enable-{it}" for it in FEATURES]
+    run("wasm-opt", *enabled, "--memory64-lowering", "-O2", "wide.wasm", "-o", "tomex.wasm")
     return f"{place}/tomex.wasm"
 
 

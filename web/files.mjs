@@ -73,7 +73,8 @@ export async function editFile(name) {
 export function takeTyped() {
   const text = at("text").value;
   const bytes = isHex ? bytesOfHex(text) : text;
-  at("wrong").textContent = bytes === undefined ? "These aren't pairs of hexadecimal digits: the file stays as it was." : "";
+  const wrong = "These aren't pairs of hexadecimal digits: the file stays as it was.";
+  at("wrong").textContent = bytes === undefined ? wrong : "";
   if (bytes !== undefined) files.set(edited, new Blob([bytes]));
   listFiles();
   changed();

@@ -42,7 +42,8 @@ function within(attributes, text) {
   return `<script ${attributes}>${text}</script>`;
 }
 
-const script = FINDERS + bundled("bytes.mjs", "dom.mjs", "words.mjs", "views.mjs", "runner.mjs", "files.mjs", "output.mjs", "page.mjs");
+const MODULES = ["bytes.mjs", "dom.mjs", "words.mjs", "views.mjs", "runner.mjs", "files.mjs", "output.mjs", "page.mjs"];
+const script = FINDERS + bundled(...MODULES);
 const hash = crypto.createHash("sha256").update(script).digest("base64");
 // No address is allowed but those that the page makes itself: so nothing can be sent anywhere.
 const policy = [

@@ -91,7 +91,7 @@ function showAnswer() {
   if (hasAsked && matchMedia("(max-width: 60rem)").matches) at("form").scrollIntoView();
 }
 
-/** The commands, one after another; what they print takes the place of what was shown, once the first one has printed. */
+/** The commands, one after another. What they print takes the place of what was shown, once the first has printed. */
 async function carryOut(commands, name, target) {
   stop();
   markQuestion(name);

@@ -7,8 +7,11 @@ const ERASE = "\r\x1b[K";
 /** The line that the program writes on a terminal after a refusal: here a button says it. */
 const HINT = /^tomex: `tomex explain`.*\n/m;
 
+/** A line of progress that another one, or nothing, was written over. */
+const PROGRESS = /\r\x1b\[K[^\r\n]*(?=\r|$)/g;
+
 /** What a run wrote on standard error, without its progress and the hint. */
-const refusalIn = (text) => text.replace(/\r\x1b\[K[^\r\n]*(?=\r|$)/g, "").replaceAll(ERASE, "").replace(HINT, "").trim();
+const refusalIn = (text) => text.replace(PROGRESS, "").replaceAll(ERASE, "").replace(HINT, "").trim();
 
 /** The run that is under way, if there is one. */
 let current;

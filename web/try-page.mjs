@@ -47,16 +47,16 @@ const SHOWN = `(() => {
 const STATE = 'document.getElementById("state").textContent';
 const SAID = 'document.getElementById("said").textContent';
 const IDLE = 'document.getElementById("outputs").getAttribute("aria-busy") === "false"';
-const withoutEnds = (text) => text.replace(/ +$/gm, "");
 
 /** Text that hardly stands out from what it stands on: contrast below 4.5. */
 const FAINT = `(() => {
-  const parts = (color) => { const all = color.match(/[\\d.]+/g).map(Number); return all.length > 3 ? all : [...all, 1]; };
+  const parts = (color) => [...color.match(/[\\d.]+/g).map(Number), 1].slice(0, 4);
   const over = (top, below) => [0, 1, 2].map((at) => top[at] * top[3] + below[at] * (1 - top[3])).concat(1);
   const light = (color) => color.slice(0, 3).map((part) => part / 255)
     .map((part) => (part <= 0.04045 ? part / 12.92 : ((part + 0.055) / 1.055) ** 2.4))
     .reduce((sum, part, at) => sum + part * [0.2126, 0.7152, 0.0722][at], 0);
-  const behind = (it) => it ? over(parts(getComputedStyle(it).backgroundColor), behind(it.parentElement)) : [255, 255, 255, 1];
+  const ownGround = (it) => parts(getComputedStyle(it).backgroundColor);
+  const behind = (it) => (it ? over(ownGround(it), behind(it.parentElement)) : [255, 255, 255, 1]);
   const hasText = (it) => [...it.childNodes].some((node) => node.nodeType === 3 && node.data.trim());
   return [...document.querySelectorAll("body *")]
     .filter((it) => it.checkVisibility() && !it.disabled && hasText(it) && it.tagName !== "SCRIPT")
@@ -81,7 +81,8 @@ class Page {
   async click(selector, text = "") {
     const found = `[...document.querySelectorAll(${JSON.stringify(selector)})]
       .filter((it) => (it.getAttribute("aria-label") ?? it.textContent).includes(${JSON.stringify(text)}))`;
-    check(`one ${selector} says ${text}`, (await this.value(`${found}.length`)) === 1, await this.value(`${found}.length`));
+    const count = await this.value(`${found}.length`);
+    check(`one ${selector} says ${text}`, count === 1, count);
     await this.value(`${found}[0]?.click()`);
     await this.chromium.until(IDLE);
   }
@@ -117,7 +118,7 @@ async function tryFirstView(page, url) {
   await page.chromium.until("document.querySelector('.output pre')");
   const milliseconds = Date.now() - begun;
   await page.chromium.until(IDLE);
-  check("the front is the program's", withoutEnds(await page.value(SHOWN)) === withoutEnds(printed("front", "explore.toml")));
+  check("the front is the program's", (await page.value(SHOWN)) === printed("front", "explore.toml"));
   check("its picture is there", (await page.value("document.querySelectorAll('.output iframe').length")) === 1);
   return milliseconds;
 }
@@ -142,14 +143,16 @@ async function tryRows(page) {
   await page.picture("report");
   await page.value(`${inside}.querySelector("#r132 .more button").click()`);
   await page.chromium.until(`${IDLE} && document.querySelector(".output pre")`);
-  check("a row of the report leads to its loops", (await page.value(SHOWN)) === printed("loops", "explore.toml", "132", "matrix"));
+  const loops = printed("loops", "explore.toml", "132", "matrix");
+  check("a row of the report leads to its loops", (await page.value(SHOWN)) === loops);
 }
 
 async function tryEditing(page) {
   await page.click("#files button", "Edit explore.toml");
   await page.type("#text", '[[program]]\nname = "matrix"\nfile = "matrix.elf"\nbase = 65536\n[axes]\nalu = [1, 2]\n');
   await page.click(".questions button", "Which machines");
-  check("an edited study has two machines", (await page.value(SHOWN)).trim().split("\n").length <= 3, await page.value(SHOWN));
+  const front = await page.value(SHOWN);
+  check("an edited study has at most two machines", front.trim().split("\n").length <= 3, front);
   await page.type("#text", "alu = 1");
   await page.click(".questions button", "Which machines");
   check("a refusal is the program's", (await page.value(SAID)).startsWith("tomex: study: "), await page.value(SAID));
@@ -161,7 +164,8 @@ async function tryEditing(page) {
 
 async function tryCommands(page) {
   await page.command("cut primes.elf 1000 500 --base 65536 > 'a part.elf'");
-  check("a part is among the files", (await page.value(STATE)).includes("a part.elf is among the files"), await page.value(SAID));
+  const state = await page.value(STATE);
+  check("a part is among the files", state.includes("a part.elf is among the files"), state);
   await page.command("run 'a part.elf' --base 65536");
   check("it runs", (await page.value(SHOWN)).includes("x10="), await page.value(SAID));
   await page.command("run 'no end");
@@ -185,10 +189,12 @@ async function tryFiles(page) {
   await page.command("run 'file 7.bin'");
   check("a file with a blank in its name runs", (await page.value(SHOWN)).includes("ebreak"), await page.value(SAID));
   await page.command("run large.bin");
-  check("a file of 300 MB is refused", (await page.value(SAID)) === "tomex: cannot read large.bin", await page.value(SAID));
+  const tooLong = await page.value(SAID);
+  check("a file of 300 MB is refused", tooLong === "tomex: cannot read large.bin", tooLong);
   fs.rmSync(made[8]);
   await page.command("run 'file 8.bin'");
-  check("a file that is gone is refused", (await page.value(SAID)) === "tomex: cannot read file 8.bin", await page.value(SAID));
+  const gone = await page.value(SAID);
+  check("a file that is gone is refused", gone === "tomex: cannot read file 8.bin", gone);
   fs.rmSync(room, { recursive: true });
 }
 
@@ -196,7 +202,8 @@ async function tryStopping(page) {
   await page.value("document.getElementById('example').value = 0, document.getElementById('example').onchange()");
   await page.chromium.until(IDLE);
   await page.click("#files button", "Edit explore.toml");
-  const lists = ["alu", "mul", "load", "store", "bru", "div", "buses"].map((part) => `${part} = [1, 2, 3, 4]\n`).join("");
+  const parts = ["alu", "mul", "load", "store", "bru", "div", "buses"];
+  const lists = parts.map((part) => `${part} = [1, 2, 3, 4]\n`).join("");
   await page.type("#text", `[[program]]\nname = "matrix"\nfile = "matrix.elf"\nbase = 65536\n[axes]\n${lists}`);
   await page.value("document.querySelector('[data-question=choices]').click()");
   await page.chromium.until(`/^\\d+ of \\d+ configurations$/.test(${STATE})`);
@@ -214,14 +221,16 @@ async function tryKeys(page) {
   const focused = await page.value("document.activeElement.textContent");
   await page.chromium.key("Enter", "\r");
   await page.chromium.until(IDLE);
-  check("Enter asks the question that has the focus", (await page.value("document.querySelector('[aria-pressed=true]').textContent")) === focused, focused);
+  const asked = await page.value("document.querySelector('[aria-pressed=true]').textContent");
+  check("Enter asks the question that has the focus", asked === focused, focused);
 }
 
 async function tryLooks(page) {
   for (const [width, height] of [[1280, 900], [400, 800]]) {
     await page.chromium.size(width, height);
     for (const scheme of ["light", "dark"]) {
-      await page.chromium.ask("Emulation.setEmulatedMedia", { features: [{ name: "prefers-color-scheme", value: scheme }] });
+      const features = [{ name: "prefers-color-scheme", value: scheme }];
+      await page.chromium.ask("Emulation.setEmulatedMedia", { features });
       const over = "document.documentElement.scrollWidth - document.documentElement.clientWidth";
       check(`nothing is wider than ${width} pixels`, (await page.value(over)) <= 0, await page.value(over));
       const faint = await page.value(FAINT);
@@ -238,10 +247,16 @@ async function tryLooks(page) {
 
 /** What the browser asked for, or complained of. */
 function complaints(chromium) {
-  const asked = chromium.events.filter(({ method }) => method === "Network.requestWillBeSent").map(({ params }) => params.request.url);
+  const events = (...methods) => chromium.events.filter(({ method }) => methods.includes(method));
+  const asked = events("Network.requestWillBeSent").map(({ params }) => params.request.url);
   const outside = asked.filter((url) => !/^(blob:|data:|about:)/.test(url) && !/tomex\.html$/.test(url));
-  const said = chromium.events.filter(({ method }) => method === "Log.entryAdded" || method === "Runtime.exceptionThrown");
+  const said = events("Log.entryAdded", "Runtime.exceptionThrown");
   return [...outside, ...said.map(({ params }) => params.entry?.text ?? params.exceptionDetails.text)];
+}
+
+function checkQuiet(where) {
+  const found = complaints(chromium);
+  check(`nothing is asked for or complained of, ${where}`, !found.length, found.join("; "));
 }
 
 const chromium = await Chromium.start();
@@ -260,10 +275,10 @@ try {
     await page.value("document.getElementById('example').value = 0, document.getElementById('example').onchange()");
     await chromium.until(IDLE);
   }
-  check("nothing is asked for or complained of, from a file", !complaints(chromium).length, complaints(chromium).join("; "));
+  checkQuiet("from a file");
   await new Promise((done) => server.listen(0, "127.0.0.1", done));
   await tryFirstView(page, `http://127.0.0.1:${server.address().port}/tomex.html`);
-  check("nothing is asked for or complained of, from a server", !complaints(chromium).length, complaints(chromium).join("; "));
+  checkQuiet("from a server");
   console.log(`from opening the page to its first table: ${milliseconds} ms`);
 } catch (error) {
   check("the page", false, error.stack);

@@ -34,7 +34,10 @@ export const EXAMPLES = [
   },
 ];
 
-/** The questions about a study, then those about a run on one of its machines. `more` is printed below the first answer. */
+/**
+ * The questions about a study, and below those about a run on one of its machines: titles, and the words of commands.
+ * What `more` prints is shown below the first answer.
+ */
 export const STUDY_QUESTIONS = {
   front: {
     title: "Which machines are worth their price?",
