@@ -204,7 +204,8 @@ for command, text, end in LONG:
     count = lines.group(1).count("\r") if lines else 0
     check_terminal(command, shown[:2000], 1 <= count <= 10 * seconds + 1)
 
-# The pages that the program printed, in a browser: TOMEX_BROWSER names a script that opens a file and says what is wrong.
+# The pages that the program printed, in a browser: TOMEX_BROWSER names a script that opens a file and says what is
+# wrong.
 browser = os.environ.get("TOMEX_BROWSER", os.path.join(os.environ["TOP"], "..", "shared", "tools", "browser"))
 fresh_examples()
 for made in sorted(glob.glob("examples/*.html")):
@@ -218,10 +219,11 @@ for made in sorted(glob.glob("examples/*.html")):
 # The program as WebAssembly: whether it is of these sources, and its page, in a browser.
 web = os.path.join(os.environ["TOP"], "web")
 current = subprocess.run([f"{web}/build.py", "--is-current"], stdout=subprocess.PIPE, text=True)
-report("passed" if current.returncode == 0 else "failed", "web/tomex.html", f": {current.stdout}" if current.returncode else "")
+report("failed" if current.returncode else "passed", "web/tomex.html", f": {current.stdout}")
 if shutil.which("node") and shutil.which("chromium"):
-    looked = subprocess.run(["node", f"{web}/try-page.mjs"], stdout=subprocess.PIPE, stderr=subprocess.STDOUT, text=True)
-    report("passed" if looked.returncode == 0 else "failed", "web/try-page.mjs", f"\n{looked.stdout[:2000]}" if looked.returncode else "")
+    looked = subprocess.run(["node", f"{web}/try-page.mjs"], stdout=subprocess.PIPE, stderr=subprocess.STDOUT,
+                            text=True)
+    report("failed" if looked.returncode else "passed", "web/try-page.mjs", f"\n{looked.stdout[:2000]}")
 else:
     report("skipped", "web/try-page.mjs", ": no browser to open the page, or no node")
 

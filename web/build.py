@@ -251,7 +251,7 @@ def is_current():
     if os.path.exists(sums) and f"sources {sum_of_sources()}" in read(sums).splitlines():
         print("web/tomex.html is of these sources")
         return True
-    print("web/tomex.html is of older sources: web/build.py makes it anew")
+    print("web/tomex.html is of older sources: web/build.py builds it again")
     return False
 
 
