@@ -11,7 +11,8 @@ use Rattle.tomex_rvexec.specs.declared.end.RunError.{RunError}
 use Rattle.tomex_rvexec.specs.declared.end.RunError.TheVariants as runs
 use Rattle.tomex_rvexec.specs.Machine.{State}
 use Rattle.tomex_rvexec.specs.Run.{RunEnds, IsRefusal}
-use Rattle.tomex_rvexec.specs.Texts.{hex8, name_of_end}
+use Rattle.tomex_rvdec.specs.Text.{hex8}
+use Rattle.tomex_rvexec.specs.Texts.{name_of_end}
 use Rattle.tomex_command.specs.declared.run.RunRefusal.{RunRefusal}
 use Rattle.tomex_command.specs.declared.run.RunRefusal.TheVariants.{Image, Fault, TooLong, Memory}
 

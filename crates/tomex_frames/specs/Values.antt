@@ -6,7 +6,7 @@ use Rattle.tomex_image.specs.Image.{Loaded}
 use Rattle.tomex_rvexec.specs.History.{IsFlow, byte_after, register_after}
 use Rattle.tomex_rvexec.specs.Results.{result_of}
 use Rattle.tomex_rvexec.specs.Steps.{is_number, j_of, k_of, step_dest}
-use Rattle.tomex_rvexec.specs.Texts.{hex8}
+use Rattle.tomex_rvdec.specs.Text.{hex8}
 use Rattle.tomex_rvexec.specs.declared.step.Operand.{Operand}
 use Rattle.tomex_rvexec.specs.declared.step.Step.{Step}
 use Rattle.tomex_snapshots.specs.declared.entries.Entry.{Entry}

@@ -3,8 +3,7 @@
 ghost use Rattle.std.specs.Prelude.{◌≡◌, ◌++◌, ◌∷◌, [], OnOk, map};
 ghost use Rattle.std.specs.Fmt.{decimal};
 ghost use Rattle.csv.specs.Records.{fields_of, partial_of};
-ghost use Rattle.tomex_rvdec.specs.Text.{instr_text};
-ghost use Rattle.tomex_rvexec.specs.Texts.{hex8};
+ghost use Rattle.tomex_rvdec.specs.Text.{hex8, instr_text};
 
 use csv::ByteRecord;
 use std::alloc::AllocError;

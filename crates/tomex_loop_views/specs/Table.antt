@@ -6,7 +6,7 @@ use Rattle.std.specs.Option.{option_map}
 use Rattle.std.specs.List.{flat_map}
 use Rattle.std.specs.Fmt.{decimal}
 use Rattle.std.specs.declared.cmp.Reverse.{Reverse}
-use Rattle.tomex_rvexec.specs.Texts.{hex8}
+use Rattle.tomex_rvdec.specs.Text.{hex8}
 use Rattle.tomex_layout.specs.Csv.{record_text}
 use Rattle.tomex_functions.specs.ShownNames.{name_field}
 use Rattle.tomex_path_views.specs.ByReason.{name_of_reason}

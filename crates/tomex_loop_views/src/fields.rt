@@ -5,7 +5,7 @@ ghost use Rattle.std.specs.List.{flat_map};
 ghost use Rattle.std.specs.Fmt.{decimal};
 ghost use Rattle.std.specs.Option.{option_map};
 ghost use Rattle.csv.specs.Records.{fields_of, partial_of};
-ghost use Rattle.tomex_rvexec.specs.Texts.{hex8};
+ghost use Rattle.tomex_rvdec.specs.Text.{hex8};
 ghost use Rattle.tomex_layout.specs.Growth.{Appends};
 ghost use Rattle.tomex_loop_views.specs.Table.{around_text, charge_text, count_fields, dashes, extent_fields};
 ghost use Rattle.tomex_loop_views.specs.Table.{path_text, pattern_text};

@@ -3,8 +3,7 @@
 use Rattle.std.specs.Prelude.{◌≡◌, ℕ, List, [], ◌∷◌, ◌++◌, codes}
 use Rattle.std.specs.BTreeMap.{values}
 use Rattle.std.specs.List.{flat_map}
-use Rattle.tomex_rvdec.specs.Text.{instr_text}
-use Rattle.tomex_rvexec.specs.Texts.{hex8}
+use Rattle.tomex_rvdec.specs.Text.{hex8, instr_text}
 use Rattle.tomex_rvexec.specs.declared.step.Step.{Step}
 use Rattle.tomex_config.specs.Configuration.{Configuration}
 use Rattle.tomex_layout.specs.Csv.{record_text}

@@ -4,9 +4,8 @@ use Rattle.std.specs.Prelude.{codes, length}
 use Rattle.std.specs.List.{flat_map}
 use Rattle.std.specs.BTreeMap.{get, values}
 use Rattle.std.specs.Ordering.{nat_cmp}
-use Rattle.tomex_rvdec.specs.Text.{instr_text}
+use Rattle.tomex_rvdec.specs.Text.{hex8, instr_text}
 use Rattle.tomex_rvexec.specs.Run.{most_steps}
-use Rattle.tomex_rvexec.specs.Texts.{hex8}
 use Rattle.tomex_rvexec.specs.declared.step.Step.{Step}
 use Rattle.tomex_timing.specs.declared.need.Waits.{Waits}
 use Rattle.tomex_config.specs.Configuration.{Configuration}

@@ -1,8 +1,7 @@
 //! The lines of a picture.
 
 ghost use Rattle.std.specs.Prelude.{◌≡◌, ◌+◌, ◌<◌, ◌^◌, ◌++◌, codes, length, OnOk};
-ghost use Rattle.tomex_rvdec.specs.Text.{instr_text};
-ghost use Rattle.tomex_rvexec.specs.Texts.{hex8};
+ghost use Rattle.tomex_rvdec.specs.Text.{hex8, instr_text};
 ghost use Rattle.tomex_layout.specs.Aligned.{left_aligned};
 ghost use Rattle.tomex_layout.specs.Growth.{Appends};
 ghost use Rattle.tomex_run_views.specs.Chart.{chart, line_of, lines_of};

@@ -1,6 +1,6 @@
 -- The relation of the table and the function agree.
 use Rattle.std.proofs.Common.{◌≡◌, ℕ, ◌<◌, ◌^◌, Option, Some, None, IsTrue, Bool, true, false, List, [], ◌∷◌, find}
-use Rattle.std.proofs.Common.{cond, refl, sym, ◌∙◌, ap, subst}
+use Rattle.std.proofs.Common.{cond, refl, sym, ap, subst}
 use Rattle.tomex_rvdec.specs.declared.op.Op.{Op}
 use Rattle.tomex_rvdec.specs.declared.op.Form.{Form}
 use Rattle.tomex_rvdec.specs.declared.op.Form.TheVariants as forms

@@ -1,8 +1,7 @@
 -- The table, computed on words with known meanings and on words that mean nothing.
-use Rattle.std.proofs.Common.{ℕ, ◌≡◌, refl, List, [], ◌∷◌, Option, Some, None}
+use Rattle.std.proofs.Common.{◌≡◌, refl, Some, None}
 use Rattle.tomex_rvdec.specs.declared.op.Op.TheVariants.{Lui, Jal, Jalr, Bne, Lb, Sw, Addi, Add, Mul, Fence, Ebreak}
 use Rattle.tomex_rvdec.specs.declared.op.Op.TheVariants.{Srai}
-use Rattle.tomex_rvdec.specs.Instruction.{Instruction}
 use Rattle.tomex_rvdec.specs.declared.pool.PoolId.TheVariants as pools
 use Rattle.tomex_rvdec.specs.declared.pool.UnitId.TheVariants as units
 use Rattle.tomex_rvdec.specs.Meaning.{meaning, selection, with_operands}

@@ -1,5 +1,5 @@
 -- The fixed bits of an operation select no other one: a row for each operation.
-use Rattle.std.proofs.Common.{◌≡◌, ℕ, Some, IsTrue, refl, arith, Bool, true, nat_eq, ◌&&◌}
+use Rattle.std.proofs.Common.{◌≡◌, ℕ, Some, IsTrue, refl, arith, nat_eq}
 use Rattle.tomex_rvdec.specs.declared.op.Op.{Op}
 use Rattle.tomex_rvdec.specs.declared.op.Op.TheVariants.{Lui, Auipc, Jal, Jalr, Beq, Bne, Blt, Bge, Bltu, Bgeu, Lb, Lh}
 use Rattle.tomex_rvdec.specs.declared.op.Op.TheVariants.{Lw, Lbu, Lhu, Sb, Sh, Sw, Addi, Slti, Sltiu, Xori, Ori, Andi}

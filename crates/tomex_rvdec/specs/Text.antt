@@ -1,7 +1,7 @@
--- The text of an instruction, as assemblers write it: the mnemonic in lower case, a space, and the operands joined by
--- commas. Numbers are decimal and signed, except the upper 20 bits of LUI and AUIPC and the amounts of shifts.
-use Rattle.std.specs.Prelude.{ℕ, ◌/◌, ◌^◌, List, ◌++◌, codes}
-use Rattle.std.specs.Fmt.{decimal, signed_decimal}
+-- The text of an address, and that of an instruction, as assemblers write it: the mnemonic in lower case, a space, and
+-- the operands joined by commas. Numbers are decimal and signed, except the upper 20 bits of LUI and AUIPC and the amounts of shifts.
+use Rattle.std.specs.Prelude.{ℕ, ◌-◌, ◌/◌, ◌^◌, false, List, [], ◌++◌, codes}
+use Rattle.std.specs.Fmt.{decimal, signed_decimal, digits, padded_integral, format_spec}
 use Rattle.std.specs.Int.{cast_signed, w32}
 use Rattle.tomex_rvdec.specs.declared.op.Op.{Op}
 use Rattle.tomex_rvdec.specs.declared.op.Op.TheVariants.{Lui, Auipc, Jal, Jalr, Beq, Bne, Blt, Bge, Bltu, Bgeu, Lb}
@@ -13,6 +13,10 @@ use Rattle.tomex_rvdec.specs.declared.op.Form.{Form}
 use Rattle.tomex_rvdec.specs.declared.op.Form.TheVariants as forms
 use Rattle.tomex_rvdec.specs.Instruction.{Instruction}
 use Rattle.tomex_rvdec.specs.Meaning.{form_of}
+
+-- eight hexadecimal digits in lower case, the highest first, as `{:08x}` writes them
+abbrev pub hex8 : ℕ → List ℕ
+hex8 n = padded_integral (format_spec 32 0 4 8 (2 ^ 64 - 1)) false [] (digits 16 false n)
 
 abbrev pub name_of : Op → List ℕ
 name_of Lui = codes "lui"

@@ -1,9 +1,12 @@
 //! From instructions to words.
 
-ghost use Rattle.std.specs.Prelude.{◌≡◌, ℕ, ◌<◌, ◌^◌, ◌+◌, ◌*◌, IsTrue, true};
+ghost use Rattle.std.specs.Prelude.{◌≡◌, ℕ, ◌<◌, ◌^◌, ◌+◌, ◌*◌, IfNone, IfSome, IsTrue, Some, false, true};
 ghost use Rattle.tomex_rvdec.specs.Fields.{opcode, funct3, funct7};
-ghost use Rattle.tomex_rvdec.specs.Meaning.{Means, selects, form_of, has_fixed_funct3, has_fixed_funct7};
+ghost use Rattle.tomex_rvdec.specs.Fits.{Fits};
+ghost use Rattle.tomex_rvdec.specs.Meaning.{IsMeant, Means, selects, form_of, has_fixed_funct3, has_fixed_funct7};
+ghost use Rattle.tomex_rvdec.specs.Meaning.{with_operands};
 
+use crate::decoding::decode;
 use crate::instr::Instr;
 use crate::op::{Form, Op};
 
@@ -145,4 +148,34 @@ pub fn encode(instr: &Instr) -> u32
         u32::from(instr.rs2()),
         instr.imm(),
     )
+}
+
+impl Instr {
+    /// The instruction of these parts; `None` if no word means it. Registers are numbers, and the immediate is taken
+    /// modulo 2^32, as of an `Instr`: a field that the operation doesn't use has to be 0.
+    pub fn new(op: Op, rd: u8, rs1: u8, rs2: u8, imm: u32) -> Option<Instr>
+        ensures some { IfSome result (λ i. i ≡ with_operands op rd rs1 rs2 imm) }
+        ensures none { IfNone result (IsMeant (with_operands op rd rs1 rs2 imm) → ⊥) }
+        ensures fits { Fits (form_of op) (with_operands op rd rs1 rs2 imm)
+            → result ≡ Some (with_operands op rd rs1 rs2 imm) }
+    {
+        if rd >= 32 || rs1 >= 32 || rs2 >= 32 {
+            return None;
+        }
+        let word = word_of(op, u32::from(rd), u32::from(rs1), u32::from(rs2), imm);
+        let instr = decode(word)?;
+        if instr.has_parts(op, rd, rs1, rs2, imm) {
+            Some(instr)
+        } else {
+            None
+        }
+    }
+
+    /// True if these are the instruction's parts.
+    fn has_parts(&self, op: Op, rd: u8, rs1: u8, rs2: u8, imm: u32) -> bool
+        ensures same { result ≡ true → self.now ≡ with_operands op rd rs1 rs2 imm }
+        ensures other { result ≡ false → self.now ≡ with_operands op rd rs1 rs2 imm → ⊥ }
+    {
+        self.op == op && self.rd == rd && self.rs1 == rs1 && self.rs2 == rs2 && self.imm == imm
+    }
 }

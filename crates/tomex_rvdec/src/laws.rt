@@ -5,7 +5,8 @@ ghost use Rattle.tomex_rvdec.specs.declared.pool.PoolId.{PoolId};
 ghost use Rattle.tomex_rvdec.specs.declared.pool.UnitId.{UnitId};
 ghost use Rattle.tomex_rvdec.specs.Parts.{place_of_pool, place_of_unit};
 ghost use Rattle.tomex_rvdec.specs.Instruction.{Instruction};
-ghost use Rattle.tomex_rvdec.specs.Meaning.{Means, meaning};
+ghost use Rattle.tomex_rvdec.specs.Fits.{Fits};
+ghost use Rattle.tomex_rvdec.specs.Meaning.{IsMeant, Means, form_of, meaning};
 
 use crate::encoding::encode;
 use crate::instr::Instr;
@@ -30,6 +31,12 @@ pub fn instruction_has_one_word(instr: &Instr)
 {
     let _word = encode(instr);
 }
+
+/// Each instruction whose registers are below 32, whose other fields are zero and whose immediate fits its form is
+/// meant by a word.
+pub fn what_fits_is_an_instruction()
+    ensures { (x : Instruction) → Fits (form_of x.op) x → IsMeant x }
+{}
 
 /// Each pool and each kind of unit is at its own place in `PoolId::ALL` and `UnitId::ALL`.
 pub fn all_stand_at_their_places()

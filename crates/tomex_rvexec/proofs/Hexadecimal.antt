@@ -4,7 +4,8 @@ use Rattle.std.proofs.Common.{◌∷◌, ◌++◌, length, replicate, inl, inr, 
 use Rattle.std.proofs.lemmas.Bool.{cases_eq, ne_eqb}
 use Rattle.std.proofs.lemmas.List.{append-nil, length_push, replicate_more}
 use Rattle.std.specs.Fmt.{char_count, digit_glyph, digits, digits_onto, format_spec, padded_integral}
-use Rattle.tomex_rvexec.specs.Texts.{hex2, hex8, last_digits}
+use Rattle.tomex_rvdec.specs.Text.{hex8}
+use Rattle.tomex_rvexec.specs.Texts.{hex2, last_digits}
 
 -- zeros in front, and the digits from the first that counts
 record IsPadded (k n : ℕ) (acc text : List ℕ) : Type 0 where

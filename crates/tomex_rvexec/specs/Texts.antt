@@ -8,10 +8,6 @@ abbrev pub name_of_end : EndKind → List ℕ
 name_of_end Ecall = codes "ecall"
 name_of_end Ebreak = codes "ebreak"
 
--- eight hexadecimal digits in lower case, the highest first, as `{:08x}` writes them
-abbrev pub hex8 : ℕ → List ℕ
-hex8 n = padded_integral (format_spec 32 0 4 8 (2 ^ 64 - 1)) false [] (digits 16 false n)
-
 -- two hexadecimal digits in lower case, as `{:02x}` writes them
 abbrev pub hex2 : ℕ → List ℕ
 hex2 n = padded_integral (format_spec 32 0 4 2 (2 ^ 64 - 1)) false [] (digits 16 false n)

@@ -21,7 +21,8 @@ ghost use Rattle.tomex_rvexec.specs.Machine.{State, Ends, Goes, coming_of, step_
 ghost use Rattle.tomex_rvexec.specs.Run.{EndsWithin, Leads, RunEnds, RunFaults, start_of};
 ghost use Rattle.tomex_rvexec.specs.Steps.{bytes_of, is_in, is_store, j_of, k_of, step_dest};
 ghost use Rattle.tomex_rvexec.specs.Steps.{step_pool, step_unit, is_number};
-ghost use Rattle.tomex_rvexec.specs.Texts.{hex2, hex8, last_digits};
+ghost use Rattle.tomex_rvdec.specs.Text.{hex8};
+ghost use Rattle.tomex_rvexec.specs.Texts.{hex2, last_digits};
 ghost use Rattle.tomex_rvexec.specs.Trace.{steps_from};
 
 /// A step changes the pc, its destination and the bytes of its store, and nothing else. Its target

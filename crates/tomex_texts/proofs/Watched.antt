@@ -9,7 +9,8 @@ use Rattle.std.proofs.lemmas.List.Elements.{All-head, All-tail}
 use Rattle.std.proofs.lemmas.List.Sums.{sum_by-cons}
 use Rattle.std.proofs.Math.Seq.{take-append_seam, drop-append_seam}
 use Rattle.tomex_image.specs.Window.{Span}
-use Rattle.tomex_rvexec.specs.Texts.{hex2, hex8}
+use Rattle.tomex_rvdec.specs.Text.{hex8}
+use Rattle.tomex_rvexec.specs.Texts.{hex2}
 use Rattle.tomex_study.specs.Watch.{is_watchable, watched_bytes}
 use Rattle.tomex_study.specs.declared.watch.WatchRange.{WatchRange}
 use Rattle.tomex_texts.specs.Ends.{bytes_at}

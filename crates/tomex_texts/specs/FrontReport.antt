@@ -5,7 +5,8 @@ use Rattle.std.specs.List.{flat_map}
 use Rattle.std.specs.Fmt.{decimal}
 use Rattle.tomex_rvdec.specs.declared.pool.UnitId.{UnitId}
 use Rattle.tomex_rvexec.specs.Machine.{Outcome, Ends, step_of}
-use Rattle.tomex_rvexec.specs.Texts.{hex2, hex8, name_of_end}
+use Rattle.tomex_rvdec.specs.Text.{hex8}
+use Rattle.tomex_rvexec.specs.Texts.{hex2, name_of_end}
 use Rattle.tomex_config.specs.Configuration.{Configuration, option_of, plain}
 use Rattle.tomex_config.specs.Cost.{all_pools, all_units}
 use Rattle.tomex_config.specs.Configuration.{stations_of}

@@ -3,8 +3,7 @@ use Rattle.std.specs.Prelude.{ℕ, ◌+◌, List, [], ◌∷◌, ◌++◌, codes
 use Rattle.std.specs.List.{flat_map}
 use Rattle.std.specs.Fmt.{decimal}
 use Rattle.tomex_rvdec.specs.Parts.{name_of_pool}
-use Rattle.tomex_rvdec.specs.Text.{name_of}
-use Rattle.tomex_rvexec.specs.Texts.{hex8}
+use Rattle.tomex_rvdec.specs.Text.{hex8, name_of}
 use Rattle.tomex_timing.specs.Tables.{Tables}
 use Rattle.tomex_timing.specs.declared.tables.Busy.{Busy}
 use Rattle.tomex_timing.specs.declared.tables.Field.{Field}

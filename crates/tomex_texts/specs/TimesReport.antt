@@ -2,10 +2,9 @@
 use Rattle.std.specs.Prelude.{ℕ, ◌+◌, List, [], ◌∷◌, ◌++◌, codes, Option, Some, None}
 use Rattle.std.specs.Fmt.{decimal}
 use Rattle.tomex_rvdec.specs.Parts.{name_of_pool}
-use Rattle.tomex_rvdec.specs.Text.{instr_text}
+use Rattle.tomex_rvdec.specs.Text.{hex8, instr_text}
 use Rattle.tomex_rvdec.specs.declared.pool.PoolId.{PoolId}
 use Rattle.tomex_rvexec.specs.Steps.{step_pool}
-use Rattle.tomex_rvexec.specs.Texts.{hex8}
 use Rattle.tomex_rvexec.specs.declared.step.Step.{Step}
 use Rattle.tomex_config.specs.Configuration.{Configuration}
 use Rattle.tomex_timing.specs.Search.{times_in, total_of}

@@ -3,7 +3,8 @@
 ghost use Rattle.std.specs.Prelude.{◌≡◌, ◌++◌, IfOk, codes, length, map, string_bytes};
 ghost use Rattle.std.specs.List.{flat_map};
 ghost use Rattle.std.specs.Fmt.{decimal};
-ghost use Rattle.tomex_rvexec.specs.Texts.{hex2, hex8};
+ghost use Rattle.tomex_rvdec.specs.Text.{hex8};
+ghost use Rattle.tomex_rvexec.specs.Texts.{hex2};
 ghost use Rattle.tomex_study.specs.Watch.{watched_bytes};
 ghost use Rattle.tomex_texts.specs.FrontReport.{join_texts, nonzero_from, watch_texts};
 
