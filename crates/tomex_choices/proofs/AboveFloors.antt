@@ -11,10 +11,10 @@ use Rattle.tomex_floor.specs.Floor.{floor_of}
 use Rattle.tomex_config.specs.Configuration.{latency_of}
 use Rattle.tomex_plateaus.proofs.Totals.{total_within}
 use Rattle.tomex_study.specs.Cycles.{cycles_on}
-use Rattle.tomex_study.specs.Program.{IsProgram, Workload}
+use Rattle.tomex_study.specs.Program.{IsProgram, Workload, steps_of}
 use Rattle.tomex_timing.specs.Run.{total}
 use Rattle.tomex_timing.specs.Search.{times_in, total_of}
-use Rattle.tomex_survey.specs.Floors.{any_width, floor_at, least_for, steps_of, study_floor, weighted_floor}
+use Rattle.tomex_survey.specs.Floors.{any_width, floor_at, least_for, study_floor, weighted_floor}
 use Rattle.tomex_choices.specs.Laws.{FloorBoundsAllSizes, FloorBoundsAllWidths, IsNoFaster}
 use Rattle.tomex_choices.specs.Passing.{Has}
 use Rattle.tomex_choices.proofs.Members.{has_map, least_is}

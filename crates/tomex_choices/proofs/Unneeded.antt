@@ -3,7 +3,7 @@ use Rattle.std.proofs.Common.{◌≡◌, ◌≤◌, arith, sym, ◌∙◌, inl, 
 use Rattle.std.proofs.lemmas.List.Elements.{All-contains}
 use Rattle.tomex_config.specs.Configuration.{Configuration, IsWithinLimits}
 use Rattle.tomex_plateaus.proofs.Totals.{total_within}
-use Rattle.tomex_study.specs.Program.{IsProgram, Workload}
+use Rattle.tomex_study.specs.Program.{IsProgram, Workload, steps_of}
 use Rattle.tomex_study.specs.Study.{DesignSpace, IsStudy}
 use Rattle.tomex_timing.proofs.Histories.{are_timed}
 use Rattle.tomex_timing.proofs.SameTimes.{serves_runs}
@@ -12,7 +12,6 @@ use Rattle.tomex_timing.specs.Needs.{Serves, peak}
 use Rattle.tomex_config.specs.Parts.{count_of}
 use Rattle.tomex_timing.specs.Run.{total}
 use Rattle.tomex_timing.specs.Search.{history}
-use Rattle.tomex_survey.specs.Floors.{steps_of}
 use Rattle.tomex_choices.specs.Laws.{HasMoreUnneeded, MoreOfTheUnneededChangesNothing}
 use Rattle.tomex_choices.specs.Passing.{Has}
 use Rattle.tomex_choices.proofs.Passes.{contains_from}

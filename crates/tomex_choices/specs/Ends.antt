@@ -4,7 +4,7 @@ use Rattle.std.specs.List.{Contains}
 use Rattle.tomex_config.specs.Configuration.{Configuration, option_of}
 use Rattle.tomex_config.specs.Cost.{PriceList, cost_of}
 use Rattle.tomex_study.specs.Cycles.{cycles_on}
-use Rattle.tomex_study.specs.Program.{Workload}
+use Rattle.tomex_study.specs.Program.{Workload, steps_of}
 use Rattle.tomex_study.specs.Study.{DesignSpace, costs_of, design_space}
 use Rattle.tomex_timing.specs.Needs.{stalls}
 use Rattle.tomex_config.specs.Parts.{count_of}
@@ -13,7 +13,6 @@ use Rattle.tomex_config.specs.declared.part.Part.{Part}
 use Rattle.tomex_config.specs.declared.part.Part.TheVariants.{Units}
 use Rattle.tomex_config.specs.Parts.{same_entry}
 use Rattle.tomex_config.specs.Parts.{latency_in}
-use Rattle.tomex_survey.specs.Floors.{steps_of}
 
 -- no row has more of a part than this one; of units, no row with the same latency
 abbrev pub IsAtEnd : DesignSpace → Part → Configuration → Type 0

@@ -9,7 +9,7 @@ use Rattle.tomex_pareto.specs.Front.{front_of}
 use Rattle.tomex_pareto.specs.Pareto.{Dominates}
 use Rattle.tomex_pareto.specs.declared.front_row.FrontRow.{FrontRow}
 use Rattle.tomex_study.specs.Cycles.{cycles_on}
-use Rattle.tomex_study.specs.Program.{Workload}
+use Rattle.tomex_study.specs.Program.{Workload, steps_of}
 use Rattle.tomex_study.specs.Study.{DesignSpace, IsStudy, config_at, costs_of, design_space}
 use Rattle.tomex_study.specs.StudyFront.{all_rows, front_of_study}
 use Rattle.tomex_timing.specs.Needs.{stalls}
@@ -23,7 +23,7 @@ use Rattle.tomex_choices.specs.Choices.{unused}
 use Rattle.tomex_config.specs.Parts.{most_of}
 use Rattle.tomex_choices.specs.Ends.{AreReweighted, IsBeyondEnds, IsCoveredAtAnyPrice, IsUnneededAtEnd, repriced}
 use Rattle.tomex_choices.specs.Enough.{enough}
-use Rattle.tomex_survey.specs.Floors.{any_width, steps_of, study_floor}
+use Rattle.tomex_survey.specs.Floors.{any_width, study_floor}
 use Rattle.tomex_choices.specs.NewMachines.{grown, new_machines}
 use Rattle.tomex_config.specs.Parts.{with_count}
 use Rattle.tomex_choices.specs.Points.{IsCovered, IsFrontKept, row_of}

@@ -4,13 +4,13 @@ use Rattle.std.specs.Borrow.{Bor}
 use Rattle.tomex_config.specs.Configuration.{Configuration}
 use Rattle.tomex_study.specs.Study.{DesignSpace}
 use Rattle.tomex_symbols.specs.Symbols.{symbols_of}
-use Rattle.tomex_functions.specs.Changes.{Build, IsFunctionChanges, build_of}
+use Rattle.tomex_functions.specs.Changes.{Build, IsFunctionChanges}
 use Rattle.tomex_command.specs.declared.failure.Failure.{Failure}
 use Rattle.tomex_command.specs.declared.failure.Failure.TheVariants.{NoSuchChoice, NoSuchRow, SeveralRows}
 use Rattle.tomex_command.specs.declared.failure.Failure.TheVariants.{NoSuchProgram, NoSymbols, Memory}
 use Rattle.tomex_command_line.specs.declared.line.functions.FunctionsLine.{FunctionsLine}
 use Rattle.tomex_command_line.specs.declared.line.one_run.OneRun.{OneRun}
-use Rattle.tomex_command.specs.Chosen.{IsChosen, IsUnchosenIn, RunChoice}
+use Rattle.tomex_command.specs.Chosen.{IsChosen, IsUnchosenIn, RunChoice, steps_in}
 use Rattle.tomex_command.specs.StudyFiles.{IsStudyFailure, IsStudyWith}
 use Rattle.tomex_streams.specs.Files.{Known}
 
@@ -18,9 +18,9 @@ use Rattle.tomex_streams.specs.Files.{Known}
 abbrev pub run_of_build : FunctionsLine → Bor (List ℕ) → OneRun
 run_of_build line build = record { study = line.study; config = line.config; program = build }
 
--- a build is a program with its file
+-- a build is a program's file, and the steps of its run
 abbrev pub build_in : RunChoice → Build
-build_in choice = build_of choice.program choice.file
+build_in choice = record { file = choice.file; steps = steps_in choice }
 
 -- the text is the report of both builds, which have symbols
 pub record AreReported (config : Configuration) (old new : Build) (text : List ℕ) : Type 0 where

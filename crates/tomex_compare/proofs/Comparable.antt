@@ -15,7 +15,7 @@ use Rattle.tomex_compare.specs.Builds.{IsBuild}
 use Rattle.tomex_compare.specs.Pairs.{AreComparable, by_ratio, pair_at, pairs_of, row_numbers}
 use Rattle.tomex_compare.specs.declared.pairs.Pair.{Pair}
 use Rattle.tomex_compare.proofs.ByRatio.{HasRatio, IsApart, by_ratio_moves}
-use Rattle.tomex_compare.proofs.Cycles.{some_cycles}
+use Rattle.tomex_study.proofs.SomeCycles.{some_cycles}
 use Rattle.tomex_compare.proofs.Sorting.{Rises, rises_pairs}
 
 -- what holds of each number of a range

@@ -6,7 +6,6 @@ mod Firsts
 mod Counts
 mod Ends
 mod Turned
-mod Cycles
 mod Likeness
 mod Comparable
 mod Steps

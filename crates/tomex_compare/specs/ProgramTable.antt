@@ -2,10 +2,8 @@
 use Rattle.std.specs.Prelude.{ℕ, nat_le, nat_lt, Bool, List, [], ◌∷◌, codes, length, map}
 use Rattle.std.specs.Fmt.{decimal}
 use Rattle.std.specs.List.{best_of}
-use Rattle.tomex_rvexec.specs.Run.{start_of}
-use Rattle.tomex_rvexec.specs.Trace.{steps_from}
 use Rattle.tomex_study.specs.Cycles.{total_at}
-use Rattle.tomex_study.specs.Program.{Workload}
+use Rattle.tomex_study.specs.Program.{Workload, steps_of}
 use Rattle.tomex_study.specs.Study.{DesignSpace}
 use Rattle.tomex_layout.specs.Table.{TableColumn, table_of}
 use Rattle.tomex_layout.specs.Differences.{percent}
@@ -46,7 +44,7 @@ pub record BuildProfile : Type 0 where
 abbrev pub profile_of : DesignSpace → Workload → BuildProfile
 profile_of s p = record {
   name = p.name;
-  steps = length (steps_from p.limit (start_of p.image));
+  steps = length (steps_of p);
   best = best_row s p;
   worst = worst_row s p;
 }

@@ -3,19 +3,17 @@ use Rattle.std.specs.Prelude.{◌≡◌, ℕ, ◌+◌, List, [], ◌∷◌, ◌+
 use Rattle.std.specs.Prelude.{map, option_map}
 use Rattle.std.specs.Fmt.{decimal}
 use Rattle.std.specs.List.{flat_map}
-use Rattle.tomex_rvexec.specs.Run.{start_of}
-use Rattle.tomex_rvexec.specs.Trace.{steps_from}
 use Rattle.tomex_rvexec.specs.declared.step.Step.{Step}
 use Rattle.tomex_config.specs.Configuration.{Configuration}
 use Rattle.tomex_timing.specs.Needs.{drain}
 use Rattle.tomex_timing.specs.Search.{history}
-use Rattle.tomex_study.specs.Program.{Workload}
 use Rattle.tomex_layout.specs.Csv.{record_text}
 use Rattle.tomex_run_views.specs.ByPlace.{cycles_of, visits_in}
 use Rattle.tomex_symbols.specs.Symbols.{symbols_of}
 use Rattle.tomex_functions.specs.ByFunction.{AreRows}
 use Rattle.tomex_functions.specs.Calls.{calls_in}
 use Rattle.tomex_functions.specs.ShownNames.{shown_function}
+use Rattle.tomex_functions.specs.declared.builds.BuildRun.{BuildRun}
 use Rattle.tomex_functions.specs.declared.rows.Row.{Row}
 use Rattle.tomex_layout.specs.Differences.{signed_difference}
 use Rattle.tomex_functions.specs.Shares.{AreNames, Both, Entry, change_named, has_name}
@@ -41,9 +39,9 @@ pub record Build : Type 0 where
   pub file : List ℕ
   pub steps : List Step
 
--- that of a program which was read from a file
-abbrev pub build_of : Workload → List ℕ → Build
-build_of program file = record { file = file; steps = steps_from program.limit (start_of program.image) }
+-- that which the code is given
+abbrev pub build_of : {A : Type 0} → BuildRun A → Build
+build_of build = record { file = build.file.now; steps = build.run.now }
 
 -- the rows of its stalls report by function
 abbrev pub AreRowsOf : Configuration → Build → List Row → Type 0

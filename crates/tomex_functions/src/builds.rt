@@ -1,9 +1,10 @@
 //! The functions of two builds' runs, added up by name.
 
-ghost use Rattle.std.specs.Prelude.{◌≡◌, [], IfOk, OnOk};
+ghost use Rattle.std.specs.Prelude.{◌≡◌, ◌≤◌, [], IfOk, OnOk, length};
+ghost use Rattle.tomex_rvexec.specs.Run.{most_steps};
 ghost use Rattle.tomex_functions.specs.Kept.{IsListing};
 ghost use Rattle.tomex_symbols.specs.Symbols.{symbols_of};
-ghost use Rattle.tomex_functions.specs.Changes.{both_of, build_of, cycles_share, entries_of, entry_of};
+ghost use Rattle.tomex_functions.specs.Changes.{both_of, cycles_share, entries_of, entry_of};
 ghost use Rattle.tomex_functions.specs.ChangesKept.{HasRoom, IsNamed, both_after, listing_share, name_of};
 ghost use Rattle.tomex_functions.specs.Shares.{Both, Fits, share_of};
 
@@ -13,13 +14,13 @@ use crate::shares::{Share, Side};
 use crate::shown_names::shown_function;
 use std::alloc::{AllocError, Allocator, Global};
 use tomex_config::Config;
-use tomex_study::Program;
 use tomex_symbols::symbols;
+use tomex_timing::Run;
 
-/// A build of a program, and the whole file that it was read from.
+/// The run of a build of a program, and the whole file that the program was read from.
 #[derive(Clone, Copy, Drop)]
 pub struct BuildRun<'r, A: Allocator> {
-    pub program: &'r Program<A>,
+    pub run: &'r Run<A>,
     pub file: &'r [u8],
 }
 
@@ -44,11 +45,11 @@ pub fn listing_in<A: Allocator + Clone>(
     config: &Config,
     build: &BuildRun<'_, A>,
 ) -> Result<Listing<A>, AllocError>
-    ensures { IfOk result (IsListing (symbols_of build.now.file.now) config.now
-        (build_of build.now.program.now build.now.file.now).steps) }
+    requires few { length build.now.run.now ≤ most_steps }
+    ensures { IfOk result (IsListing (symbols_of build.now.file.now) config.now build.now.run.now) }
 {
     let symbols = symbols(alloc.clone()?, build.file)?;
-    listing_of(alloc, config, build.program.steps(), symbols)
+    listing_of(alloc, config, build.run.steps(), symbols)
 }
 
 /// The name under which a row's function is shown, if it has one.

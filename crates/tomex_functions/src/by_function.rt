@@ -1,8 +1,7 @@
 //! The stalls report by function.
 
-ghost use Rattle.std.specs.Prelude.{◌≡◌, ◌++◌, ◌∷◌, [], IfOk, OnOk, codes};
-ghost use Rattle.tomex_rvexec.specs.Run.{start_of};
-ghost use Rattle.tomex_rvexec.specs.Trace.{steps_from};
+ghost use Rattle.std.specs.Prelude.{◌≡◌, ◌≤◌, ◌++◌, ◌∷◌, [], IfOk, OnOk, codes, length};
+ghost use Rattle.tomex_rvexec.specs.Run.{most_steps};
 ghost use Rattle.tomex_layout.specs.Csv.{IsReady, record_text};
 ghost use Rattle.tomex_layout.specs.Growth.{Writes};
 ghost use Rattle.tomex_functions.specs.ByFunction.{IsReportByFunction, call_fields};
@@ -17,8 +16,8 @@ use std::alloc::{AllocError, Allocator, Global};
 use tomex_config::Config;
 use tomex_layout::{into_text, push_decimal, push_names, put_record};
 use tomex_run_views::{SumColumns, WaitColumns, put_columns, put_sum};
-use tomex_study::Program;
 use tomex_symbols::{has_symbols, symbols};
+use tomex_timing::Run;
 
 /// How often a function is called, how many steps are in it, how many cycles they take, and how long they wait.
 #[derive(Clone, Copy, Drop)]
@@ -91,7 +90,7 @@ fn text_of_listing<A: Allocator>(
     into_text(writer)
 }
 
-/// The stalls report of a program on a configuration by function: CSV with a header, a record for each function of
+/// The stalls report of a run on a configuration by function: CSV with a header, a record for each function of
 /// the program's file that is the function of a step, with how often it is called, how many steps the run has in it,
 /// how many cycles they take, and for how many cycles they wait for what. Those with the most cycles come first, then
 /// those at lower addresses; a record without a name follows if steps have no function, then the cycles after the
@@ -101,18 +100,17 @@ fn text_of_listing<A: Allocator>(
 pub fn stalls_by_function<A: Allocator + Clone>(
     alloc: A,
     heap: Global,
-    program: &Program<A>,
+    run: &Run<A>,
     config: &Config,
     file: &[u8],
 ) -> Result<Vec<u8, A>, FunctionsError>
-    ensures { IsWithFunctions
-        (IsReportByFunction file.now config.now (steps_from program.now.limit (start_of program.now.image)))
-        file.now result }
+    requires few { length run.now ≤ most_steps }
+    ensures { IsWithFunctions (IsReportByFunction file.now config.now run.now) file.now result }
 {
     if !has_symbols(file) {
         return Err(FunctionsError::NoSymbols);
     }
     let symbols = symbols(alloc.clone()?, file)?;
-    let listing = listing_of(alloc.clone()?, config, program.steps(), symbols)?;
+    let listing = listing_of(alloc.clone()?, config, run.steps(), symbols)?;
     Ok(text_of_listing(alloc, heap, file, &listing)?)
 }

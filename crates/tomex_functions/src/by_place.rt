@@ -1,7 +1,7 @@
 //! The stalls report by place in the program, with functions.
 
-ghost use Rattle.tomex_rvexec.specs.Run.{start_of};
-ghost use Rattle.tomex_rvexec.specs.Trace.{steps_from};
+ghost use Rattle.std.specs.Prelude.{◌≤◌, length};
+ghost use Rattle.tomex_rvexec.specs.Run.{most_steps};
 ghost use Rattle.tomex_functions.specs.ByPlace.{IsReportByPlace};
 ghost use Rattle.tomex_functions.specs.Kept.{IsFunctionField};
 ghost use Rattle.tomex_functions.specs.WithFunctions.{IsWithFunctions};
@@ -14,8 +14,8 @@ use std::alloc::{AllocError, Allocator, Global};
 use tomex_config::Config;
 use tomex_run_views::{StepColumns, addresses_of, count_run, text_by_place};
 use tomex_rvexec::Step;
-use tomex_study::Program;
 use tomex_symbols::{has_symbols, symbols};
+use tomex_timing::Run;
 
 /// The column of the functions of a file's program.
 #[derive(Clone, Copy, Drop)]
@@ -37,26 +37,25 @@ impl<'a, A: Allocator> StepColumns for FunctionColumn<'a, A> {
     }
 }
 
-/// The stalls report of a program on a configuration by place in the program, with the function of each: the records of
+/// The stalls report of a run on a configuration by place in the program, with the function of each: the records of
 /// [`stalls_by_pc`](tomex_run_views::stalls_by_pc) with a column more.
 ///
 /// `file` is the whole file of the program. `csv` allocates its records in `heap`.
 pub fn stalls_by_pc_and_function<A: Allocator + Clone>(
     alloc: A,
     heap: Global,
-    program: &Program<A>,
+    run: &Run<A>,
     config: &Config,
     file: &[u8],
 ) -> Result<Vec<u8, A>, FunctionsError>
-    ensures { IsWithFunctions
-        (IsReportByPlace file.now config.now (steps_from program.now.limit (start_of program.now.image)))
-        file.now result }
+    requires few { length run.now ≤ most_steps }
+    ensures { IsWithFunctions (IsReportByPlace file.now config.now run.now) file.now result }
 {
     if !has_symbols(file) {
         return Err(FunctionsError::NoSymbols);
     }
     let symbols = symbols(alloc.clone()?, file)?;
-    let steps = program.steps();
+    let steps = run.steps();
     let index = Index::new(alloc.clone()?, symbols, steps)?;
     let addresses = addresses_of(alloc.clone()?, steps)?;
     let counted = count_run(alloc.clone()?, config, steps, addresses.as_slice())?;

@@ -1,8 +1,9 @@
 //! The report of two builds by function.
 
-ghost use Rattle.std.specs.Prelude.{◌≡◌, ◌++◌, ◌∷◌, [], IfOk, OnOk, codes, string_bytes};
+ghost use Rattle.std.specs.Prelude.{◌≡◌, ◌≤◌, ◌++◌, ◌∷◌, [], IfOk, OnOk, codes, length, string_bytes};
 ghost use Rattle.std.specs.List.{flat_map};
 ghost use Rattle.csv.specs.Records.{fields_of, partial_of};
+ghost use Rattle.tomex_rvexec.specs.Run.{most_steps};
 ghost use Rattle.tomex_layout.specs.Csv.{IsReady, record_text};
 ghost use Rattle.tomex_layout.specs.Growth.{Writes};
 ghost use Rattle.tomex_functions.specs.Changes.{IsFunctionChanges, IsReport, build_of, change_fields};
@@ -225,8 +226,9 @@ pub fn function_changes<A: Allocator + Clone>(
     old: &BuildRun<'_, A>,
     new: &BuildRun<'_, A>,
 ) -> Result<Vec<u8, A>, FunctionsError>
-    ensures { IsWithSymbols (IsFunctionChanges config.now
-        (build_of old.now.program.now old.now.file.now) (build_of new.now.program.now new.now.file.now))
+    requires old { length old.now.run.now ≤ most_steps }
+    requires new { length new.now.run.now ≤ most_steps }
+    ensures { IsWithSymbols (IsFunctionChanges config.now (build_of old.now) (build_of new.now))
         old.now.file.now new.now.file.now result }
 {
     if !has_symbols(old.file) || !has_symbols(new.file) {

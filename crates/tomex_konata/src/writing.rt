@@ -1,8 +1,7 @@
 //! The log of some steps of a run on one configuration.
 
-ghost use Rattle.std.specs.Prelude.{◌≡◌, ◌+◌, ◌-◌, ◌<◌, ◌^◌, ◌++◌, All, length, IfErr, IfOk, IsErrOf, OnOk};
-ghost use Rattle.tomex_rvexec.specs.Run.{start_of};
-ghost use Rattle.tomex_rvexec.specs.Trace.{steps_from};
+ghost use Rattle.std.specs.Prelude.{◌≡◌, ◌+◌, ◌-◌, ◌<◌, ◌≤◌, ◌^◌, ◌++◌, All, length, IfErr, IfOk, IsErrOf, OnOk};
+ghost use Rattle.tomex_rvexec.specs.Run.{most_steps};
 ghost use Rattle.tomex_timing.specs.Search.{total_of};
 ghost use Rattle.tomex_layout.specs.Growth.{Appends};
 ghost use Rattle.tomex_run_views.specs.Excerpt.{HasNoExcerpt};
@@ -17,9 +16,8 @@ use std::fmt::Write;
 use tomex_config::Config;
 use tomex_run_views::{Excerpt, ExcerptError, first_issue};
 use tomex_rvexec::Step;
-use tomex_study::Program;
-use tomex_timing::Times;
 use tomex_timing::evaluate::total;
+use tomex_timing::{Run, Times};
 
 /// Adds the lines of an event, if it has any.
 fn push_event(
@@ -145,7 +143,7 @@ fn log_of<A: Allocator + Clone>(
     )
 }
 
-/// The log of some steps of a program's run on a configuration for the viewer Konata, at most
+/// The log of some steps of a run on a configuration for the viewer Konata, at most
 /// `count` of them from step `number` on; the first step is number 1. Only these steps count as
 /// producers.
 ///
@@ -154,20 +152,18 @@ fn log_of<A: Allocator + Clone>(
 pub fn konata_text<A: Allocator + Clone>(
     alloc: A,
     heap: Global,
-    program: &Program<A>,
+    run: &Run<A>,
     config: &Config,
     number: u32,
     count: u32,
 ) -> Result<Vec<u8, A>, ExcerptError>
-    requires { 0 < number }
-    ensures text { IfOk result (λ text. IsLogOf config.now
-        (steps_from program.now.limit (start_of program.now.image)) number count text.items) }
-    ensures refused { IfErr result (λ error. HasNoExcerpt
-        (steps_from program.now.limit (start_of program.now.image)) number error) }
-    ensures no_step { length (steps_from program.now.limit (start_of program.now.image)) < number
-        → IsErrOf result ExcerptError.NoSuchStep }
+    requires few { length run.now ≤ most_steps }
+    requires number { 0 < number }
+    ensures text { IfOk result (λ text. IsLogOf config.now run.now number count text.items) }
+    ensures refused { IfErr result (λ error. HasNoExcerpt run.now number error) }
+    ensures no_step { length run.now < number → IsErrOf result ExcerptError.NoSuchStep }
 {
-    let excerpt = Excerpt::new(&alloc, program, config, number, count)?;
+    let excerpt = Excerpt::new(&alloc, run, config, number, count)?;
     excerpt.keeps_limits();
     Ok(log_of(
         alloc,

@@ -1,8 +1,7 @@
 //! The table of a run's loops on a configuration.
 
 ghost use Rattle.std.specs.Prelude.{◌≡◌, ◌+◌, ◌<◌, ◌≤◌, ◌^◌, All, IfOk, IsPermutation, length, map, sum};
-ghost use Rattle.tomex_rvexec.specs.Run.{most_steps, start_of};
-ghost use Rattle.tomex_rvexec.specs.Trace.{steps_from};
+ghost use Rattle.tomex_rvexec.specs.Run.{most_steps};
 ghost use Rattle.tomex_symbols.specs.Symbols.{symbols_of};
 ghost use Rattle.tomex_timing.specs.Search.{times_in};
 ghost use Rattle.tomex_run_views.specs.ByPlace.{pc_of};
@@ -26,7 +25,6 @@ use tomex_loop_sums::{Spent, Turns, loops_of, spent_of, steps_without, turns_of,
 use tomex_loops::{Loops, Visit};
 use tomex_path::{RunPath, path};
 use tomex_rvexec::Step;
-use tomex_study::Program;
 use tomex_timing::evaluate::total;
 use tomex_timing::{Run, Times};
 
@@ -249,14 +247,13 @@ fn table_with<A: Allocator + Clone>(
 pub fn loops_report<A: Allocator + Clone>(
     alloc: A,
     heap: Global,
-    program: &Program<A>,
+    run: &Run<A>,
     config: &Config,
     file: &[u8],
 ) -> Result<Vec<u8, A>, AllocError>
-    ensures { IfOk result (λ text. IsLoopsReport config.now
-        (steps_from program.now.limit (start_of program.now.image)) file.now text.items) }
+    requires few { length run.now ≤ most_steps }
+    ensures { IfOk result (λ text. IsLoopsReport config.now run.now file.now text.items) }
 {
-    let run = program.run();
     let path = path(alloc.clone()?, run, config)?;
     let loops = Loops::of(alloc.clone()?, run.steps())?;
     table_with(&alloc, heap, run, config, file, &path, &loops)

@@ -7,7 +7,7 @@ use Rattle.tomex_timing.specs.Search.{history}
 use Rattle.tomex_timing.specs.declared.times.Done.{Done}
 use Rattle.tomex_timing.proofs.Accounts.{issue_cycles}
 use Rattle.tomex_timing.proofs.Histories.{are_timed, length-history}
-use Rattle.tomex_page_tables.specs.Asked.{steps_of}
+use Rattle.tomex_study.specs.Program.{steps_of}
 use Rattle.tomex_page.specs.Laws.{CyclesAddUp, cycles_before_issue}
 use Rattle.tomex_page.specs.Runs.{needs_in, needs_on}
 use Rattle.tomex_page.specs.Stalls.{pool_parts}

@@ -3,14 +3,13 @@ use Rattle.std.proofs.Common.{◌≡◌, refl, arith, ℕ, List, [], ◌∷◌, 
 use Rattle.tomex_config.specs.Configuration.{Configuration}
 use Rattle.tomex_rvdec.specs.declared.pool.PoolId.TheVariants as pools
 use Rattle.tomex_rvdec.specs.declared.pool.UnitId.TheVariants as units
-use Rattle.tomex_study.specs.Program.{Workload}
+use Rattle.tomex_study.specs.Program.{Workload, steps_of}
 use Rattle.tomex_timing.specs.Needs.{AreNeeds, no_need}
 use Rattle.tomex_timing.specs.Search.{history}
 use Rattle.tomex_timing.specs.declared.needs.Needs.{Needs}
 use Rattle.tomex_timing.specs.declared.need.Need.{Need}
 use Rattle.tomex_config.specs.declared.part.Part.TheVariants.{Stations, Units, Buses, Width}
 use Rattle.tomex_timing.specs.declared.times.Done.{Done}
-use Rattle.tomex_page_tables.specs.Asked.{steps_of}
 use Rattle.tomex_page.specs.Runs.{needs_in, needs_on}
 
 six_are : (xs : List Need) {a b c d e f : Need} → length xs ≡ 6 → get_or xs 0 no_need ≡ a → get_or xs 1 no_need ≡ b

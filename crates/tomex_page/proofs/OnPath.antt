@@ -24,7 +24,7 @@ use Rattle.tomex_config.specs.declared.part.Part.TheVariants as parts
 use Rattle.tomex_timing.specs.declared.need.Waits.{Waits}
 use Rattle.tomex_timing.specs.declared.times.Done.{Done}
 use Rattle.tomex_timing.proofs.Histories.{are_timed}
-use Rattle.tomex_page_tables.specs.Asked.{steps_of}
+use Rattle.tomex_study.specs.Program.{steps_of}
 use Rattle.tomex_page.specs.Laws.{OnPathIsWithin, cycles_for}
 use Rattle.tomex_page.specs.Runs.{needs_in, needs_on, path_on}
 use Rattle.tomex_page.specs.Stalls.{on_path}

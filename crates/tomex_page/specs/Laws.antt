@@ -10,13 +10,12 @@ use Rattle.tomex_page_tables.specs.Front.{rate_in}
 use Rattle.tomex_pareto.specs.Hull.{hull_of}
 use Rattle.tomex_pareto.specs.declared.front_row.FrontRow.{FrontRow}
 use Rattle.tomex_study.specs.StudyFront.{front_of_study}
-use Rattle.tomex_study.specs.Program.{Workload}
+use Rattle.tomex_study.specs.Program.{Workload, steps_of}
 use Rattle.tomex_study.specs.Study.{DesignSpace}
 use Rattle.tomex_pareto.specs.Front.{is_on}
 use Rattle.tomex_timing.specs.Needs.{need_of}
 use Rattle.tomex_timing.specs.declared.needs.Needs.{Needs}
 use Rattle.tomex_config.specs.declared.part.Part.TheVariants.{Width}
-use Rattle.tomex_page_tables.specs.Asked.{steps_of}
 use Rattle.tomex_page_tables.specs.Shown.{no_row, row_of, shown_rows}
 use Rattle.tomex_page_tables.specs.declared.shown.ShownRow.{ShownRow}
 use Rattle.tomex_path.specs.declared.reason.Reason.{Reason}

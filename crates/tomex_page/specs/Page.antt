@@ -9,10 +9,10 @@ use Rattle.tomex_html.specs.declared.links.Links.{Links}
 use Rattle.tomex_pareto.specs.Hull.{hull_of}
 use Rattle.tomex_pareto.specs.declared.front_row.FrontRow.{FrontRow}
 use Rattle.tomex_study.specs.StudyFront.{front_of_study}
-use Rattle.tomex_study.specs.Program.{Workload}
+use Rattle.tomex_study.specs.Program.{Workload, steps_of}
 use Rattle.tomex_study.specs.Study.{DesignSpace}
 use Rattle.tomex_front_views.specs.LinkedPlot.{linked_picture_of}
-use Rattle.tomex_page_tables.specs.Asked.{programs_table, steps_of}
+use Rattle.tomex_page_tables.specs.Asked.{programs_table}
 use Rattle.tomex_page_rows.specs.Lists.{lists_table}
 use Rattle.tomex_page_rows.specs.Sentence.{floor_sentence}
 use Rattle.tomex_page_rows.specs.Additions.{choices_table}

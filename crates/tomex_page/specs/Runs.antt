@@ -6,7 +6,7 @@ use Rattle.tomex_floor.specs.Floor.{floor_of}
 use Rattle.tomex_config.specs.Configuration.{latency_of}
 use Rattle.tomex_path.specs.Path.{path_of}
 use Rattle.tomex_path.specs.declared.link.Link.{Link}
-use Rattle.tomex_study.specs.Program.{Workload}
+use Rattle.tomex_study.specs.Program.{Workload, steps_of}
 use Rattle.tomex_timing.specs.History.{greatest_end, last_issue}
 use Rattle.tomex_timing.specs.Needs.{peak, stalls, stalls_by}
 use Rattle.tomex_config.specs.Cost.{all_units}
@@ -16,7 +16,6 @@ use Rattle.tomex_timing.specs.declared.need.Need.{Need}
 use Rattle.tomex_config.specs.declared.part.Part.{Part}
 use Rattle.tomex_config.specs.declared.part.Part.TheVariants.{Stations, Units, Buses, Width}
 use Rattle.tomex_timing.specs.declared.times.Done.{Done}
-use Rattle.tomex_page_tables.specs.Asked.{steps_of}
 
 -- the need of a history for a part: the most that it takes of it at once, and the cycles that its steps wait for it
 abbrev pub need_in : Configuration → List Done → Part → Need

@@ -3,7 +3,7 @@
 ghost use Rattle.std.specs.Prelude.{OnOk};
 ghost use Rattle.tomex_layout.specs.Growth.{Appends};
 ghost use Rattle.tomex_page.specs.Charts.{chart_of, chart_start, first_steps, picture_text, chart_block, too_wide};
-ghost use Rattle.tomex_page_tables.specs.Asked.{steps_of};
+ghost use Rattle.tomex_study.specs.Program.{steps_of};
 ghost use Rattle.tomex_run_views.specs.Excerpt.{AreTimesOf};
 
 use std::alloc::{AllocError, Allocator, Global};
@@ -93,6 +93,6 @@ pub fn push_chart<A: Allocator, B: Allocator>(
     ensures { OnOk result (
         Appends (chart_of program.now.name (first_steps (steps_of program.now) times.items)) text.old text.new) }
 {
-    let excerpt = Excerpt::of_first(program, times, CHART_STEPS);
+    let excerpt = Excerpt::of_first(program.run(), times, CHART_STEPS);
     push_chart_of(text, heap, program.name(), &excerpt)
 }

@@ -5,7 +5,7 @@ ghost use Rattle.std.specs.List.{flat_map};
 ghost use Rattle.tomex_layout.specs.Growth.{Appends};
 ghost use Rattle.tomex_page.specs.Page.{run_block, run_stalls};
 ghost use Rattle.tomex_page.specs.Runs.{floor_on, needs_on, path_on};
-ghost use Rattle.tomex_page_tables.specs.Asked.{steps_of};
+ghost use Rattle.tomex_study.specs.Program.{steps_of};
 ghost use Rattle.tomex_path_views.specs.Shares.{AreShort};
 ghost use Rattle.tomex_timing.specs.Search.{times_in, total_of};
 

@@ -1,8 +1,7 @@
 -- The programs whose own cycles are shown, and their totals.
 use Rattle.std.proofs.Common.{◌≡◌, ◌∙◌, ap, cond, sym, ℕ, ◌<◌, ◌≤◌, Bool, List, [], ◌∷◌, ◌++◌, length, map, refl}
 use Rattle.std.proofs.lemmas.Bool.{le-ltb, lt-ltb}
-use Rattle.tomex_timing.specs.Run.{total}
-use Rattle.tomex_study.specs.Cycles.{total_at, totals_of, totals_on}
+use Rattle.tomex_study.specs.Cycles.{cycles_of_run, total_at, totals_of, totals_on}
 use Rattle.tomex_study.specs.Program.{Workload}
 use Rattle.tomex_study.specs.Study.{DesignSpace}
 use Rattle.tomex_study.proofs.Rows.{totals_there}
@@ -46,4 +45,4 @@ pub cells_of_totals : (s : DesignSpace) (r : FrontRow) (programs : List Workload
 unfolding total_cell
 cells_of_totals s r [] = refl
 cells_of_totals s r (p ∷ programs) =
-    ap (λ (z : List ℕ). number_cell (total (config_at s r.row) p.image) ++ z) (cells_of_totals s r programs)
+    ap (λ (z : List ℕ). number_cell (cycles_of_run (config_at s r.row) p) ++ z) (cells_of_totals s r programs)

@@ -9,10 +9,8 @@ use Rattle.tomex_config.specs.Cost.{PriceList, price_of}
 use Rattle.tomex_config.specs.PartPrices.{cost_of_part, price_of_part}
 use Rattle.tomex_config.specs.Parts.{entries_in}
 use Rattle.tomex_html.specs.Html.{table_end, td}
-use Rattle.tomex_rvexec.specs.Run.{start_of}
-use Rattle.tomex_rvexec.specs.Trace.{steps_from}
 use Rattle.tomex_rvexec.specs.declared.step.Step.{Step}
-use Rattle.tomex_study.specs.Program.{Workload}
+use Rattle.tomex_study.specs.Program.{Workload, steps_of}
 use Rattle.tomex_study.specs.Study.{DesignSpace}
 use Rattle.tomex_config.specs.Parts.{count_of}
 use Rattle.tomex_config.specs.declared.part.Part.{Part}
@@ -23,10 +21,6 @@ use Rattle.tomex_html.specs.Tables.{number_cell, table_head, table_row}
 use Rattle.tomex_page_tables.specs.Pieces.{some}
 use Rattle.tomex_page_tables.specs.declared.choices.Facet.{Facet}
 use Rattle.tomex_page_tables.specs.declared.choices.Facet.TheVariants.{Choice, Cost}
-
--- the steps of a program's run, the last of which ends it
-abbrev pub steps_of : Workload → List Step
-steps_of p = steps_from p.limit (start_of p.image)
 
 abbrev pub instruction_text : Option Step → List ℕ
 instruction_text None = []

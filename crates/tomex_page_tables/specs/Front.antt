@@ -4,9 +4,9 @@ use Rattle.std.specs.Prelude.{Option, Some, None}
 use Rattle.std.specs.Fmt.{decimal}
 use Rattle.std.specs.List.{filter, flat_map}
 use Rattle.tomex_html.specs.Html.{cell, table_end, td}
-use Rattle.tomex_timing.specs.Run.{total}
 use Rattle.tomex_pareto.specs.Front.{is_on}
 use Rattle.tomex_pareto.specs.declared.front_row.FrontRow.{FrontRow}
+use Rattle.tomex_study.specs.Cycles.{cycles_of_run}
 use Rattle.tomex_study.specs.Program.{Workload}
 use Rattle.tomex_study.specs.Study.{DesignSpace}
 use Rattle.tomex_config.specs.Settings.{all_settings, differs, setting_of}
@@ -51,7 +51,7 @@ setting_cell before r setting = cell (sets_anew before r setting) (decimal (sett
 
 -- a program's own cycles on the row
 unfoldable pub total_cell : ShownRow → Workload → List ℕ
-total_cell r p = number_cell (total r.config p.image)
+total_cell r p = number_cell (cycles_of_run r.config p)
 
 unfoldable pub own_cells : Option ShownRow → ShownRow → List ℕ
 own_cells before r =

@@ -117,20 +117,20 @@ rows_of_file file config steps tally made sorted text is ordered are moved order
 )
 
 -- the links with the functions of a file's symbols
-pub links_with : {A B E : Type 0} (file : List ℕ) (config : Configuration) (steps run whole : List Step)
-    (index : Index A) (times : List Times) (path : List Link) → IsIndexOf (symbols_of file) whole index
-    → steps ≡ whole → run ≡ whole → times ≡ times_in config run → path ≡ path_of config (history config run)
+pub links_with : {A B E : Type 0} (file : List ℕ) (config : Configuration) (steps run : List Step)
+    (index : Index A) (times : List Times) (path : List Link) → IsIndexOf (symbols_of file) run index
+    → steps ≡ run → times ≡ times_in config run → path ≡ path_of config (history config run)
     → (r : Result (Vec ℕ B) E) → IfOk r (λ text. (own : Step → List (List ℕ))
     → All (λ s. IsFunctionField file index s (own s)) steps
     → text.items ≡ report_by_link function_columns own steps times path)
-    → IfOk r (λ text. IsPathLinks file config whole text.items)
-links_with file config steps run whole index times path indexed same_steps same_run timed is (Ok text) written =
+    → IfOk r (λ text. IsPathLinks file config run text.items)
+links_with file config steps run index times path indexed same timed is (Ok text) written =
     written (function_fields file (symbols_of file)) (λ k d within. record {
       symbols = symbols_of file;
       steps = steps;
-      index_is = subst (λ (ss : List Step). IsIndexOf (symbols_of file) ss index) (sym same_steps) indexed;
+      index_is = subst (λ (ss : List Step). IsIndexOf (symbols_of file) ss index) (sym same) indexed;
       has = all_addresses steps k d within;
       own_is = refl;
     })
-    ∙ rw (timed, is, same_steps, same_run) refl
-links_with file config steps run whole index times path indexed same_steps same_run timed is (Err e) written = tt
+    ∙ rw (timed, is, same) refl
+links_with file config steps run index times path indexed same timed is (Err e) written = tt

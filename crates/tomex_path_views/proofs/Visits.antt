@@ -162,6 +162,6 @@ module _ (steps : List Step) where
       (get_or_from_slice_get steps (l.step - 1) s s is)) (visits_have path)
 
 -- the visits along a path that was found
-pub along : (config : Configuration) (steps run whole : List Step) (path : List Link) → steps ≡ whole → run ≡ whole
-    → path ≡ path_of config (history config run) → visits_along steps path ≡ path_visits config whole
-along config steps run whole path same_steps same_run is = rw (is, same_steps, same_run) refl
+pub along : (config : Configuration) (steps run : List Step) (path : List Link) → steps ≡ run
+    → path ≡ path_of config (history config run) → visits_along steps path ≡ path_visits config run
+along config steps run path same is = rw (is, same) refl

@@ -1,10 +1,9 @@
 //! A run's path by function.
 
-ghost use Rattle.std.specs.Prelude.{◌≡◌, [], All, IfOk, List, OnOk, map};
+ghost use Rattle.std.specs.Prelude.{◌≡◌, ◌≤◌, [], All, IfOk, List, OnOk, length, map};
 ghost use Rattle.std.specs.BTreeMap.{IsOrdered, values};
 ghost use Rattle.std.specs.Ordering.{nat_cmp};
-ghost use Rattle.tomex_rvexec.specs.Run.{start_of};
-ghost use Rattle.tomex_rvexec.specs.Trace.{steps_from};
+ghost use Rattle.tomex_rvexec.specs.Run.{most_steps};
 ghost use Rattle.tomex_rvexec.specs.declared.step.Step.{Step};
 ghost use Rattle.tomex_layout.specs.Csv.{IsReady};
 ghost use Rattle.tomex_layout.specs.Growth.{Writes};
@@ -25,8 +24,8 @@ use tomex_functions::{FunctionsError, Index, Row, keys_of, put_rows, sort_rows};
 use tomex_layout::into_text;
 use tomex_run_views::{Sum, Tally, put_columns, put_sum};
 use tomex_rvexec::Step;
-use tomex_study::Program;
 use tomex_symbols::has_symbols;
+use tomex_timing::Run;
 
 /// The key of the function of each step of a run.
 fn function_keys<A: Allocator + Clone>(
@@ -41,22 +40,20 @@ fn function_keys<A: Allocator + Clone>(
     keys_of(alloc.clone()?, functions.as_slice())
 }
 
-/// The links of a program's path on a configuration, counted by the functions of their steps.
+/// The links of a run's path on a configuration, counted by the functions of their steps.
 fn count_by_function<A: Allocator + Clone>(
     alloc: &A,
-    program: &Program<A>,
+    run: &Run<A>,
     config: &Config,
     index: &Index<A>,
 ) -> Result<Tally<A>, AllocError>
-    requires { (symbols : List Symbol)
-        × IsIndexOf symbols (steps_from program.now.limit (start_of program.now.image)) index.now }
-    ensures { IfOk result (λ tally. (symbols : List Symbol)
-        → IsIndexOf symbols (steps_from program.now.limit (start_of program.now.image)) index.now
-        → IsTally (function_key symbols)
-        (path_visits config.now (steps_from program.now.limit (start_of program.now.image))) tally) }
+    requires few { length run.now ≤ most_steps }
+    requires index { (symbols : List Symbol) × IsIndexOf symbols run.now index.now }
+    ensures { IfOk result (λ tally. (symbols : List Symbol) → IsIndexOf symbols run.now index.now
+        → IsTally (function_key symbols) (path_visits config.now run.now) tally) }
 {
-    let keys = function_keys(alloc, index, program.steps())?;
-    count_path(alloc, program, config, keys.as_slice())
+    let keys = function_keys(alloc, index, run.steps())?;
+    count_path(alloc, run, config, keys.as_slice())
 }
 
 /// The rows of the functions, by their keys. No calls are counted.
@@ -116,15 +113,15 @@ fn text_of_rows<A: Allocator>(
 fn text_by_function<A: Allocator + Clone>(
     alloc: A,
     heap: Global,
-    program: &Program<A>,
+    run: &Run<A>,
     config: &Config,
     file: &[u8],
 ) -> Result<Vec<u8, A>, AllocError>
-    ensures { IfOk result (λ text. IsPathByFunction file.now config.now
-        (steps_from program.now.limit (start_of program.now.image)) text.items) }
+    requires few { length run.now ≤ most_steps }
+    ensures { IfOk result (λ text. IsPathByFunction file.now config.now run.now text.items) }
 {
-    let index = index_of(&alloc, program, file)?;
-    let tally = count_by_function(&alloc, program, config, &index)?;
+    let index = index_of(&alloc, run, file)?;
+    let tally = count_by_function(&alloc, run, config, &index)?;
     let mut rows = rows_of(alloc.clone()?, &tally, &index)?;
     sort_rows(&mut rows);
     text_of_rows(alloc, heap, file, rows.as_slice(), &tally.all)
@@ -139,16 +136,15 @@ fn text_by_function<A: Allocator + Clone>(
 pub fn path_by_function<A: Allocator + Clone>(
     alloc: A,
     heap: Global,
-    program: &Program<A>,
+    run: &Run<A>,
     config: &Config,
     file: &[u8],
 ) -> Result<Vec<u8, A>, FunctionsError>
-    ensures { IsWithFunctions
-        (IsPathByFunction file.now config.now (steps_from program.now.limit (start_of program.now.image)))
-        file.now result }
+    requires few { length run.now ≤ most_steps }
+    ensures { IsWithFunctions (IsPathByFunction file.now config.now run.now) file.now result }
 {
     if !has_symbols(file) {
         return Err(FunctionsError::NoSymbols);
     }
-    Ok(text_by_function(alloc, heap, program, config, file)?)
+    Ok(text_by_function(alloc, heap, run, config, file)?)
 }

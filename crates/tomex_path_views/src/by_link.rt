@@ -3,8 +3,7 @@
 ghost use Rattle.std.specs.Prelude.{◌≡◌, ◌≤◌, ◌++◌, [], ℕ, All, IfOk, List, OnOk, length, map};
 ghost use Rattle.std.specs.List.{flat_map};
 ghost use Rattle.csv.specs.Records.{fields_of, partial_of};
-ghost use Rattle.tomex_rvexec.specs.Run.{start_of};
-ghost use Rattle.tomex_rvexec.specs.Trace.{steps_from};
+ghost use Rattle.tomex_rvexec.specs.Run.{most_steps};
 ghost use Rattle.tomex_rvexec.specs.declared.step.Step.{Step};
 ghost use Rattle.tomex_layout.specs.Csv.{IsReady, record_text};
 ghost use Rattle.tomex_layout.specs.Growth.{Appends, Writes};
@@ -22,8 +21,7 @@ use tomex_layout::{into_text, push_decimal, push_instruction, push_names, put_re
 use tomex_path::{Link, RunPath, path};
 use tomex_run_views::{NoColumns, StepColumns, push_dashes, sign_in};
 use tomex_rvexec::Step;
-use tomex_study::Program;
-use tomex_timing::Times;
+use tomex_timing::{Run, Times};
 
 /// Adds what a step does in the cycles of its link, a sign a cycle.
 fn push_signs(text: &mut String, at: &Times, link: &Link) -> Result<(), AllocError>
@@ -262,12 +260,12 @@ pub fn text_of_links<A: Allocator, C: StepColumns>(
 pub fn path_links<A: Allocator + Clone>(
     alloc: A,
     heap: Global,
-    program: &Program<A>,
+    run: &Run<A>,
     config: &Config,
 ) -> Result<Vec<u8, A>, AllocError>
-    ensures { IfOk result (λ text.
-        IsPathLinks config.now (steps_from program.now.limit (start_of program.now.image)) text.items) }
+    requires few { length run.now ≤ most_steps }
+    ensures { IfOk result (λ text. IsPathLinks config.now run.now text.items) }
 {
-    let run = path(alloc.clone()?, program.run(), config)?;
-    text_of_links(alloc, heap, &[], &NoColumns, program.steps(), &run)
+    let path = path(alloc.clone()?, run, config)?;
+    text_of_links(alloc, heap, &[], &NoColumns, run.steps(), &path)
 }

@@ -1,10 +1,9 @@
 //! A run's path by place in the program.
 
-ghost use Rattle.std.specs.Prelude.{◌≡◌, ◌++◌, ◌∷◌, [], ℕ, All, IfOk, List, OnOk, map};
+ghost use Rattle.std.specs.Prelude.{◌≡◌, ◌≤◌, ◌++◌, ◌∷◌, [], ℕ, All, IfOk, List, OnOk, length, map};
 ghost use Rattle.std.specs.BTreeMap.{IsOrdered, values};
 ghost use Rattle.std.specs.Ordering.{nat_cmp};
-ghost use Rattle.tomex_rvexec.specs.Run.{start_of};
-ghost use Rattle.tomex_rvexec.specs.Trace.{steps_from};
+ghost use Rattle.tomex_rvexec.specs.Run.{most_steps};
 ghost use Rattle.tomex_rvexec.specs.declared.step.Step.{Step};
 ghost use Rattle.tomex_layout.specs.Csv.{IsReady};
 ghost use Rattle.tomex_layout.specs.Growth.{Writes};
@@ -16,7 +15,7 @@ use std::alloc::{AllocError, Allocator, Global};
 use tomex_config::Config;
 use tomex_layout::into_text;
 use tomex_run_views::{NoColumns, StepColumns, Tally, put_header, put_last, put_places};
-use tomex_study::Program;
+use tomex_timing::Run;
 
 /// Writes the report of what was counted.
 fn put_tally<A: Allocator, C: StepColumns>(
@@ -63,12 +62,12 @@ pub fn text_of_places<A: Allocator, C: StepColumns>(
 pub fn path_by_pc<A: Allocator + Clone>(
     alloc: A,
     heap: Global,
-    program: &Program<A>,
+    run: &Run<A>,
     config: &Config,
 ) -> Result<Vec<u8, A>, AllocError>
-    ensures { IfOk result (λ text.
-        IsPathByPlace config.now (steps_from program.now.limit (start_of program.now.image)) text.items) }
+    requires few { length run.now ≤ most_steps }
+    ensures { IfOk result (λ text. IsPathByPlace config.now run.now text.items) }
 {
-    let tally = count_by_address(&alloc, program, config)?;
+    let tally = count_by_address(&alloc, run, config)?;
     text_of_places(alloc, heap, &[], &NoColumns, &tally)
 }

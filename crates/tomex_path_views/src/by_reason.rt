@@ -1,10 +1,9 @@
 //! The report of a run's path by what its steps had waited for.
 
-ghost use Rattle.std.specs.Prelude.{◌≡◌, ◌++◌, ◌∷◌, [], codes, IfOk, OnOk};
+ghost use Rattle.std.specs.Prelude.{◌≡◌, ◌≤◌, ◌++◌, ◌∷◌, [], codes, IfOk, OnOk, length};
 ghost use Rattle.std.specs.List.{flat_map};
 ghost use Rattle.csv.specs.Records.{fields_of, partial_of};
-ghost use Rattle.tomex_rvexec.specs.Run.{start_of};
-ghost use Rattle.tomex_rvexec.specs.Trace.{steps_from};
+ghost use Rattle.tomex_rvexec.specs.Run.{most_steps};
 ghost use Rattle.tomex_rvdec.specs.Parts.{name_of_unit};
 ghost use Rattle.tomex_config.specs.Cost.{all_units};
 ghost use Rattle.tomex_layout.specs.Csv.{IsReady, record_text};
@@ -24,7 +23,7 @@ use tomex_layout::{into_text, push_decimal, push_names, put_record};
 use tomex_path::{Link, Reason, path};
 use tomex_run_views::push_name_of_part;
 use tomex_rvdec::{PoolId, UnitId};
-use tomex_study::Program;
+use tomex_timing::Run;
 
 /// The reasons, in the order of the report.
 pub const REASONS: [Reason; 18] = [
@@ -319,12 +318,12 @@ fn text_of_path<A: Allocator>(
 pub fn path_report<A: Allocator + Clone>(
     alloc: A,
     heap: Global,
-    program: &Program<A>,
+    run: &Run<A>,
     config: &Config,
 ) -> Result<Vec<u8, A>, AllocError>
-    ensures { IfOk result (λ text.
-        IsPathReport config.now (steps_from program.now.limit (start_of program.now.image)) text.items) }
+    requires few { length run.now ≤ most_steps }
+    ensures { IfOk result (λ text. IsPathReport config.now run.now text.items) }
 {
-    let path = path(alloc.clone()?, program.run(), config)?;
+    let path = path(alloc.clone()?, run, config)?;
     text_of_path(alloc, heap, config, path.links.as_slice())
 }

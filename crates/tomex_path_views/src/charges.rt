@@ -2,8 +2,7 @@
 
 ghost use Rattle.std.specs.Prelude.{◌≡◌, ◌≤◌, ◌++◌, [], ℕ, IfOk, List, OnOk, length, map};
 ghost use Rattle.csv.specs.Records.{fields_of, partial_of};
-ghost use Rattle.tomex_rvexec.specs.Run.{start_of};
-ghost use Rattle.tomex_rvexec.specs.Trace.{steps_from};
+ghost use Rattle.tomex_rvexec.specs.Run.{most_steps};
 ghost use Rattle.tomex_rvexec.specs.declared.step.Step.{Step};
 ghost use Rattle.tomex_path.specs.Laws.{cycles_of};
 ghost use Rattle.tomex_path_views.specs.Charges.{AreOfSteps, charge_columns, charge_fields, charged, order_of};
@@ -21,8 +20,7 @@ use tomex_layout::push_names;
 use tomex_path::{Link, Reason, path};
 use tomex_run_views::{Sum, SumColumns, Tally, addresses_of, push_decimals};
 use tomex_rvexec::Step;
-use tomex_study::Program;
-use tomex_timing::Waits;
+use tomex_timing::{Run, Waits};
 
 /// The names of the columns of sums.
 const CHARGE_COLUMNS: [&str; 11] = [
@@ -76,35 +74,33 @@ fn count_links<A: Allocator + Clone>(
     Ok(tally)
 }
 
-/// The links of a program's path on a configuration, counted by a key of their steps. There is a key for each step of
-/// the run.
+/// The links of a run's path on a configuration, counted by a key of their steps. There is a key for each step.
 pub fn count_path<A: Allocator + Clone>(
     alloc: &A,
-    program: &Program<A>,
+    run: &Run<A>,
     config: &Config,
     keys: &[u64],
 ) -> Result<Tally<A>, AllocError>
-    requires { (key : Step → ℕ)
-        × (keys.now ≡ map key (steps_from program.now.limit (start_of program.now.image))) }
-    ensures { IfOk result (λ tally. (key : Step → ℕ)
-        → keys.now ≡ map key (steps_from program.now.limit (start_of program.now.image)) → IsTally key
-        (path_visits config.now (steps_from program.now.limit (start_of program.now.image))) tally) }
+    requires few { length run.now ≤ most_steps }
+    requires keys { (key : Step → ℕ) × (keys.now ≡ map key run.now) }
+    ensures { IfOk result (λ tally. (key : Step → ℕ) → keys.now ≡ map key run.now
+        → IsTally key (path_visits config.now run.now) tally) }
 {
-    let run = path(alloc.clone()?, program.run(), config)?;
-    count_links(alloc.clone()?, keys, program.steps(), run.links.as_slice())
+    let path = path(alloc.clone()?, run, config)?;
+    count_links(alloc.clone()?, keys, run.steps(), path.links.as_slice())
 }
 
-/// The links of a program's path on a configuration, counted by the addresses of their steps.
+/// The links of a run's path on a configuration, counted by the addresses of their steps.
 pub fn count_by_address<A: Allocator + Clone>(
     alloc: &A,
-    program: &Program<A>,
+    run: &Run<A>,
     config: &Config,
 ) -> Result<Tally<A>, AllocError>
-    ensures { IfOk result (λ tally. IsTally pc_of
-        (path_visits config.now (steps_from program.now.limit (start_of program.now.image))) tally) }
+    requires few { length run.now ≤ most_steps }
+    ensures { IfOk result (λ tally. IsTally pc_of (path_visits config.now run.now) tally) }
 {
-    let addresses = addresses_of(alloc.clone()?, program.steps())?;
-    count_path(alloc, program, config, addresses.as_slice())
+    let addresses = addresses_of(alloc.clone()?, run.steps())?;
+    count_path(alloc, run, config, addresses.as_slice())
 }
 
 /// The cycles that are charged to nothing.

@@ -1,8 +1,7 @@
 //! A run's path by link and by place, with the function of each.
 
-ghost use Rattle.std.specs.Prelude.{IfOk};
-ghost use Rattle.tomex_rvexec.specs.Run.{start_of};
-ghost use Rattle.tomex_rvexec.specs.Trace.{steps_from};
+ghost use Rattle.std.specs.Prelude.{◌≤◌, IfOk, length};
+ghost use Rattle.tomex_rvexec.specs.Run.{most_steps};
 ghost use Rattle.tomex_functions.specs.Kept.{IsIndexOf};
 ghost use Rattle.tomex_functions.specs.WithFunctions.{IsWithFunctions};
 ghost use Rattle.tomex_path_views.specs.ByFunction.{IsPathByPlace, IsPathLinks};
@@ -15,40 +14,39 @@ use std::alloc::{AllocError, Allocator, Global};
 use tomex_config::Config;
 use tomex_functions::{FunctionColumn, FunctionsError, Index};
 use tomex_path::path;
-use tomex_study::Program;
 use tomex_symbols::{has_symbols, symbols};
+use tomex_timing::Run;
 
-/// The functions of the addresses of a program's run, by the symbols of its whole file.
+/// The functions of the addresses of a run, by the symbols of its whole file.
 pub fn index_of<A: Allocator + Clone>(
     alloc: &A,
-    program: &Program<A>,
+    run: &Run<A>,
     file: &[u8],
 ) -> Result<Index<A>, AllocError>
-    ensures { IfOk result (λ index. IsIndexOf (symbols_of file.now)
-        (steps_from program.now.limit (start_of program.now.image)) index) }
+    ensures { IfOk result (λ index. IsIndexOf (symbols_of file.now) run.now index) }
 {
     let symbols = symbols(alloc.clone()?, file)?;
-    Index::new(alloc.clone()?, symbols, program.steps())
+    Index::new(alloc.clone()?, symbols, run.steps())
 }
 
 /// The links of a path with their functions, by the symbols that the file may have.
 fn links_with_functions<A: Allocator + Clone>(
     alloc: A,
     heap: Global,
-    program: &Program<A>,
+    run: &Run<A>,
     config: &Config,
     file: &[u8],
 ) -> Result<Vec<u8, A>, AllocError>
-    ensures { IfOk result (λ text. IsPathLinks file.now config.now
-        (steps_from program.now.limit (start_of program.now.image)) text.items) }
+    requires few { length run.now ≤ most_steps }
+    ensures { IfOk result (λ text. IsPathLinks file.now config.now run.now text.items) }
 {
-    let index = index_of(&alloc, program, file)?;
-    let run = path(alloc.clone()?, program.run(), config)?;
+    let index = index_of(&alloc, run, file)?;
+    let path = path(alloc.clone()?, run, config)?;
     let column = FunctionColumn {
         file,
         index: &index,
     };
-    text_of_links(alloc, heap, &["function"], &column, program.steps(), &run)
+    text_of_links(alloc, heap, &["function"], &column, run.steps(), &path)
 }
 
 /// The links of a run's critical path with the function of each: the records of
@@ -58,33 +56,32 @@ fn links_with_functions<A: Allocator + Clone>(
 pub fn path_links_and_functions<A: Allocator + Clone>(
     alloc: A,
     heap: Global,
-    program: &Program<A>,
+    run: &Run<A>,
     config: &Config,
     file: &[u8],
 ) -> Result<Vec<u8, A>, FunctionsError>
-    ensures { IsWithFunctions
-        (IsPathLinks file.now config.now (steps_from program.now.limit (start_of program.now.image)))
-        file.now result }
+    requires few { length run.now ≤ most_steps }
+    ensures { IsWithFunctions (IsPathLinks file.now config.now run.now) file.now result }
 {
     if !has_symbols(file) {
         return Err(FunctionsError::NoSymbols);
     }
-    Ok(links_with_functions(alloc, heap, program, config, file)?)
+    Ok(links_with_functions(alloc, heap, run, config, file)?)
 }
 
 /// A path by place with the functions, by the symbols that the file may have.
 fn places_with_functions<A: Allocator + Clone>(
     alloc: A,
     heap: Global,
-    program: &Program<A>,
+    run: &Run<A>,
     config: &Config,
     file: &[u8],
 ) -> Result<Vec<u8, A>, AllocError>
-    ensures { IfOk result (λ text. IsPathByPlace file.now config.now
-        (steps_from program.now.limit (start_of program.now.image)) text.items) }
+    requires few { length run.now ≤ most_steps }
+    ensures { IfOk result (λ text. IsPathByPlace file.now config.now run.now text.items) }
 {
-    let index = index_of(&alloc, program, file)?;
-    let tally = count_by_address(&alloc, program, config)?;
+    let index = index_of(&alloc, run, file)?;
+    let tally = count_by_address(&alloc, run, config)?;
     let column = FunctionColumn {
         file,
         index: &index,
@@ -99,16 +96,15 @@ fn places_with_functions<A: Allocator + Clone>(
 pub fn path_by_pc_and_function<A: Allocator + Clone>(
     alloc: A,
     heap: Global,
-    program: &Program<A>,
+    run: &Run<A>,
     config: &Config,
     file: &[u8],
 ) -> Result<Vec<u8, A>, FunctionsError>
-    ensures { IsWithFunctions
-        (IsPathByPlace file.now config.now (steps_from program.now.limit (start_of program.now.image)))
-        file.now result }
+    requires few { length run.now ≤ most_steps }
+    ensures { IsWithFunctions (IsPathByPlace file.now config.now run.now) file.now result }
 {
     if !has_symbols(file) {
         return Err(FunctionsError::NoSymbols);
     }
-    Ok(places_with_functions(alloc, heap, program, config, file)?)
+    Ok(places_with_functions(alloc, heap, run, config, file)?)
 }

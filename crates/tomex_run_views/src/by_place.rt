@@ -1,10 +1,9 @@
 //! The stalls report by place in the program.
 
-ghost use Rattle.std.specs.Prelude.{◌≡◌, ◌≤◌, ◌^◌, ◌++◌, ◌∷◌, [], ℕ, All, IfOk, List, OnOk, map};
+ghost use Rattle.std.specs.Prelude.{◌≡◌, ◌≤◌, ◌^◌, ◌++◌, ◌∷◌, [], ℕ, All, IfOk, List, OnOk, length, map};
 ghost use Rattle.std.specs.BTreeMap.{IsOrdered, values};
 ghost use Rattle.std.specs.Ordering.{nat_cmp};
-ghost use Rattle.tomex_rvexec.specs.Run.{start_of};
-ghost use Rattle.tomex_rvexec.specs.Trace.{steps_from};
+ghost use Rattle.tomex_rvexec.specs.Run.{most_steps};
 ghost use Rattle.tomex_rvexec.specs.declared.step.Step.{Step};
 ghost use Rattle.tomex_layout.specs.Csv.{IsReady};
 ghost use Rattle.tomex_layout.specs.Growth.{Writes};
@@ -20,7 +19,7 @@ use std::alloc::{AllocError, Allocator, Global};
 use tomex_config::Config;
 use tomex_layout::into_text;
 use tomex_rvexec::Step;
-use tomex_study::Program;
+use tomex_timing::Run;
 
 /// Writes the report of what was counted.
 fn put_counted<A: Allocator, C: StepColumns>(
@@ -76,7 +75,7 @@ pub fn addresses_of<A: Allocator>(alloc: A, steps: &[Step]) -> Result<Vec<u64, A
     Ok(addresses)
 }
 
-/// The stalls report of a program on a configuration by place in the program: CSV with a header, a record for each
+/// The stalls report of a run on a configuration by place in the program: CSV with a header, a record for each
 /// address at which the run has a step, in ascending order, with how many steps it has there, how many cycles they
 /// take, and for how many cycles they wait for what; then the cycles after the last issue, and last the same of all
 /// steps.
@@ -85,13 +84,13 @@ pub fn addresses_of<A: Allocator>(alloc: A, steps: &[Step]) -> Result<Vec<u64, A
 pub fn stalls_by_pc<A: Allocator + Clone>(
     alloc: A,
     heap: Global,
-    program: &Program<A>,
+    run: &Run<A>,
     config: &Config,
 ) -> Result<Vec<u8, A>, AllocError>
-    ensures { IfOk result (λ text.
-        IsReportByPlace config.now (steps_from program.now.limit (start_of program.now.image)) text.items) }
+    requires few { length run.now ≤ most_steps }
+    ensures { IfOk result (λ text. IsReportByPlace config.now run.now text.items) }
 {
-    let steps = program.steps();
+    let steps = run.steps();
     let addresses = addresses_of(alloc.clone()?, steps)?;
     let counted = count_run(alloc.clone()?, config, steps, addresses.as_slice())?;
     text_by_place(alloc, heap, &[], &NoColumns, &counted)

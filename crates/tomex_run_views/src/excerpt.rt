@@ -1,8 +1,7 @@
 //! Excerpts of runs.
 
 ghost use Rattle.std.specs.Prelude.{◌≡◌, ◌-◌, ◌<◌, ◌≤◌, IfErr, IfOk, IsErrOf, drop, length, take};
-ghost use Rattle.tomex_rvexec.specs.Run.{start_of};
-ghost use Rattle.tomex_rvexec.specs.Trace.{steps_from};
+ghost use Rattle.tomex_rvexec.specs.Run.{most_steps};
 ghost use Rattle.tomex_run_views.specs.Excerpt.{AreTimesOf, HasNoExcerpt, IsExcerpt, IsExcerptOf, excerpt_with};
 
 use crate::excerpt_error::ExcerptError;
@@ -10,11 +9,10 @@ use std::alloc::Allocator;
 use std::marker::Model;
 use tomex_config::Config;
 use tomex_rvexec::Step;
-use tomex_study::Program;
-use tomex_timing::Times;
 use tomex_timing::evaluate::times;
+use tomex_timing::{Run, Times};
 
-/// Neighbouring steps of a program's run, with their times on a configuration.
+/// Neighbouring steps of a run, with their times on a configuration.
 #[derive(Drop)]
 pub struct Excerpt<'a, A: Allocator> {
     /// The number of the first step; the run's first step is number 1.
@@ -56,24 +54,22 @@ fn part_of<T>(items: &[T], skipped: usize, count: usize) -> &[T]
 }
 
 impl<'a, A: Allocator + Clone> Excerpt<'a, A> {
-    /// At most `count` steps of a program's run on a configuration, from step `number` on; the first step is
+    /// At most `count` steps of a run on a configuration, from step `number` on; the first step is
     /// number 1. All steps of the run are timed.
     pub fn new(
         alloc: &A,
-        program: &'a Program<A>,
+        run: &'a Run<A>,
         config: &Config,
         number: u32,
         count: u32,
     ) -> Result<Excerpt<'a, A>, ExcerptError>
-        requires { 0 < number }
-        ensures steps { IfOk result (λ e. IsExcerptOf config.now
-            (steps_from program.now.limit (start_of program.now.image)) number count e) }
-        ensures refused { IfErr result (λ error. HasNoExcerpt
-            (steps_from program.now.limit (start_of program.now.image)) number error) }
-        ensures no_step { length (steps_from program.now.limit (start_of program.now.image)) < number
-            → IsErrOf result ExcerptError.NoSuchStep }
+        requires few { length run.now ≤ most_steps }
+        requires number { 0 < number }
+        ensures steps { IfOk result (λ e. IsExcerptOf config.now run.now number count e) }
+        ensures refused { IfErr result (λ error. HasNoExcerpt run.now number error) }
+        ensures no_step { length run.now < number → IsErrOf result ExcerptError.NoSuchStep }
     {
-        let steps = program.steps();
+        let steps = run.steps();
         if steps.len() < number as usize {
             return Err(ExcerptError::NoSuchStep);
         }
@@ -89,17 +85,17 @@ impl<'a, A: Allocator + Clone> Excerpt<'a, A> {
 }
 
 impl<'a, A: Allocator> Excerpt<'a, A> {
-    /// The first steps of a program's run, at most `count` of them, given the times of all its steps. Allocates
+    /// The first steps of a run, at most `count` of them, given the times of all its steps. Allocates
     /// nothing.
-    pub fn of_first(program: &'a Program<A>, run_times: Vec<Times, A>, count: u32) -> Excerpt<'a, A>
-        requires { AreTimesOf (steps_from program.now.limit (start_of program.now.image)) run_times.items }
-        ensures { result ≡ excerpt_with
-            (steps_from program.now.limit (start_of program.now.image)) run_times.items 1 count }
+    pub fn of_first(run: &'a Run<A>, run_times: Vec<Times, A>, count: u32) -> Excerpt<'a, A>
+        requires few { length run.now ≤ most_steps }
+        requires times { AreTimesOf run.now run_times.items }
+        ensures { result ≡ excerpt_with run.now run_times.items 1 count }
     {
         let count = count as usize;
         Excerpt {
             number: 1,
-            steps: part_of(program.steps(), 0, count),
+            steps: part_of(run.steps(), 0, count),
             run_times,
             count,
         }

@@ -2,8 +2,7 @@
 
 ghost use Rattle.std.specs.Prelude.{◌≡◌, ◌+◌, ◌<◌, ◌≤◌, ◌^◌, drop, length, nat_lt, take};
 ghost use Rattle.std.specs.Prelude.{IfErr, IfOk, IsErrOf, OnOk};
-ghost use Rattle.tomex_rvexec.specs.Run.{start_of};
-ghost use Rattle.tomex_rvexec.specs.Trace.{steps_from};
+ghost use Rattle.tomex_rvexec.specs.Run.{most_steps};
 ghost use Rattle.tomex_timing.specs.Search.{total_of};
 ghost use Rattle.tomex_layout.specs.Growth.{Appends};
 ghost use Rattle.tomex_run_views.specs.Chart.{IsPictureOf, IsUnpictured, first_issue, frame_of};
@@ -16,9 +15,8 @@ use std::alloc::{AllocError, Allocator, Global};
 use std::fmt::Write;
 use tomex_config::Config;
 use tomex_rvexec::Step;
-use tomex_study::Program;
-use tomex_timing::Times;
 use tomex_timing::evaluate::total;
+use tomex_timing::{Run, Times};
 
 /// The most signs of one picture.
 const MOST_SIGNS: u64 = 16_777_216;
@@ -106,7 +104,7 @@ pub fn picture_of<A: Allocator, B: Allocator>(
     Ok(text.into_bytes())
 }
 
-/// The picture of some steps of a program's run on a configuration, at most `count` of them from step `number` on; the
+/// The picture of some steps of a run on a configuration, at most `count` of them from step `number` on; the
 /// first step is number 1. It has a line with the cycles, from the first step's issue to the greatest end, and then a
 /// line for each step: its number, its address, its instruction, and a sign for each cycle up to its end.
 ///
@@ -114,20 +112,18 @@ pub fn picture_of<A: Allocator, B: Allocator>(
 pub fn pipeline_text<A: Allocator + Clone>(
     alloc: A,
     heap: Global,
-    program: &Program<A>,
+    run: &Run<A>,
     config: &Config,
     number: u32,
     count: u32,
 ) -> Result<Vec<u8, A>, PictureError>
-    requires { 0 < number }
-    ensures text { IfOk result (λ text. IsPictureOf config.now
-        (steps_from program.now.limit (start_of program.now.image)) number count text.items) }
-    ensures refused { IfErr result (λ error. IsUnpictured config.now
-        (steps_from program.now.limit (start_of program.now.image)) number count error) }
-    ensures no_step { length (steps_from program.now.limit (start_of program.now.image)) < number
-        → IsErrOf result PictureError.NoSuchStep }
+    requires few { length run.now ≤ most_steps }
+    requires number { 0 < number }
+    ensures text { IfOk result (λ text. IsPictureOf config.now run.now number count text.items) }
+    ensures refused { IfErr result (λ error. IsUnpictured config.now run.now number count error) }
+    ensures no_step { length run.now < number → IsErrOf result PictureError.NoSuchStep }
 {
-    let excerpt = Excerpt::new(&alloc, program, config, number, count)?;
+    let excerpt = Excerpt::new(&alloc, run, config, number, count)?;
     if MOST_SIGNS < signs_of(&excerpt) {
         return Err(PictureError::TooLarge);
     }

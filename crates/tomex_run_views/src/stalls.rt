@@ -1,12 +1,11 @@
 //! The stalls report of a run on one configuration, with its floors.
 
-ghost use Rattle.std.specs.Prelude.{◌≡◌, ◌++◌, ◌∷◌, [], ℕ, List, IfOk, OnOk};
+ghost use Rattle.std.specs.Prelude.{◌≡◌, ◌≤◌, ◌++◌, ◌∷◌, [], ℕ, List, IfOk, OnOk, length};
 ghost use Rattle.std.specs.List.{flat_map};
 ghost use Rattle.csv.specs.Records.{fields_of, partial_of};
 ghost use Rattle.tomex_rvdec.specs.declared.pool.UnitId.{UnitId};
 ghost use Rattle.tomex_rvexec.specs.declared.step.Step.{Step};
-ghost use Rattle.tomex_rvexec.specs.Run.{start_of};
-ghost use Rattle.tomex_rvexec.specs.Trace.{steps_from};
+ghost use Rattle.tomex_rvexec.specs.Run.{most_steps};
 ghost use Rattle.tomex_config.specs.Parts.{all_parts};
 ghost use Rattle.tomex_floor.specs.Floor.{floors_by_width};
 ghost use Rattle.tomex_config.specs.Configuration.{latency_of};
@@ -22,8 +21,7 @@ use std::fmt::Write;
 use tomex_config::{Config, Part};
 use tomex_floor::floors;
 use tomex_layout::{into_text, push_decimal, push_names, put_record};
-use tomex_study::Program;
-use tomex_timing::Needs;
+use tomex_timing::{Needs, Run};
 
 /// Writes the names of the columns.
 fn put_header<A: Allocator>(writer: &mut Writer<Vec<u8, A>>, heap: Global) -> Result<(), AllocError>
@@ -224,7 +222,7 @@ fn text_of_needs<A: Allocator>(
     into_text(writer)
 }
 
-/// The stalls report of a program on a configuration: CSV with a header, a record for each part with how many the
+/// The stalls report of a run on a configuration: CSV with a header, a record for each part with how many the
 /// configuration has, how many of them the run takes at once at most, and for how many cycles its steps wait for one;
 /// then the cycles that they wait for what is no part, the drain, which is the cycles after the last issue, and the
 /// total; last the floors for the issue widths from 1 to 4.
@@ -233,13 +231,12 @@ fn text_of_needs<A: Allocator>(
 pub fn stalls_report<A: Allocator + Clone>(
     alloc: A,
     heap: Global,
-    program: &Program<A>,
+    run: &Run<A>,
     config: &Config,
 ) -> Result<Vec<u8, A>, AllocError>
-    ensures { IfOk result (λ text.
-        IsStallsReport config.now (steps_from program.now.limit (start_of program.now.image)) text.items) }
+    requires few { length run.now ≤ most_steps }
+    ensures { IfOk result (λ text. IsStallsReport config.now run.now text.items) }
 {
-    let run = program.run();
     let needs = run.needs(&alloc, config)?;
     let floors = floors(alloc.clone()?, run, config)?;
     text_of_needs(alloc, heap, config, &needs, &floors)

@@ -2,5 +2,7 @@
 pub mod Bounds
 pub mod Each
 pub mod Rows
+pub mod SameCycles
 pub mod Selection
+pub mod SomeCycles
 pub mod StudyFronts

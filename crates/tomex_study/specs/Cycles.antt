@@ -5,17 +5,21 @@ use Rattle.tomex_timing.specs.Run.{total}
 use Rattle.tomex_study.specs.Program.{Workload}
 use Rattle.tomex_study.specs.Study.{DesignSpace, config_at}
 
+-- the cycles of a program's run on a configuration
+abbrev pub cycles_of_run : Configuration → Workload → ℕ
+cycles_of_run config p = total config p.image
+
 -- the totals of the programs' runs on a configuration, in the programs' order
 unfoldable pub totals_on : List Workload → Configuration → List ℕ
-totals_on programs config = map (λ p. total config p.image) programs
+totals_on programs config = map (cycles_of_run config) programs
 
 -- the cycles of a configuration: the sum of the totals of the programs' runs on it, each times its weight
 unfoldable pub cycles_on : List Workload → Configuration → ℕ
-cycles_on programs config = sum_by (λ p. p.weight * total config p.image) programs
+cycles_on programs config = sum_by (λ p. p.weight * cycles_of_run config p) programs
 
 -- a program's cycles on the row of this number
 abbrev pub total_at : DesignSpace → Workload → ℕ → ℕ
-total_at s p row = total (config_at s row) p.image
+total_at s p row = cycles_of_run (config_at s row) p
 
 -- the totals of the programs' runs on each configuration: a list for each row, in the rows' order
 unfoldable pub totals_of : DesignSpace → List (List ℕ)

@@ -34,6 +34,10 @@ pub record IsProgram (p : Workload) : Type 0 where
   pub some_weight : 1 ≤ p.weight
   pub most_weight : p.weight ≤ 1000
 
+-- the steps of a program's run, the last of which ends it
+abbrev pub steps_of : Workload → List Step
+steps_of p = steps_from p.limit (start_of p.image)
+
 -- the steps of an image's run within a limit, and a bound on their number
 pub record AreSteps (image : Loaded) (limit : ℕ) (steps : List Step) : Type 0 where
   pub run : steps ≡ steps_from limit (start_of image)

@@ -18,14 +18,13 @@ use Rattle.tomex_config.specs.Configuration.{latency_of}
 use Rattle.tomex_floor.proofs.Above.{floor_is_bound}
 use Rattle.tomex_plateaus.proofs.Totals.{total_within}
 use Rattle.tomex_study.proofs.Bounds.{total_bound}
-use Rattle.tomex_study.specs.Program.{IsProgram, Workload}
+use Rattle.tomex_study.specs.Program.{IsProgram, Workload, steps_of}
 use Rattle.tomex_timing.specs.History.{greatest_end, is_of}
 use Rattle.tomex_config.specs.Cost.{all_units}
 use Rattle.tomex_timing.specs.Run.{total}
 use Rattle.tomex_timing.specs.Search.{times_in, total_of}
 use Rattle.tomex_timing.specs.declared.times.Done.{Done}
 use Rattle.tomex_timing.specs.declared.times.Times.{Times}
-use Rattle.tomex_survey.specs.Floors.{steps_of}
 use Rattle.tomex_survey.specs.Flooring.{AreFloorsOf, is_used_by, used_latencies, used_latency}
 use Rattle.tomex_survey.specs.declared.floors.KnownFloors.{KnownFloors}
 use Rattle.tomex_config.proofs.Within.{width_within}

@@ -8,10 +8,9 @@ use Rattle.tomex_rvexec.specs.declared.step.Step.{Step}
 use Rattle.tomex_config.specs.Configuration.{Configuration}
 use Rattle.tomex_floor.specs.Floor.{floors_by_width}
 use Rattle.tomex_config.specs.Configuration.{latency_of}
-use Rattle.tomex_study.specs.Program.{Workload}
+use Rattle.tomex_study.specs.Program.{Workload, steps_of}
 use Rattle.tomex_timing.specs.History.{is_of}
 use Rattle.tomex_config.specs.Cost.{all_units}
-use Rattle.tomex_survey.specs.Floors.{steps_of}
 use Rattle.tomex_survey.specs.declared.floors.KnownFloors.{KnownFloors}
 
 -- a step uses this kind of unit

@@ -1,19 +1,12 @@
 -- The floors of a study: what no machine with the latencies of one of its rows goes below.
 use Rattle.std.specs.Prelude.{ℕ, ◌*◌, List, map, sum_by, unwrap_or}
-use Rattle.tomex_rvexec.specs.Run.{start_of}
-use Rattle.tomex_rvexec.specs.Trace.{steps_from}
-use Rattle.tomex_rvexec.specs.declared.step.Step.{Step}
 use Rattle.tomex_config.specs.Configuration.{Configuration}
 use Rattle.tomex_floor.specs.Floor.{floor_of}
 use Rattle.tomex_config.specs.Configuration.{latency_of}
-use Rattle.tomex_study.specs.Program.{Workload}
+use Rattle.tomex_study.specs.Program.{Workload, steps_of}
 use Rattle.tomex_study.specs.Study.{DesignSpace}
 use Rattle.tomex_study.specs.StudyFront.{all_rows}
 use Rattle.tomex_survey.specs.Extremes.{least}
-
--- the steps of a program's run
-abbrev pub steps_of : Workload → List Step
-steps_of p = steps_from p.limit (start_of p.image)
 
 -- a program's floor for a configuration's latencies and a width, times its weight
 abbrev pub weighted_floor : ℕ → Configuration → Workload → ℕ

@@ -6,7 +6,8 @@ ghost use Rattle.tomex_floor.specs.Floor.{floor_of, floors_by_width};
 ghost use Rattle.tomex_config.specs.Configuration.{latency_of};
 ghost use Rattle.tomex_timing.specs.History.{is_of};
 ghost use Rattle.tomex_timing.specs.Run.{most_cycles};
-ghost use Rattle.tomex_survey.specs.Floors.{any_width, fastest, floor_at, steps_of, study_floor, weighted_floor};
+ghost use Rattle.tomex_survey.specs.Floors.{any_width, fastest, floor_at, study_floor, weighted_floor};
+ghost use Rattle.tomex_study.specs.Program.{steps_of};
 ghost use Rattle.tomex_survey.specs.Extremes.{lesser};
 ghost use Rattle.tomex_survey.specs.Flooring.{is_used_by, used_latencies, used_latency};
 

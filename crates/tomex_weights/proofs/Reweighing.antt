@@ -7,8 +7,7 @@ use Rattle.tomex_config.specs.Configuration.{Configuration, plain}
 use Rattle.tomex_pareto.specs.Front.{rows_from}
 use Rattle.tomex_pareto.specs.declared.front_row.FrontRow.{FrontRow}
 use Rattle.tomex_pareto.specs.Spans.{as_cycles}
-use Rattle.tomex_timing.specs.Run.{total}
-use Rattle.tomex_study.specs.Cycles.{cycles_of, cycles_on, totals_on}
+use Rattle.tomex_study.specs.Cycles.{cycles_of, cycles_of_run, cycles_on, totals_on}
 use Rattle.tomex_study.specs.Program.{Workload}
 use Rattle.tomex_study.specs.Study.{DesignSpace, config_at}
 use Rattle.tomex_study.specs.StudyFront.{all_rows}
@@ -35,14 +34,14 @@ part_within (p ∷ ps) (suc place) config low =
 -- sums in hundredths
 
 abbrev own : Configuration → Workload → ℕ
-own config p = p.weight * total config p.image
+own config p = p.weight * cycles_of_run config p
 
 pub hundredfold : (ps : List Workload) (config : Configuration)
     → cycles_on (map in_hundredths ps) config ≡ 100 * cycles_on ps config
 unfolding cycles_on
 hundredfold [] config = refl
 hundredfold (p ∷ ps) config =
-    let one = mul_assoc 100 p.weight (total config p.image) in
+    let one = mul_assoc 100 p.weight (cycles_of_run config p) in
     let rest : cycles_on (map in_hundredths ps) config ≡ 100 * cycles_on ps config = hundredfold ps config in
     rw (sum_by-cons (own config) (in_hundredths p) (map in_hundredths ps), sum_by-cons (own config) p ps)
     (omega (arith, one, rest))
@@ -57,7 +56,7 @@ replaced (p ∷ ps) zero q config low =
     rw (sum_by-cons (own config) (record p { weight = q }) (map in_hundredths ps), sum_by-cons (own config) p ps)
     (omega (arith, rest))
 replaced (p ∷ ps) (suc place) q config low =
-    let one = mul_assoc 100 p.weight (total config p.image) in
+    let one = mul_assoc 100 p.weight (cycles_of_run config p) in
     let rest : cycles_on (with_weight place q (map in_hundredths ps)) config + 100 * part_of ps place config
     ≡ 100 * cycles_on ps config + q * times_of ps place config = replaced ps place q config (omega arith) in
     rw (

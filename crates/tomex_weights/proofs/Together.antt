@@ -20,8 +20,7 @@ use Rattle.tomex_pareto.proofs.NewCosts.{free_keeps, on_costed, premium}
 use Rattle.tomex_pareto.proofs.Settled.{settled_holds, settled_some}
 use Rattle.tomex_pareto.proofs.Shares.{Counts, DoCount, one_counts, slack, stays_less}
 use Rattle.tomex_pareto.proofs.Swapped.{free_swapped, swapped_back}
-use Rattle.tomex_timing.specs.Run.{total}
-use Rattle.tomex_study.specs.Cycles.{cycles_of, cycles_on, totals_on}
+use Rattle.tomex_study.specs.Cycles.{cycles_of, cycles_of_run, cycles_on, totals_on}
 use Rattle.tomex_study.specs.Program.{Workload}
 use Rattle.tomex_study.specs.Study.{DesignSpace, IsStudy, config_at}
 use Rattle.tomex_study.specs.StudyFront.{all_rows, front_of_study}
@@ -43,7 +42,7 @@ abbrev places : DesignSpace → List ℕ
 places s = range_with_len 0 (length s.programs)
 
 abbrev own : Configuration → Workload → ℕ
-own config p = p.weight * total config p.image
+own config p = p.weight * cycles_of_run config p
 
 sums_by_place : (weights : Weights) (n : ℕ) (ps : List Workload) (config : Configuration) (times : ℕ → ℕ)
     → ((i : ℕ) → i < length ps → times (n + i) ≡ get_or (totals_on ps config) i 0)
@@ -52,7 +51,7 @@ sums_by_place : (weights : Weights) (n : ℕ) (ps : List Workload) (config : Con
 unfolding cycles_on totals_on
 sums_by_place weights n [] config times at = refl
 sums_by_place weights n (p ∷ ps) config times at =
-    let here : times n ≡ total config p.image =
+    let here : times n ≡ cycles_of_run config p =
     ap times (let z : n ≡ n + 0 = omega arith in z) ∙ at 0 (omega arith) in
     let rest = sums_by_place weights (n + 1) ps config times (λ i less.
     ap times (let z : n + 1 + i ≡ n + suc i = omega arith in z) ∙ at (suc i) (omega arith)) in

@@ -36,11 +36,11 @@ fn report_of<A: Allocator + Clone>(
         (build_in (choice_of new.now))) }
 {
     let old_build = BuildRun {
-        program: old.program,
+        run: old.program.run(),
         file: old.file,
     };
     let new_build = BuildRun {
-        program: new.program,
+        run: new.program.run(),
         file: new.file,
     };
     Ok(function_changes(alloc, heap, old.config, &old_build, &new_build)?)

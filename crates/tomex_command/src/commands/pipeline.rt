@@ -22,10 +22,11 @@ pub fn pipeline_text<A: Allocator + Clone>(
     ensures failure { IfErr result
         (λ failure. IsNotShown failure (RunView.Pipeline line.entry) (choice_of chosen.now)) }
 {
+    let run = chosen.program.run();
     let (from, steps) = (line.from, line.steps);
     if line.konata {
-        Ok(konata_text(alloc, heap, chosen.program, chosen.config, from, steps)?)
+        Ok(konata_text(alloc, heap, run, chosen.config, from, steps)?)
     } else {
-        Ok(picture_text(alloc, heap, chosen.program, chosen.config, from, steps)?)
+        Ok(picture_text(alloc, heap, run, chosen.config, from, steps)?)
     }
 }

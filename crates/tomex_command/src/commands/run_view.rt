@@ -58,8 +58,8 @@ fn shown<A: Allocator + Clone>(
         RunView::Stalls(line) => stalls_text(alloc, heap, chosen, line),
         RunView::Path(line) => path_text(alloc, heap, chosen, line),
         RunView::Loops(_) => {
-            let (config, program, file) = (chosen.config, chosen.program, chosen.file);
-            Ok(loops_report(alloc, heap, program, config, file)?)
+            let run = chosen.program.run();
+            Ok(loops_report(alloc, heap, run, chosen.config, chosen.file)?)
         }
         RunView::Pipeline(line) => pipeline_text(alloc, heap, chosen, line),
         RunView::Tables(line) => text_after(alloc, chosen, line),

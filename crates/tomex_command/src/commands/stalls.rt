@@ -21,16 +21,17 @@ pub fn stalls_text<A: Allocator + Clone>(
     ensures text { IfOk result (λ text. IsShown (RunView.Stalls line.entry) (choice_of chosen.now) text.items) }
     ensures failure { IfErr result (λ failure. IsNotShown failure (RunView.Stalls line.entry) (choice_of chosen.now)) }
 {
-    let (config, program, file) = (chosen.config, chosen.program, chosen.file);
+    let run = chosen.program.run();
+    let (config, file) = (chosen.config, chosen.file);
     if line.by_function {
         if line.by_pc {
-            Ok(stalls_by_pc_and_function(alloc, heap, program, config, file)?)
+            Ok(stalls_by_pc_and_function(alloc, heap, run, config, file)?)
         } else {
-            Ok(stalls_by_function(alloc, heap, program, config, file)?)
+            Ok(stalls_by_function(alloc, heap, run, config, file)?)
         }
     } else if line.by_pc {
-        Ok(stalls_by_pc(alloc, heap, program, config)?)
+        Ok(stalls_by_pc(alloc, heap, run, config)?)
     } else {
-        Ok(stalls_report(alloc, heap, program, config)?)
+        Ok(stalls_report(alloc, heap, run, config)?)
     }
 }

@@ -6,7 +6,7 @@ use Rattle.tomex_functions.proofs.by_function.stalls_by_function.Goals as goal
 pub returns : goal.returns
 returns g c = record {
   text = report_by_function c.args.file.now c.in_ok-symbols.symbols.items c.args.config.now c.steps.result.now _
-      c.in_ok-listing.listing _ c.in_ok-symbols.ensures.value c.steps.ensures.steps c.in_ok-listing.ensures
+      c.in_ok-listing.listing _ c.in_ok-symbols.ensures.value c.steps.ensures c.in_ok-listing.ensures
       c.in_ok-text_of_listing.ensures;
   some = search rules;
   refused = search rules;

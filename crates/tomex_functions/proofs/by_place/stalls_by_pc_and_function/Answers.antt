@@ -16,7 +16,7 @@ returns g c =
     ordered in
     record {
       text = report_by_place c.args.file.now symbols c.args.config.now c.steps-steps.result.now _
-          c.in_ok-counted.counted _ c.in_ok-symbols.ensures.value c.steps-steps.ensures.steps counted ordered
+          c.in_ok-counted.counted _ c.in_ok-symbols.ensures.value c.steps-steps.ensures counted ordered
           (c.in_ok-text_by_place.ensures.text (function_fields c.args.file.now symbols) (λ k d within. record {
             symbols = symbols;
             steps = c.steps-steps.result.now;

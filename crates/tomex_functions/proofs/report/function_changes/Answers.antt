@@ -12,20 +12,19 @@ use Rattle.tomex_functions.proofs.report.function_changes.Goals.{then-not-has_sy
 pub named_of-requires-clause-old : goal.named_of-requires-clause-old
 named_of-requires-clause-old g c =
     listing_fits c.args.old.now.file.now (symbols_of c.args.old.now.file.now) c.args.config.now
-    (build_of c.args.old.now.program.now c.args.old.now.file.now).steps c.in_ok-old_rows.old_rows c.total_in.result
+    c.args.old.now.run.now c.in_ok-old_rows.old_rows c.total_in.result
     c.in_ok-old_rows.ensures c.total_in.ensures.value c.total_in.ensures.fits
 
 pub named_of-requires-clause-new : goal.named_of-requires-clause-new
 named_of-requires-clause-new g c =
     listing_fits c.args.new.now.file.now (symbols_of c.args.new.now.file.now) c.args.config.now
-    (build_of c.args.new.now.program.now c.args.new.now.file.now).steps c.in_ok-new_rows.new_rows c.total_in-2.result
+    c.args.new.now.run.now c.in_ok-new_rows.new_rows c.total_in-2.result
     c.in_ok-new_rows.ensures c.total_in-2.ensures.value c.total_in-2.ensures.fits
 
 pub returns : goal.returns
 returns g c = record {
-  text = function_changes_are c.args.config.now (build_of c.args.old.now.program.now c.args.old.now.file.now)
-      (build_of c.args.new.now.program.now c.args.new.now.file.now) c.in_ok-old_rows.old_rows
-      c.in_ok-new_rows.new_rows _ _ _ c.in_ok-old_rows.ensures c.in_ok-new_rows.ensures
+  text = function_changes_are c.args.config.now (build_of c.args.old.now) (build_of c.args.new.now)
+      c.in_ok-old_rows.old_rows c.in_ok-new_rows.new_rows _ _ _ c.in_ok-old_rows.ensures c.in_ok-new_rows.ensures
       (ap₂ change_of c.drain_in.ensures c.drain_in-2.ensures)
       (ap₂ change_of c.total_in.ensures.value c.total_in-2.ensures.value)
       (c.in_ok-text_of.ensures _ c.in_ok-named.ensures);

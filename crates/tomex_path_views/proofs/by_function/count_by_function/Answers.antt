@@ -17,14 +17,14 @@ keys_of_run symbols steps whole index held keys same is are indexed =
     is ∙ (are symbols (subst (λ (ss : List Step). IsIndexOf symbols ss index) (sym same) indexed)
     ∙ ap (map (function_key symbols)) same)
 
-pub count_path-requires : goal.count_path-requires
-count_path-requires g c = (
-  function_key c.requires.0,
-  keys_of_run c.requires.0 c.steps.result.now _ c.args.index.now _ _ c.steps.ensures.steps c.as_slice.ensures.value
-      c.in_ok-keys.ensures c.requires.1,
+pub count_path-requires-clause-keys : goal.count_path-requires-clause-keys
+count_path-requires-clause-keys g c = (
+  function_key c.requires.index.0,
+  keys_of_run c.requires.index.0 c.steps.result.now _ c.args.index.now _ _ c.steps.ensures c.as_slice.ensures.value
+      c.in_ok-keys.ensures c.requires.index.1,
 )
 
 pub returns : goal.returns
 returns g c = IfOk-weaker c.count_path.result _ _ (λ tally counted symbols indexed. counted (function_key symbols)
-    (keys_of_run symbols c.steps.result.now _ c.args.index.now _ _ c.steps.ensures.steps c.as_slice.ensures.value
+    (keys_of_run symbols c.steps.result.now _ c.args.index.now _ _ c.steps.ensures c.as_slice.ensures.value
     c.in_ok-keys.ensures indexed)) c.count_path.ensures

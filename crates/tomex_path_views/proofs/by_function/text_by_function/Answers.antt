@@ -1,8 +1,6 @@
 -- The rows in their order are the report.
 use Rattle.std.proofs.Common.{◌∙◌, ap, List}
 use Rattle.std.proofs.lemmas.Result.{IfOk-weaker}
-use Rattle.tomex_rvexec.specs.Run.{start_of}
-use Rattle.tomex_rvexec.specs.Trace.{steps_from}
 use Rattle.tomex_timing.specs.Search.{history}
 use Rattle.tomex_functions.specs.Functions.{function_key}
 use Rattle.tomex_functions.specs.declared.rows.Row.{Row}
@@ -12,14 +10,14 @@ use Rattle.tomex_path_views.proofs.Reports.{groups_have, rows_of_file}
 use Rattle.tomex_symbols.specs.Symbols.{symbols_of}
 use Rattle.tomex_path_views.proofs.by_function.text_by_function.Goals as goal
 
-pub count_by_function-requires : goal.count_by_function-requires
-count_by_function-requires g c = (symbols_of c.args.file.now, c.in_ok-index.ensures)
+pub count_by_function-requires-clause-index : goal.count_by_function-requires-clause-index
+count_by_function-requires-clause-index g c = (symbols_of c.args.file.now, c.in_ok-index.ensures)
 
 pub returns : goal.returns
 returns g c =
     let file = c.args.file.now in
     let config = c.args.config.now in
-    let steps = steps_from c.args.program.now.limit (start_of c.args.program.now.image) in
+    let steps = c.args.run.now in
     let tally = c.in_ok-tally.tally in
     let counted = c.in_ok-tally.ensures (symbols_of file) c.in_ok-index.ensures in
     let ordered = c.in_ok-rows.ensures.order in

@@ -5,9 +5,9 @@ use Rattle.tomex_path_views.proofs.Reports.{links_with}
 use Rattle.tomex_path_views.proofs.with_functions.links_with_functions.Goals as goal
 
 pub returns : goal.returns
-returns g c = links_with c.args.file.now c.args.config.now c.steps.result.now c.run.result.now _ c.in_ok-index.index _ _
-    c.in_ok-index.ensures c.steps.ensures.steps c.run.ensures.steps c.in_ok-run.ensures.times
-    c.in_ok-run.ensures.exact c.text_of_links.result c.text_of_links.ensures
+returns g c = links_with c.args.file.now c.args.config.now c.steps.result.now c.args.run.now c.in_ok-index.index _ _
+    c.in_ok-index.ensures c.steps.ensures c.in_ok-path.ensures.times c.in_ok-path.ensures.exact
+    c.text_of_links.result c.text_of_links.ensures
 
 pub text_of_links-requires-clause-pairs : goal.text_of_links-requires-clause-pairs
 text_of_links-requires-clause-pairs = grind (arith, common_steps)

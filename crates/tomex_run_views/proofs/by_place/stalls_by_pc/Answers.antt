@@ -14,7 +14,7 @@ returns g c =
     let counted = c.in_ok-counted.ensures.counted pc_of (c.as_slice.ensures.value ∙ c.in_ok-addresses.ensures) in
     let written = IfOk-weaker text _ _ (λ t is. is (λ step. []) (λ k d within. refl)) c.text_by_place.ensures.text in
     subst (λ (ss : List Step). IfOk text (λ t. IsReportByPlace c.args.config.now ss t.items))
-    c.steps-steps.ensures.steps
+    c.steps-steps.ensures
     (report_if_made [] (λ step. []) c.args.config.now c.steps-steps.result.now _ counted text written
     c.text_by_place.ensures.order)
 

@@ -5,7 +5,7 @@ use Rattle.tomex_rvexec.specs.declared.step.Step.{Step}
 use Rattle.tomex_floor.specs.Floor.{floors_by_width}
 use Rattle.tomex_config.specs.Configuration.{latency_of}
 use Rattle.tomex_survey.specs.Flooring.{AreFloorsOf}
-use Rattle.tomex_survey.specs.Floors.{steps_of}
+use Rattle.tomex_study.specs.Program.{steps_of}
 use Rattle.tomex_survey.proofs.SameFloors.{floors_known}
 use Rattle.tomex_survey.proofs.floors.Floored.floors_for.Goals as goal
 

@@ -1,6 +1,6 @@
 -- The floor at the configuration's own width is one of the four.
 use Rattle.std.proofs.Common.{arith}
-use Rattle.tomex_survey.specs.Floors.{steps_of}
+use Rattle.tomex_study.specs.Program.{steps_of}
 use Rattle.tomex_survey.proofs.SameFloors.{own_floor_is}
 use Rattle.tomex_survey.proofs.floors.Floored.own_floor.Goals as goal
 
