@@ -21,7 +21,7 @@ use Rattle.tomex_study.specs.StudyFront.{all_rows, front_of_study}
 use Rattle.tomex_config.specs.Parts.{all_parts}
 use Rattle.tomex_config.specs.declared.part.Part.{Part}
 use Rattle.tomex_config.specs.Parts.{same_entry}
-use Rattle.tomex_choices.specs.Choices.{choices, is_used, unused}
+use Rattle.tomex_study.specs.Choices.{choices, is_used, unused}
 use Rattle.tomex_choices.specs.Laws.{has_no_unwanted, has_none}
 use Rattle.tomex_choices.specs.Passing.{Has}
 use Rattle.tomex_choices.proofs.EnoughFrom.{all_from, any_at, any_from}

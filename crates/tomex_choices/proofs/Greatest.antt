@@ -5,7 +5,7 @@ use Rattle.std.proofs.lemmas.Bool.{cases_Bool}
 use Rattle.std.proofs.lemmas.Bool.Decides.{nat_tests}
 use Rattle.tomex_choices.specs.Passing.{Has}
 use Rattle.tomex_choices.specs.Savings.{greatest_saving, is_greater, more, thousandths}
-use Rattle.tomex_choices.specs.declared.saving.Saving.{Saving}
+use Rattle.tomex_study.specs.declared.list_report.Saving.{Saving}
 use Rattle.tomex_choices.proofs.Members.{from_map, has_map}
 
 -- the order of savings

@@ -1,6 +1,6 @@
 -- Lemmas of this crate.
 pub mod Passes
-pub mod Filtering
+pub mod RowLimits
 pub mod Members
 pub mod Leasts
 pub mod Greatest

@@ -13,7 +13,7 @@ use Rattle.tomex_choices.specs.Passing.{AreUnbeaten, Has}
 use Rattle.tomex_choices.specs.Savings.{as_row, complete, costs_asked, fewest, greatest_saving, saving_among, saving_at}
 use Rattle.tomex_choices.specs.Savings.{saving_if, thousandths}
 use Rattle.tomex_choices.specs.declared.new_machine.NewMachine.{NewMachine}
-use Rattle.tomex_choices.specs.declared.saving.Saving.{Saving}
+use Rattle.tomex_study.specs.declared.list_report.Saving.{Saving}
 use Rattle.tomex_choices.proofs.Greatest.{same_greatest}
 use Rattle.tomex_choices.proofs.Members.{from_filter, from_map, has_either, has_filter, has_left, has_map, has_right}
 use Rattle.tomex_choices.proofs.Members.{least_has, least_is, same_least}

@@ -17,7 +17,7 @@ use Rattle.tomex_config.specs.Parts.{count_of}
 use Rattle.tomex_config.specs.declared.part.Part.{Part}
 use Rattle.tomex_config.specs.declared.part.Part.TheVariants.{Stations, Units, Buses, Width}
 use Rattle.tomex_config.specs.Parts.{count_of, latency_in, same_entry}
-use Rattle.tomex_choices.specs.Choices.{choices}
+use Rattle.tomex_study.specs.Choices.{choices}
 use Rattle.tomex_choices.specs.Ends.{HasMoreAtEnd, IsAtEnd, IsBeyondEnds}
 use Rattle.tomex_choices.specs.Enough.{stays_from}
 use Rattle.tomex_choices.specs.Laws.{has_no_unwanted}

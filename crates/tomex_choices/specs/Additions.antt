@@ -10,7 +10,7 @@ use Rattle.tomex_config.specs.Parts.{latency_in}
 use Rattle.tomex_choices.specs.NewMachines.{lacking, new_machines}
 use Rattle.tomex_choices.specs.Savings.{is_of_use, saving_among}
 use Rattle.tomex_choices.specs.declared.new_machine.NewMachine.{NewMachine}
-use Rattle.tomex_choices.specs.declared.saving.Saving.{Saving}
+use Rattle.tomex_study.specs.declared.list_report.Saving.{Saving}
 
 -- the new machines of a list that are of use
 unfoldable pub useful : DesignSpace → Part → List NewMachine

@@ -19,7 +19,7 @@ use Rattle.tomex_config.specs.declared.part.Part.{Part}
 use Rattle.tomex_config.specs.declared.part.Part.TheVariants.{Units}
 use Rattle.tomex_config.specs.Parts.{same_entry}
 use Rattle.tomex_choices.specs.Additions.{additions, has_entry}
-use Rattle.tomex_choices.specs.Choices.{unused}
+use Rattle.tomex_study.specs.Choices.{unused}
 use Rattle.tomex_config.specs.Parts.{most_of}
 use Rattle.tomex_choices.specs.Ends.{AreReweighted, IsBeyondEnds, IsCoveredAtAnyPrice, IsUnneededAtEnd, repriced}
 use Rattle.tomex_choices.specs.Enough.{enough}

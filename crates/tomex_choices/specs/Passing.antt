@@ -3,7 +3,7 @@ use Rattle.std.specs.Prelude.{ℕ, ◌≡◌, ◌≤◌, ◌<◌, ◌==◌, ◌�
 use Rattle.std.specs.Prelude.{Option, Some, None, map}
 use Rattle.tomex_pareto.specs.declared.front_row.FrontRow.{FrontRow}
 use Rattle.tomex_survey.specs.Extremes.{least}
-use Rattle.tomex_choices.specs.declared.saving.Saving.{Saving}
+use Rattle.tomex_study.specs.declared.list_report.Saving.{Saving}
 use Rattle.tomex_choices.specs.Savings.{beats, saving_at}
 use Rattle.tomex_choices.specs.declared.new_machine.NewMachine.{NewMachine}
 

@@ -6,7 +6,7 @@ use Rattle.std.specs.List.{filter, list_any}
 use Rattle.tomex_pareto.specs.declared.front_row.FrontRow.{FrontRow}
 use Rattle.tomex_survey.specs.Extremes.{least}
 use Rattle.tomex_choices.specs.declared.new_machine.NewMachine.{NewMachine}
-use Rattle.tomex_choices.specs.declared.saving.Saving.{Saving}
+use Rattle.tomex_study.specs.declared.list_report.Saving.{Saving}
 
 -- a row costs no more than a machine and takes no more cycles
 abbrev pub is_as_good : NewMachine → FrontRow → Bool

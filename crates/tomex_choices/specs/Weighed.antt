@@ -8,10 +8,8 @@ use Rattle.tomex_config.specs.Parts.{part_at}
 use Rattle.tomex_choices.specs.Additions.{has_entry, saving_of, useful}
 use Rattle.tomex_config.specs.Parts.{most_of}
 use Rattle.tomex_choices.specs.Enough.{enough}
-use Rattle.tomex_survey.specs.Floors.{any_width, study_floor}
 use Rattle.tomex_choices.specs.NewMachines.{grown}
 use Rattle.tomex_choices.specs.Passing.{Has}
-use Rattle.tomex_survey.specs.declared.floors.Floors.{Floors}
 use Rattle.tomex_choices.specs.declared.new_machine.NewMachine.{NewMachine}
 use Rattle.tomex_choices.specs.declared.weighing.WeighedList.{WeighedList}
 
@@ -26,12 +24,6 @@ pub record IsWeighed {A : Type 0} (s : DesignSpace) (part : Part) (l : WeighedLi
 pub record AreWeighed {A : Type 0} (s : DesignSpace) (lists : List (WeighedList A)) : Type 0 where
   pub count : length lists ≡ 13
   pub each : (place : ℕ) (l : WeighedList A) → slice_get lists place ≡ Some l → IsWeighed s (part_at place) l
-
--- and of the study's floors
-pub record IsWeighing {A : Type 0} (s : DesignSpace) (lists : List (WeighedList A)) (floors : Floors) : Type 0 where
-  pub lists_are : AreWeighed s lists
-  pub floor_is : floors.own ≡ study_floor s
-  pub any_width_is : floors.any_width ≡ any_width s
 
 -- the choices that a configuration brings and that one of these machines has
 abbrev pub added_if : Part → List NewMachine → Option Configuration → List Configuration

@@ -4,7 +4,6 @@
 #![tactic(auto)]
 
 mod asking;
-mod choices;
 mod entries;
 mod found;
 mod laws;
@@ -14,7 +13,6 @@ mod searching;
 mod useful;
 mod weighing;
 
-pub use choices::{front_choices, unused};
 pub use laws::{
     additions_are_all_that_is_needed, complete_lists_are_complete, covered_machines_add_no_points,
     floor_bounds_machines_of_all_sizes, longer_lists_at_once_add_nothing,
@@ -22,5 +20,4 @@ pub use laws::{
     nothing_to_add_is_covered, unused_choices_may_go,
 };
 pub use new_machine::NewMachine;
-pub use saving::Saving;
 pub use weighing::{WeighedChoices, weigh_choices};

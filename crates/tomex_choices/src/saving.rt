@@ -8,15 +8,8 @@ ghost use Rattle.tomex_choices.specs.Savings.{thousandths};
 
 use crate::new_machine::NewMachine;
 use tomex_pareto::FrontRow;
+use tomex_study::Saving;
 use tomex_survey::lesser;
-
-/// The fewest cycles that a cost buys: of a study's rows, and fewer of those with the new machines of a list.
-#[derive(Clone, Copy, Drop, PartialEq, Eq)]
-pub struct Saving {
-    pub cost: u64,
-    pub now: u64,
-    pub new: u64,
-}
 
 /// The fewest cycles of the rows that a cost buys.
 fn fewest_now(rows: &[FrontRow], cost: u64) -> Option<u64>
@@ -68,24 +61,22 @@ fn saving_at(rows: &[FrontRow], machines: &[NewMachine], cost: u64) -> Option<Sa
     saving_if(cost, now, fewest_complete(rows, machines, cost))
 }
 
-impl Saving {
-    /// In thousandths of what the cost buys now, rounded down.
-    fn thousandths(self) -> u128
-        ensures { result ≡ thousandths self }
-    {
-        let saved = u128::from(self.now.saturating_sub(self.new));
-        (saved * 1000)
-            .checked_div(u128::from(self.now))
-            .unwrap_or(0)
-    }
+/// A saving in thousandths of what the cost buys now, rounded down.
+fn thousandths(saving: Saving) -> u128
+    ensures { result ≡ thousandths saving }
+{
+    let saved = u128::from(saving.now.saturating_sub(saving.new));
+    (saved * 1000)
+        .checked_div(u128::from(saving.now))
+        .unwrap_or(0)
+}
 
-    /// True if it is the greater one, or as great at a lesser cost.
-    fn is_greater(self, other: Saving) -> bool
-        ensures { result ≡ is_greater self other }
-    {
-        let (own, others) = (self.thousandths(), other.thousandths());
-        others < own || (own == others && self.cost < other.cost)
-    }
+/// True if `a` is the greater saving, or as great at a lesser cost.
+fn is_greater(a: Saving, b: Saving) -> bool
+    ensures { result ≡ is_greater a b }
+{
+    let (one, other) = (thousandths(a), thousandths(b));
+    other < one || (one == other && a.cost < b.cost)
 }
 
 /// The greater of two savings.
@@ -95,7 +86,7 @@ fn more(best: Option<Saving>, other: Option<Saving>) -> Option<Saving>
     match (best, other) {
         (None, other) => other,
         (Some(best), None) => Some(best),
-        (Some(best), Some(other)) => { Some(if other.is_greater(best) { other } else { best }) }
+        (Some(best), Some(other)) => { Some(if is_greater(other, best) { other } else { best }) }
     }
 }
 

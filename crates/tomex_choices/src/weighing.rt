@@ -5,18 +5,17 @@ ghost use Rattle.std.specs.List.{filter, flat_map, list_any, range_with_len};
 ghost use Rattle.tomex_study.specs.Study.{DesignSpace, IsStudy};
 ghost use Rattle.tomex_study.specs.StudyFront.{all_rows};
 ghost use Rattle.tomex_config.specs.Parts.{part_at};
-ghost use Rattle.tomex_choices.specs.Additions.{additions, has_entry, saving_of, useful};
+ghost use Rattle.tomex_choices.specs.Additions.{additions, has_entry, useful};
 ghost use Rattle.tomex_choices.specs.Asking.{AreFound, IsFound};
 ghost use Rattle.tomex_config.specs.Parts.{most_of};
-ghost use Rattle.tomex_choices.specs.Enough.{enough};
-ghost use Rattle.tomex_survey.specs.Floors.{any_width, study_floor};
 ghost use Rattle.tomex_choices.specs.NewMachines.{configurations_if, grown};
+ghost use Rattle.tomex_choices.specs.Reports.{list_reports, report_of};
 ghost use Rattle.tomex_choices.specs.Weighed.{AreWeighed, IsWeighed, added_by, added_if};
 
 use crate::entries::Entries;
 use crate::found::ListFound;
 use crate::new_machine::NewMachine;
-use crate::saving::{Saving, greatest_saving};
+use crate::saving::greatest_saving;
 use crate::searching::all_found;
 use crate::useful::{unbeaten, useful};
 use std::alloc::{AllocError, Allocator, Global};
@@ -24,8 +23,8 @@ use std::marker::Model;
 use std::thread::Threads;
 use tomex_config::{Config, Likeness, Part};
 use tomex_pareto::FrontRow;
-use tomex_study::{Gate, Study, Surveyed};
-use tomex_survey::{Floors, floors_of, surveyed};
+use tomex_study::{Gate, ListReport, Saving, Study, Surveyed, front_choices, unused};
+use tomex_survey::surveyed;
 
 /// What a list lacks.
 #[derive(Drop)]
@@ -36,24 +35,24 @@ pub(crate) struct WeighedList<A: Allocator> {
     pub enough: u8,
 }
 
-/// A study with its survey, what each of its lists lacks, and its floors. Contracts see it as the study, since all the
-/// rest is determined by that.
+/// A study with its survey, and what each of its lists lacks. Contracts see it as the study, since all the rest is
+/// determined by that.
 #[derive(Drop)]
 pub struct WeighedChoices<'s, A: Allocator = Global> {
     surveyed: Surveyed<'s, A>,
     lists: Vec<WeighedList<A>, A>,
-    floors: Floors,
 }
 
 impl<'s, A: Allocator> Model for WeighedChoices<'s, A> {
-    ghost use Rattle.tomex_choices.specs.Weighed.{IsWeighing};
+    ghost use Rattle.tomex_choices.specs.Reports.{list_reports, report_of};
+ghost use Rattle.tomex_choices.specs.Weighed.{AreWeighed};
     ghost use Rattle.tomex_study.specs.Study.{DesignSpace};
 
     ghost Value = { DesignSpace };
 
     ghost view = { λ w. w.surveyed };
 
-    ghost invariant = { λ w. IsWeighing w.surveyed w.lists.items w.floors };
+    ghost invariant = { λ w. AreWeighed w.surveyed w.lists.items };
 }
 
 /// What the list at a place lacks, given all rows and what was found of it on them.
@@ -115,13 +114,8 @@ pub fn weigh_choices<
     gate.begins(study.rows().len());
     let found = all_found(rt, alloc.clone()?, study, workers, gate)?;
     let surveyed = surveyed(alloc.clone()?, study, found.totals)?;
-    let lists = all_weighed(alloc.clone()?, surveyed.rows(), found.lists)?;
-    let floors = floors_of(alloc, study)?;
-    Ok(WeighedChoices {
-        surveyed,
-        lists,
-        floors,
-    })
+    let lists = all_weighed(alloc, surveyed.rows(), found.lists)?;
+    Ok(WeighedChoices { surveyed, lists })
 }
 
 /// True if one of these machines has a configuration's entry in a part's list.
@@ -199,8 +193,8 @@ impl<'s, A: Allocator> WeighedChoices<'s, A> {
     }
 
     /// The choices that the list at a place lacks and that are of use, by number; of options for each latency, in the
-    /// order of the first rows that have it. For each of them there is a configuration that has it.
-    pub fn additions(&self, heap: Global, place: usize) -> Result<Vec<Config>, AllocError>
+    /// order of the first rows that have it.
+    fn additions(&self, heap: Global, place: usize) -> Result<Vec<Config>, AllocError>
         requires { place < 13 }
         ensures { IfOk result (λ v. v.items ≡ additions self.now (part_at place)) }
     {
@@ -211,33 +205,31 @@ impl<'s, A: Allocator> WeighedChoices<'s, A> {
         all_added(heap, &entries, machines, firsts.as_slice())
     }
 
-    /// The greatest saving of the list at a place, if it were complete, at the least cost.
-    pub fn saving(&self, place: usize) -> Option<Saving>
+    /// What is found out of the list at a place.
+    fn report(&self, heap: Global, place: usize) -> Result<ListReport, AllocError>
         requires { place < 13 }
-        ensures { result ≡ saving_of self.now (part_at place) }
+        ensures { IfOk result (λ l. l ≡ report_of self.now (part_at place)) }
     {
-        self.lists[place].saving
+        let part = Part::ALL[place];
+        Ok(ListReport {
+            part,
+            front: front_choices(heap, &self.surveyed, part)?,
+            unused: unused(heap, &self.surveyed, part)?,
+            additions: self.additions(heap, place)?,
+            saving: self.lists[place].saving,
+            enough: self.lists[place].enough,
+        })
     }
 
-    /// The least number of the part at a place from which on, up to the most, no program's cycles change on any row.
-    pub fn enough(&self, place: usize) -> u8
-        requires { place < 13 }
-        ensures { result ≡ enough self.now (part_at place) }
+    /// What is found out of each list, in the order of the parts.
+    #[tactic(auto, unfolding(crate::specs::Reports::list_reports))]
+    pub fn reports(&self, heap: Global) -> Result<Vec<ListReport>, AllocError>
+        ensures { IfOk result (λ v. v.items ≡ list_reports self.now) }
     {
-        self.lists[place].enough
-    }
-
-    /// The least floor of a row at its own width, in weighted cycles.
-    pub fn floor(&self) -> u64
-        ensures { result ≡ study_floor self.now }
-    {
-        self.floors.own
-    }
-
-    /// The least floor of a row at the greatest width.
-    pub fn any_width(&self) -> u64
-        ensures { result ≡ any_width self.now }
-    {
-        self.floors.any_width
+        let mut reports = Vec::new(heap);
+        for place in 0..Part::ALL.len() {
+            reports.push(self.report(heap, place)?)?;
+        }
+        Ok(reports)
     }
 }

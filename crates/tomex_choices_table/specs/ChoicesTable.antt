@@ -1,21 +1,17 @@
 -- The table of a study's choices: for each list which of them are on the front, which may go, which others are worth
 -- adding and what they bring, and how many are enough; and how far the fastest row is from the floors.
-use Rattle.std.specs.Prelude.{ℕ, ◌==◌, if◌then◌else◌, List, [], ◌∷◌, ◌++◌, codes, map, Option, Some, None}
+use Rattle.std.specs.Prelude.{ℕ, ◌==◌, if◌then◌else◌, List, [], ◌∷◌, ◌++◌, codes, length, map, Option, Some, None}
 use Rattle.std.specs.List.{flat_map}
 use Rattle.std.specs.Fmt.{decimal}
 use Rattle.tomex_config.specs.Configuration.{Configuration}
-use Rattle.tomex_study.specs.Study.{DesignSpace}
+use Rattle.tomex_study.specs.ListFindings.{ListFindings}
+use Rattle.tomex_study.specs.declared.list_report.Floors.{Floors}
+use Rattle.tomex_study.specs.declared.list_report.Saving.{Saving}
 use Rattle.tomex_layout.specs.Table.{TableColumn, table_of}
-use Rattle.tomex_config.specs.Parts.{all_parts}
 use Rattle.tomex_config.specs.declared.part.Part.{Part}
 use Rattle.tomex_layout.specs.Differences.{percent}
 use Rattle.tomex_layout.specs.Lists.{entry_text, name_of_list}
-use Rattle.tomex_choices.specs.Additions.{additions, saving_of}
-use Rattle.tomex_choices.specs.Choices.{front_choices, unused}
 use Rattle.tomex_config.specs.Parts.{most_of}
-use Rattle.tomex_choices.specs.Enough.{enough}
-use Rattle.tomex_survey.specs.Floors.{any_width, fastest, study_floor}
-use Rattle.tomex_choices.specs.declared.saving.Saving.{Saving}
 use Rattle.tomex_choices_table.specs.declared.heading.Heading.{Heading}
 use Rattle.tomex_choices_table.specs.declared.heading.Heading.TheVariants as headings
 
@@ -49,18 +45,18 @@ name_under headings.Percent = codes "%"
 name_under headings.Cost = codes "cost"
 name_under headings.Enough = codes "enough"
 
--- the text under a heading in the line of a part's list
-abbrev pub text_under : DesignSpace → Heading → Part → List ℕ
-text_under s headings.List part = name_of_list part
-text_under s headings.Front part = entries_cell part (front_choices s part)
-text_under s headings.Unused part = entries_cell part (unused s part)
-text_under s headings.Add part = entries_cell part (additions s part)
-text_under s headings.Percent part = percent_cell (saving_of s part)
-text_under s headings.Cost part = cost_cell (saving_of s part)
-text_under s headings.Enough part = enough_cell part (enough s part)
+-- the text under a heading in the line of a list
+abbrev pub text_under : Heading → ListFindings → List ℕ
+text_under headings.List l = name_of_list l.part
+text_under headings.Front l = entries_cell l.part l.front
+text_under headings.Unused l = entries_cell l.part l.unused
+text_under headings.Add l = entries_cell l.part l.additions
+text_under headings.Percent l = percent_cell l.saving
+text_under headings.Cost l = cost_cell l.saving
+text_under headings.Enough l = enough_cell l.part l.enough
 
-unfoldable pub heading_column : DesignSpace → Heading → TableColumn
-heading_column s heading = record { name = name_under heading; entries = map (text_under s heading) all_parts }
+unfoldable pub heading_column : List ListFindings → Heading → TableColumn
+heading_column lists heading = record { name = name_under heading; entries = map (text_under heading) lists }
 
 abbrev pub all_headings : List Heading
 all_headings =
@@ -71,15 +67,15 @@ all_headings =
 unfoldable pub floor_text : ℕ → ℕ → List ℕ
 floor_text fewest floor = decimal floor ++ (codes " (" ++ (percent fewest floor ++ codes "%)"))
 
-unfoldable pub both_floors : ℕ → ℕ → ℕ → List ℕ
-both_floors fewest floor wide = floor_text fewest floor ++ (codes ", at any width " ++ floor_text fewest wide)
+unfoldable pub both_floors : Floors → List ℕ
+both_floors f = floor_text f.fastest f.own ++ (codes ", at any width " ++ floor_text f.fastest f.any_width)
 
 -- the last line: the fewest cycles of a row, and the floors
-unfoldable pub floors_text : ℕ → ℕ → ℕ → List ℕ
-floors_text fewest floor wide =
-    codes "fastest " ++ (decimal fewest ++ (codes ", floor " ++ (both_floors fewest floor wide ++ codes "\n")))
+unfoldable pub floors_text : Floors → List ℕ
+floors_text f =
+    codes "fastest " ++ (decimal f.fastest ++ (codes ", floor " ++ (both_floors f ++ codes "\n")))
 
--- the table of a study's choices
-unfoldable pub choices_table_of : DesignSpace → List ℕ
-choices_table_of s =
-    table_of 13 (map (heading_column s) all_headings) ++ floors_text (fastest s) (study_floor s) (any_width s)
+-- the table of what was found out of lists, with a line for each, and of the floors
+unfoldable pub choices_table_of : List ListFindings → Floors → List ℕ
+choices_table_of lists floors =
+    table_of (length lists) (map (heading_column lists) all_headings) ++ floors_text floors

@@ -8,9 +8,9 @@ ghost use Rattle.tomex_choices_table.specs.ChoicesTable.{percent_cell};
 
 use std::alloc::{AllocError, Allocator, Global};
 use std::fmt::Write;
-use tomex_choices::Saving;
 use tomex_config::{Config, Part};
 use tomex_layout::{push_entry, push_percent};
+use tomex_study::Saving;
 
 /// Adds configurations' entries in a part's list, each after a comma.
 #[tactic(auto, unfolding(crate::specs::ChoicesTable::after_comma))]

@@ -1,8 +1,7 @@
-//! A study's choices as CSV.
+//! What was found out of a study's lists as CSV.
 
-ghost use Rattle.std.specs.Prelude.{◌≡◌, ◌<◌, ◌++◌, ◌∷◌, [], map, IfOk, OnOk};
+ghost use Rattle.std.specs.Prelude.{◌≡◌, ◌++◌, ◌∷◌, [], map, IfOk, OnOk};
 ghost use Rattle.std.specs.List.{flat_map};
-ghost use Rattle.tomex_config.specs.Parts.{part_at};
 ghost use Rattle.tomex_choices_table.specs.ChoicesCsv.{after_space, choices_csv_of, entries_field, field_under};
 ghost use Rattle.tomex_choices_table.specs.ChoicesCsv.{list_record, names};
 ghost use Rattle.tomex_choices_table.specs.ChoicesTable.{all_headings};
@@ -12,9 +11,9 @@ ghost use Rattle.tomex_layout.specs.Growth.{Appends};
 use crate::heading::Heading;
 use crate::table::text_under;
 use std::alloc::{AllocError, Allocator, Global};
-use tomex_choices::{WeighedChoices, front_choices, unused};
 use tomex_config::{Config, Part};
 use tomex_layout::{CsvText, Fields, push_entry};
+use tomex_study::ListReport;
 
 /// Adds configurations' entries in a part's list, each after a space.
 #[tactic(auto, unfolding(crate::specs::ChoicesCsv::after_space))]
@@ -45,50 +44,33 @@ fn push_entries(
     fields.push(text.as_str())
 }
 
-/// Adds what the list at a place has under a heading of the table.
-fn push_under<A: Allocator>(
+/// Adds what a list has under a heading of the table.
+fn push_under(
     fields: &mut Fields,
     heap: Global,
-    weighed: &WeighedChoices<'_, A>,
+    list: &ListReport,
     heading: Heading,
-    place: usize,
 ) -> Result<(), AllocError>
-    requires { place < 13 }
-    ensures { OnOk result (fields.new ≡ fields.old ++ field_under weighed.now (part_at place) heading ∷ []) }
+    ensures { OnOk result (fields.new ≡ fields.old ++ field_under list.now heading ∷ []) }
 {
-    let (part, surveyed) = (Part::ALL[place], weighed.surveyed());
     match heading {
-        Heading::List => fields.push(text_under(heap, weighed, heading, place)?.as_str()),
-        Heading::Front => {
-            let front = front_choices(heap, surveyed, part)?;
-            push_entries(fields, heap, part, front.as_slice())
-        }
-        Heading::Unused => {
-            let unused = unused(heap, surveyed, part)?;
-            push_entries(fields, heap, part, unused.as_slice())
-        }
-        Heading::Add => {
-            let additions = weighed.additions(heap, place)?;
-            push_entries(fields, heap, part, additions.as_slice())
-        }
+        Heading::List => fields.push(text_under(heap, list, heading)?.as_str()),
+        Heading::Front => push_entries(fields, heap, list.part, list.front.as_slice()),
+        Heading::Unused => push_entries(fields, heap, list.part, list.unused.as_slice()),
+        Heading::Add => push_entries(fields, heap, list.part, list.additions.as_slice()),
         Heading::Percent | Heading::Cost | Heading::Enough => {
-            fields.push_number(text_under(heap, weighed, heading, place)?.as_str())
+            fields.push_number(text_under(heap, list, heading)?.as_str())
         }
     }
 }
 
-/// The fields of the list at a place.
-fn fields_of<A: Allocator>(
-    heap: Global,
-    weighed: &WeighedChoices<'_, A>,
-    place: usize,
-) -> Result<Fields, AllocError>
-    requires { place < 13 }
-    ensures { IfOk result (λ fields. fields ≡ map (field_under weighed.now (part_at place)) all_headings) }
+/// The fields of a list.
+fn fields_of(heap: Global, list: &ListReport) -> Result<Fields, AllocError>
+    ensures { IfOk result (λ fields. fields ≡ map (field_under list.now) all_headings) }
 {
     let mut fields = Fields::new(heap);
     for heading in Heading::ALL {
-        push_under(&mut fields, heap, weighed, heading, place)?;
+        push_under(&mut fields, heap, list, heading)?;
     }
     Ok(fields)
 }
@@ -103,20 +85,21 @@ fn header<A: Allocator>(alloc: A, heap: Global) -> Result<CsvText<A>, AllocError
     CsvText::with_header(alloc, heap, names.as_slice())
 }
 
-/// The table of a study's lists as CSV: a header, and a record for each list. Entries have spaces between them.
+/// The table of what was found out of lists as CSV: a header, and a record for each list. Entries have spaces between
+/// them.
 ///
 /// Everything except the text is allocated in `heap`.
 #[tactic(auto, unfolding(crate::specs::ChoicesCsv::list_record))]
 pub fn choices_csv<A: Allocator>(
     alloc: A,
     heap: Global,
-    weighed: &WeighedChoices<'_, A>,
+    lists: &[ListReport],
 ) -> Result<Vec<u8, A>, AllocError>
-    ensures { IfOk result (λ text. text.items ≡ choices_csv_of weighed.now) }
+    ensures { IfOk result (λ text. text.items ≡ choices_csv_of lists.now) }
 {
     let mut text = header(alloc, heap)?;
-    for place in 0..Part::ALL.len() {
-        text = text.with(&fields_of(heap, weighed, place)?)?;
+    for list in lists {
+        text = text.with(&fields_of(heap, list)?)?;
     }
     text.into_bytes()
 }

@@ -7,9 +7,11 @@
 
 mod accesses;
 mod evaluate;
+mod floored;
 mod latest;
 mod laws;
 mod next;
 
 pub use evaluate::floors;
+pub use floored::Floored;
 pub use laws::no_machine_is_faster;

@@ -12,16 +12,16 @@ use Rattle.tomex_page.specs.Page.{asked_choices, asked_help, page_of, page_over,
 
 pub choices_are_added : ChoicesAreAdded
 unfolding page_of page_over page_rest asked_choices asked_help
-choices_are_added name s =
+choices_are_added lists floors name s =
     let front = front_of_study s in
     let hull = hull_of front in
     let shown = shown_rows front in
     record {
-      before = page_start_of name s (length front) hull shown;
+      before = page_start_of name s floors (length front) hull shown;
       between = views_text s hull shown ++ page_help;
       after = commands_help ++ page_end;
-      page = ap (λ (z : List ℕ). page_start_of name s (length front) hull shown ++ z)
+      page = ap (λ (z : List ℕ). page_start_of name s floors (length front) hull shown ++ z)
           (sym (append_assoc (views_text s hull shown) page_help (commands_help ++ page_end)));
-      with_choices = ap (λ (z : List ℕ). page_start_of name s (length front) hull shown ++ (choices_table s ++ z))
+      with_choices = ap (λ (z : List ℕ). page_start_of name s floors (length front) hull shown ++ (choices_table s.prices lists ++ z))
           (sym (append_assoc (views_text s hull shown) page_help (choices_help ++ (commands_help ++ page_end))));
     }

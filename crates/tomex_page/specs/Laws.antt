@@ -52,16 +52,18 @@ abbrev pub OnPathIsWithin : Type 0
 OnPathIsWithin = (config : Configuration) (p : Workload) (reason : Reason) → IsWithinLimits config
     → on_path (path_on config p) reason ≤ cycles_for (needs_on config p) reason
 
--- A page for which the choices that lists lack were asked has them and their explanation, and is otherwise the page.
-pub record Adds (name : List ℕ) (s : DesignSpace) : Type 0 where
+-- A page for which what was found out of the lists was asked has that and its explanation, and is otherwise the page.
+pub record Adds (lists : List ListFindings) (floors : Floors) (name : List ℕ) (s : DesignSpace) : Type 0 where
   pub before : List ℕ
   pub between : List ℕ
   pub after : List ℕ
-  pub page : page_of false name s ≡ before ++ (between ++ after)
-  pub with_choices : page_of true name s ≡ before ++ (choices_table s ++ (between ++ (choices_help ++ after)))
+  pub page : page_of None floors name s ≡ before ++ (between ++ after)
+  pub with_choices : page_of (Some lists) floors name s
+      ≡ before ++ (choices_table s.prices lists ++ (between ++ (choices_help ++ after)))
 
 abbrev pub ChoicesAreAdded : Type 0
-ChoicesAreAdded = (name : List ℕ) (s : DesignSpace) → Adds name s
+ChoicesAreAdded = (lists : List ListFindings) (floors : Floors) (name : List ℕ) (s : DesignSpace)
+    → Adds lists floors name s
 
 -- the views of the rows after one, if there is one
 abbrev pub views_of : DesignSpace → Option ShownRow → List FrontRow → List View

@@ -1,5 +1,5 @@
 -- A study's report as a page: its picture, what was asked, its front, and a view for each row of the front.
-use Rattle.std.specs.Prelude.{ℕ, ◌-◌, nat_le, if◌then◌else◌, Bool, true, false, List, [], ◌∷◌, ◌++◌, codes, length}
+use Rattle.std.specs.Prelude.{ℕ, ◌-◌, nat_le, if◌then◌else◌, List, [], ◌∷◌, ◌++◌, codes, length}
 use Rattle.std.specs.Prelude.{option_map, slice_get, slice_index_or, Option, Some, None}
 use Rattle.std.specs.Fmt.{decimal}
 use Rattle.std.specs.List.{flat_map}
@@ -11,6 +11,9 @@ use Rattle.tomex_pareto.specs.declared.front_row.FrontRow.{FrontRow}
 use Rattle.tomex_study.specs.StudyFront.{front_of_study}
 use Rattle.tomex_study.specs.Program.{Workload, steps_of}
 use Rattle.tomex_study.specs.Study.{DesignSpace}
+use Rattle.tomex_study.specs.ListFindings.{ListFindings}
+use Rattle.tomex_study.specs.declared.list_report.Floors.{Floors}
+use Rattle.tomex_config.specs.Cost.{PriceList}
 use Rattle.tomex_front_views.specs.LinkedPlot.{linked_picture_of}
 use Rattle.tomex_page_tables.specs.Asked.{programs_table}
 use Rattle.tomex_page_rows.specs.Lists.{lists_table}
@@ -122,19 +125,19 @@ page_head name front rows hull shown =
     ++ (steps_sentence hull front shown ++ codes "</header>\n<main>\n<div class=\"c\">\n")
 
 -- the picture next to what was asked, and how far the fastest row is from what no machine goes below
-unfoldable pub overview : DesignSpace → List FrontRow → List FrontRow → List ℕ
-overview s hull shown =
+unfoldable pub overview : DesignSpace → Floors → List FrontRow → List FrontRow → List ℕ
+overview s floors hull shown =
     codes "<div class=\"w\">" ++ (linked_picture_of s hull shown ++ (codes "</div>\n<div>\n"
-    ++ (programs_table s ++ (lists_table s ++ (floor_sentence s ++ codes "</div>\n</div>\n")))))
+    ++ (programs_table s ++ (lists_table s ++ (floor_sentence floors ++ codes "</div>\n</div>\n")))))
 
 -- if it was asked for, what choices that the lists lack would bring
-unfoldable pub asked_choices : Bool → DesignSpace → List ℕ
-asked_choices true s = choices_table s
-asked_choices false s = []
+unfoldable pub asked_choices : PriceList → Option (List ListFindings) → List ℕ
+asked_choices prices (Some lists) = choices_table prices lists
+asked_choices prices None = []
 
-unfoldable pub asked_help : Bool → List ℕ
-asked_help true = choices_help
-asked_help false = []
+unfoldable pub asked_help : Option (List ListFindings) → List ℕ
+asked_help (Some lists) = choices_help
+asked_help None = []
 
 -- the views of the rows that are shown
 unfoldable pub views_text : DesignSpace → List FrontRow → List FrontRow → List ℕ
@@ -142,22 +145,23 @@ views_text s hull shown =
     codes "<div class=\"v\">\n" ++ (row_sections s hull shown None shown ++ codes "</div>\n</main>\n")
 
 -- what comes before the choices that the lists lack, and what comes after them
-unfoldable pub page_start_of : List ℕ → DesignSpace → ℕ → List FrontRow → List FrontRow → List ℕ
-page_start_of name s front hull shown =
-    page_head name front (length s.rows) hull shown ++ (overview s hull shown
+unfoldable pub page_start_of : List ℕ → DesignSpace → Floors → ℕ → List FrontRow → List FrontRow → List ℕ
+page_start_of name s floors front hull shown =
+    page_head name front (length s.rows) hull shown ++ (overview s floors hull shown
     ++ (left_out front ++ front_table s hull shown))
 
-unfoldable pub page_rest : DesignSpace → List FrontRow → List FrontRow → Bool → List ℕ
+unfoldable pub page_rest : DesignSpace → List FrontRow → List FrontRow → Option (List ListFindings) → List ℕ
 page_rest s hull shown asked =
     views_text s hull shown ++ (page_help ++ (asked_help asked ++ (commands_help ++ page_end)))
 
--- given the front, and of its rows those on its hull and those that are shown
-unfoldable pub page_over : List ℕ → DesignSpace → List FrontRow → List FrontRow → List FrontRow → Bool → List ℕ
-page_over name s front hull shown asked =
-    page_start_of name s (length front) hull shown ++ (asked_choices asked s ++ page_rest s hull shown asked)
+-- given the length of the front, and of its rows those on its hull and those that are shown
+unfoldable pub page_over : List ℕ → DesignSpace → Floors → ℕ → List FrontRow → List FrontRow
+    → Option (List ListFindings) → List ℕ
+page_over name s floors front hull shown asked =
+    page_start_of name s floors front hull shown ++ (asked_choices s.prices asked ++ page_rest s hull shown asked)
 
--- the page of a study with this name; if that was asked for, with what choices that the lists lack would bring
-unfoldable pub page_of : Bool → List ℕ → DesignSpace → List ℕ
-page_of asked name s =
+-- the page of a study with this name and these floors; if that was asked for, with what was found out of its lists
+unfoldable pub page_of : Option (List ListFindings) → Floors → List ℕ → DesignSpace → List ℕ
+page_of asked floors name s =
     let front = front_of_study s in
-    page_over name s front (hull_of front) (shown_rows front) asked
+    page_over name s floors (length front) (hull_of front) (shown_rows front) asked

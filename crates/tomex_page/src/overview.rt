@@ -13,7 +13,7 @@ use tomex_html::{push_name, push_page_start};
 use tomex_page_rows::{push_floor_sentence, push_lists_table};
 use tomex_page_tables::{MOST_ROWS, push_programs_table, push_steps_sentence};
 use tomex_pareto::FrontRow;
-use tomex_study::Surveyed;
+use tomex_study::{Floors, Surveyed};
 
 /// Adds the number of rows, and how many of them are on the front.
 #[tactic(auto, unfolding(crate::specs::Page::counts_text))]
@@ -77,7 +77,7 @@ pub fn push_page_head<A: Allocator>(
     write!(text, "</header>\n<main>\n<div class=\"c\">\n")
 }
 
-/// Adds the picture of all rows next to what was asked, and how far the fastest row is from the study's floors.
+/// Adds the picture of all rows next to what was asked, and how far the fastest row is from the floors.
 ///
 /// `hull` are the rows of the front that are on its hull, `shown` those that are shown.
 #[tactic(auto, unfolding(crate::specs::Page::overview))]
@@ -86,10 +86,11 @@ pub fn push_overview<A: Allocator + Clone>(
     alloc: &A,
     heap: Global,
     surveyed: &Surveyed<'_, A>,
+    floors: Floors,
     hull: &[FrontRow],
     shown: &[FrontRow],
 ) -> Result<(), AllocError>
-    ensures { OnOk result (Appends (overview surveyed.now hull.now shown.now) text.old text.new) }
+    ensures { OnOk result (Appends (overview surveyed.now floors hull.now shown.now) text.old text.new) }
 {
     let study = surveyed.study();
     text.push_str("<div class=\"w\">")?;
@@ -97,7 +98,7 @@ pub fn push_overview<A: Allocator + Clone>(
     text.push_str("</div>\n<div>\n")?;
     push_programs_table(text, study)?;
     push_lists_table(text, heap, surveyed)?;
-    push_floor_sentence(text, alloc.clone()?, surveyed)?;
+    push_floor_sentence(text, floors)?;
     write!(text, "</div>\n</div>\n")
 }
 

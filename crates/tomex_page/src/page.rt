@@ -1,11 +1,11 @@
 //! The page of a study.
 
-ghost use Rattle.std.specs.Prelude.{◌≡◌, ◌<◌, false, length, string_bytes, true, All, IfOk, OnOk};
+ghost use Rattle.std.specs.Prelude.{◌≡◌, ◌<◌, length, map, option_map, All, IfOk, OnOk};
 ghost use Rattle.std.specs.List.{Contains};
 ghost use Rattle.tomex_layout.specs.Growth.{Appends};
 ghost use Rattle.tomex_page.specs.Page.{asked_choices, asked_help, page_of, page_over, page_rest, page_start_of};
 ghost use Rattle.tomex_page.specs.Page.{views_text};
-ghost use Rattle.tomex_page_rows.specs.Additions.{choices_table};
+ghost use Rattle.tomex_study.specs.Program.{steps_of};
 ghost use Rattle.tomex_study.specs.StudyFront.{front_of_study};
 
 use crate::constants::{choices_help, commands_help, page_help};
@@ -13,13 +13,13 @@ use crate::overview::{push_left_out, push_overview, push_page_head};
 use crate::section::push_sections;
 use std::alloc::{AllocError, Allocator, Global};
 use std::fmt::Write;
-use tomex_choices::WeighedChoices;
+use tomex_config::Prices;
+use tomex_floor::Floored;
 use tomex_html::push_page_end;
 use tomex_page_rows::{PriceBook, push_choices_table};
 use tomex_page_tables::{push_front_table, shown_rows};
 use tomex_pareto::{FrontRow, hull};
-use tomex_study::Surveyed;
-use tomex_survey::all_floored;
+use tomex_study::{Floors, ListReport, Surveyed};
 
 /// Adds the views of the rows that are shown.
 #[tactic(auto, unfolding(crate::specs::Page::views_text))]
@@ -28,38 +28,49 @@ fn push_views<A: Allocator, B: Allocator + Clone>(
     alloc: &B,
     heap: Global,
     surveyed: &Surveyed<'_, B>,
+    floored: &mut Vec<Floored<'_, B>, B>,
     hull: &[FrontRow],
     shown: &[FrontRow],
 ) -> Result<(), AllocError>
+    requires runs { floored.old.items ≡ map steps_of surveyed.now.programs }
     requires shown { All (Contains (front_of_study surveyed.now)) shown.now }
     requires within { All (λ r. r.row < length surveyed.now.rows) shown.now }
     ensures { OnOk result (Appends (views_text surveyed.now hull.now shown.now) text.old text.new) }
 {
     let book = PriceBook::new(heap, surveyed, shown)?;
-    let mut programs = all_floored(alloc.clone()?, surveyed.study().programs())?;
     text.push_str("<div class=\"v\">\n")?;
-    push_sections(
-        text,
-        alloc,
-        heap,
-        surveyed,
-        &mut programs,
-        &book,
-        hull,
-        shown,
-    )?;
+    push_sections(text, alloc, heap, surveyed, floored, &book, hull, shown)?;
     write!(text, "</div>\n</main>\n")
 }
 
-/// Adds the explanation of the choices which the lists lack, if they were asked for.
-#[tactic(auto, unfolding(crate::specs::Page::asked_help))]
-fn push_asked_help<A: Allocator>(text: &mut String<A>, asked: bool) -> Result<(), AllocError>
-    ensures { OnOk result (Appends (asked_help asked) text.old text.new) }
+/// Adds what was found out of the lists, if it was asked for.
+#[tactic(auto, unfolding(crate::specs::Page::asked_choices))]
+fn push_asked_choices<A: Allocator>(
+    text: &mut String<A>,
+    prices: &Prices,
+    choices: Option<&[ListReport]>,
+) -> Result<(), AllocError>
+    ensures { OnOk result
+        (Appends (asked_choices prices.now (option_map (λ l. l.now) choices.entry)) text.old text.new) }
 {
-    if asked {
-        return text.push_str(choices_help());
+    match choices {
+        Some(lists) => push_choices_table(text, prices, lists),
+        None => Ok(()),
     }
-    Ok(())
+}
+
+/// Adds the explanation of that, if it was asked for.
+#[tactic(auto, unfolding(crate::specs::Page::asked_help))]
+fn push_asked_help<A: Allocator>(
+    text: &mut String<A>,
+    choices: Option<&[ListReport]>,
+) -> Result<(), AllocError>
+    ensures { OnOk result (Appends (asked_help (option_map (λ l. l.now) choices.entry)) text.old text.new) }
+{
+    match choices {
+        Some(_) => text.push_str(choices_help()),
+        None => Ok(()),
+    }
 }
 
 /// Adds the page up to the front.
@@ -70,16 +81,17 @@ fn push_start<A: Allocator + Clone>(
     heap: Global,
     name: &str,
     surveyed: &Surveyed<'_, A>,
+    floors: Floors,
     hull: &[FrontRow],
     shown: &[FrontRow],
 ) -> Result<(), AllocError>
     requires { All (λ r. r.row < length surveyed.now.rows) shown.now }
-    ensures { OnOk result (Appends (page_start_of name.now surveyed.now (length (front_of_study surveyed.now))
-        hull.now shown.now) text.old text.new) }
+    ensures { OnOk result (Appends (page_start_of name.now surveyed.now floors
+        (length (front_of_study surveyed.now)) hull.now shown.now) text.old text.new) }
 {
     let (front, rows) = (surveyed.front().len(), surveyed.rows().len());
     push_page_head(text, heap, name, front, rows, hull, shown)?;
-    push_overview(text, alloc, heap, surveyed, hull, shown)?;
+    push_overview(text, alloc, heap, surveyed, floors, hull, shown)?;
     push_left_out(text, front)?;
     push_front_table(text, heap, surveyed, hull, shown)
 }
@@ -91,24 +103,25 @@ fn push_rest<A: Allocator, B: Allocator + Clone>(
     alloc: &B,
     heap: Global,
     surveyed: &Surveyed<'_, B>,
+    floored: &mut Vec<Floored<'_, B>, B>,
     hull: &[FrontRow],
     shown: &[FrontRow],
-    asked: bool,
+    choices: Option<&[ListReport]>,
 ) -> Result<(), AllocError>
+    requires runs { floored.old.items ≡ map steps_of surveyed.now.programs }
     requires shown { All (Contains (front_of_study surveyed.now)) shown.now }
     requires within { All (λ r. r.row < length surveyed.now.rows) shown.now }
-    ensures { OnOk result (Appends (page_rest surveyed.now hull.now shown.now asked) text.old text.new) }
+    ensures { OnOk result (Appends
+        (page_rest surveyed.now hull.now shown.now (option_map (λ l. l.now) choices.entry)) text.old text.new) }
 {
-    push_views(text, alloc, heap, surveyed, hull, shown)?;
+    push_views(text, alloc, heap, surveyed, floored, hull, shown)?;
     text.push_str(page_help())?;
-    push_asked_help(text, asked)?;
+    push_asked_help(text, choices)?;
     text.push_str(commands_help())?;
     push_page_end(text)
 }
 
 /// Adds the page of a study with this name, given of the rows of its front those on the hull and those that are shown.
-/// `choices` is what choices that the lists lack
-/// would bring, if that was asked for, and else is empty.
 #[tactic(auto, unfolding(crate::specs::Page::page_over))]
 fn push_page<A: Allocator + Clone>(
     text: &mut String<A>,
@@ -116,34 +129,47 @@ fn push_page<A: Allocator + Clone>(
     heap: Global,
     name: &str,
     surveyed: &Surveyed<'_, A>,
+    floors: Floors,
+    floored: &mut Vec<Floored<'_, A>, A>,
     hull: &[FrontRow],
     shown: &[FrontRow],
-    choices: &str,
-    asked: bool,
+    choices: Option<&[ListReport]>,
 ) -> Result<(), AllocError>
+    requires runs { floored.old.items ≡ map steps_of surveyed.now.programs }
     requires shown { All (Contains (front_of_study surveyed.now)) shown.now }
     requires within { All (λ r. r.row < length surveyed.now.rows) shown.now }
-    requires choices { choices.now ≡ asked_choices asked surveyed.now }
     ensures { OnOk result (Appends
-        (page_over name.now surveyed.now (front_of_study surveyed.now) hull.now shown.now asked)
-        text.old text.new) }
+        (page_over name.now surveyed.now floors (length (front_of_study surveyed.now)) hull.now shown.now
+        (option_map (λ l. l.now) choices.entry)) text.old text.new) }
 {
-    push_start(text, alloc, heap, name, surveyed, hull, shown)?;
-    text.push_str(choices)?;
-    push_rest(text, alloc, heap, surveyed, hull, shown, asked)
+    push_start(text, alloc, heap, name, surveyed, floors, hull, shown)?;
+    push_asked_choices(text, &surveyed.study().prices(), choices)?;
+    push_rest(text, alloc, heap, surveyed, floored, hull, shown, choices)
 }
 
-/// The page of a study with this name, with or without what choices that the lists lack would bring.
-fn whole_page<A: Allocator + Clone>(
+/// A study's report as a page: the picture of all rows, the programs and the lists of parts, the front, and a view for
+/// each row of the front, or for 64 of them if it has more.
+///
+/// Beside the picture: how far the fastest row is from the floors, and which choices no row of the front has. In a row's
+/// view: its differences from the row before, its parts, the gains from changing one part, the prices with which it stays
+/// on the front, and for each program its floor, its stalls with those on its path, and the chart of its first
+/// instructions. With `choices`, also what choices that the lists lack would bring.
+///
+/// `name` is the study's, and may have any characters. `floored` are the runs of its programs. The work is that of two
+/// evaluations of each program on each row that is shown, and of two for each set of latencies that `floored` hasn't met.
+/// Small temporary data is allocated from `heap`.
+pub fn study_page<A: Allocator + Clone>(
     alloc: A,
     heap: Global,
     name: &str,
     surveyed: &Surveyed<'_, A>,
-    choices: &str,
-    asked: bool,
+    floors: Floors,
+    floored: &mut Vec<Floored<'_, A>, A>,
+    choices: Option<&[ListReport]>,
 ) -> Result<Vec<u8, A>, AllocError>
-    requires { choices.now ≡ asked_choices asked surveyed.now }
-    ensures { IfOk result (λ text. text.items ≡ page_of asked name.now surveyed.now) }
+    requires runs { floored.old.items ≡ map steps_of surveyed.now.programs }
+    ensures { IfOk result (λ text. text.items
+        ≡ page_of (option_map (λ l. l.now) choices.entry) floors name.now surveyed.now) }
 {
     let hull = hull(heap, surveyed.front())?;
     let shown = shown_rows(heap, surveyed.front())?;
@@ -154,61 +180,11 @@ fn whole_page<A: Allocator + Clone>(
         heap,
         name,
         surveyed,
+        floors,
+        floored,
         hull.as_slice(),
         shown.as_slice(),
         choices,
-        asked,
     )?;
     Ok(text.into_bytes())
-}
-
-/// A study's report as a page: the picture of all rows, the programs and the lists of parts with the choices that no
-/// row of the front has, how far the fastest row is from the study's floors, the front, and for each row of the front,
-/// or for 64 if it has more, its differences from the row before, its parts, the gains from changing one part, the
-/// prices with which it stays on the front, and for each program its floor, its stalls with those on its path, and the
-/// chart of its first instructions.
-///
-/// `name` is the study's, and may have any characters. The work is that of two evaluations of each program on each row
-/// that is shown, and of two for each set of latencies. Small temporary data is allocated from `heap`.
-pub fn study_page<A: Allocator + Clone>(
-    alloc: A,
-    heap: Global,
-    name: &str,
-    surveyed: &Surveyed<'_, A>,
-) -> Result<Vec<u8, A>, AllocError>
-    ensures { IfOk result (λ text. text.items ≡ page_of false name.now surveyed.now) }
-{
-    whole_page(alloc, heap, name, surveyed, "", false)
-}
-
-/// The text of what choices that the lists lack would bring.
-fn choices_text<A: Allocator>(
-    heap: Global,
-    weighed: &WeighedChoices<'_, A>,
-) -> Result<String, AllocError>
-    ensures { IfOk result (λ text. string_bytes text ≡ choices_table weighed.now) }
-{
-    let mut text = String::new(heap);
-    push_choices_table(&mut text, heap, weighed)?;
-    Ok(text)
-}
-
-/// The same page with what choices that the lists lack would bring.
-pub fn page_with_choices<A: Allocator + Clone>(
-    alloc: A,
-    heap: Global,
-    name: &str,
-    weighed: &WeighedChoices<'_, A>,
-) -> Result<Vec<u8, A>, AllocError>
-    ensures { IfOk result (λ text. text.items ≡ page_of true name.now weighed.now) }
-{
-    let choices = choices_text(heap, weighed)?;
-    whole_page(
-        alloc,
-        heap,
-        name,
-        weighed.surveyed(),
-        choices.as_str(),
-        true,
-    )
 }

@@ -1,6 +1,6 @@
 //! A program's run on a configuration: its stalls, and its chart.
 
-ghost use Rattle.std.specs.Prelude.{◌≡◌, ◌*◌, ◌≤◌, length, IfOk, OnOk};
+ghost use Rattle.std.specs.Prelude.{◌≡◌, ◌*◌, ◌≤◌, length, map, IfOk, OnOk};
 ghost use Rattle.std.specs.List.{flat_map};
 ghost use Rattle.tomex_layout.specs.Growth.{Appends};
 ghost use Rattle.tomex_page.specs.Page.{run_block, run_stalls};
@@ -14,9 +14,9 @@ use crate::stalls::push_stalls_table;
 use std::alloc::{AllocError, Allocator, Global};
 use std::fmt::Write;
 use tomex_config::Config;
+use tomex_floor::Floored;
 use tomex_path::{Link, RunPath, path};
 use tomex_study::Program;
-use tomex_survey::Floored;
 use tomex_timing::Needs;
 use tomex_timing::evaluate::needs;
 
@@ -51,13 +51,15 @@ fn path_on<A: Allocator + Clone>(
 #[tactic(auto, unfolding(crate::specs::Runs::floor_on))]
 fn floor_on<A: Allocator + Clone>(
     alloc: &A,
-    program: &mut Floored<'_, A>,
+    program: &Program<A>,
+    floored: &mut Floored<'_, A>,
     config: &Config,
 ) -> Result<u64, AllocError>
-    ensures program { program.new ≡ program.old }
-    ensures floor { IfOk result (λ n. n ≡ floor_on config.now program.old) }
+    requires run { floored.old ≡ steps_of program.now }
+    ensures run { floored.new ≡ floored.old }
+    ensures floor { IfOk result (λ n. n ≡ floor_on config.now program.now) }
 {
-    program.own_floor(alloc, config)
+    floored.own_floor(alloc, config)
 }
 
 /// Adds the stalls of a program's run on a configuration, given its path.
@@ -67,16 +69,17 @@ fn push_run_stalls<A: Allocator, B: Allocator + Clone>(
     alloc: &B,
     heap: Global,
     config: &Config,
+    program: &Program<B>,
     floored: &mut Floored<'_, B>,
     path: &[Link],
 ) -> Result<(), AllocError>
-    requires path { path.now ≡ path_on config.now floored.old }
+    requires run { floored.old ≡ steps_of program.now }
+    requires path { path.now ≡ path_on config.now program.now }
     requires short { AreShort path.now }
-    ensures program { floored.new ≡ floored.old }
-    ensures text { OnOk result (Appends (run_stalls config.now floored.old) text.old text.new) }
+    ensures run { floored.new ≡ floored.old }
+    ensures text { OnOk result (Appends (run_stalls config.now program.now) text.old text.new) }
 {
-    let floor = floor_on(alloc, floored, config)?;
-    let program = floored.program();
+    let floor = floor_on(alloc, program, floored, config)?;
     let needs = needs_on(alloc.clone()?, program, config)?;
     push_stalls_table(text, heap, config, &needs, path, floor, program.name())
 }
@@ -88,32 +91,36 @@ fn push_run<A: Allocator, B: Allocator + Clone>(
     alloc: &B,
     heap: Global,
     config: &Config,
+    program: &Program<B>,
     floored: &mut Floored<'_, B>,
 ) -> Result<(), AllocError>
-    ensures program { floored.new ≡ floored.old }
-    ensures text { OnOk result (Appends (run_block config.now floored.old) text.old text.new) }
+    requires run { floored.old ≡ steps_of program.now }
+    ensures run { floored.new ≡ floored.old }
+    ensures text { OnOk result (Appends (run_block config.now program.now) text.old text.new) }
 {
     text.push_str("<div>\n")?;
-    let RunPath { times, links } = path_on(alloc.clone()?, floored.program(), config)?;
-    push_run_stalls(text, alloc, heap, config, floored, links.as_slice())?;
-    push_chart(text, heap, floored.program(), times)?;
+    let RunPath { times, links } = path_on(alloc.clone()?, program, config)?;
+    push_run_stalls(text, alloc, heap, config, program, floored, links.as_slice())?;
+    push_chart(text, heap, program, times)?;
     write!(text, "</div>\n")
 }
 
-/// Adds the runs of some programs on a configuration. A floor is computed once for each set of latencies.
+/// Adds the runs of some programs on a configuration. `floored` are their runs: a floor is computed once for each set of
+/// latencies.
 pub fn push_runs<A: Allocator, B: Allocator + Clone>(
     text: &mut String<A>,
     alloc: &B,
     heap: Global,
     config: &Config,
-    programs: &mut Vec<Floored<'_, B>, B>,
+    programs: &[Program<B>],
+    floored: &mut Vec<Floored<'_, B>, B>,
 ) -> Result<(), AllocError>
-    ensures programs { programs.new.items ≡ programs.old.items }
-    ensures text { OnOk result
-        (Appends (flat_map (run_block config.now) programs.old.items) text.old text.new) }
+    requires runs { floored.old.items ≡ map steps_of programs.now }
+    ensures runs { floored.new.items ≡ floored.old.items }
+    ensures text { OnOk result (Appends (flat_map (run_block config.now) programs.now) text.old text.new) }
 {
-    for place in 0..programs.len() {
-        push_run(text, alloc, heap, config, &mut programs[place])?;
+    for (place, program) in programs.iter().enumerate() {
+        push_run(text, alloc, heap, config, program, &mut floored[place])?;
     }
     Ok(())
 }

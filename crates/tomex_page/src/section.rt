@@ -1,6 +1,7 @@
 //! The views of the rows that are shown.
 
-ghost use Rattle.std.specs.Prelude.{◌≡◌, ◌<◌, length, option_map, slice_index_or, All, None, OnOk};
+ghost use Rattle.std.specs.Prelude.{◌≡◌, ◌<◌, length, map, option_map, slice_index_or, All, None, OnOk};
+ghost use Rattle.tomex_study.specs.Program.{steps_of};
 ghost use Rattle.tomex_layout.specs.Growth.{Appends};
 ghost use Rattle.tomex_page.specs.Page.{number_before, row_section, row_sections, section_head, section_runs};
 ghost use Rattle.tomex_page.specs.Page.{section_start};
@@ -12,14 +13,14 @@ use crate::runs::push_runs;
 use std::alloc::{AllocError, Allocator, Global};
 use std::fmt::Write;
 use tomex_config::Config;
+use tomex_floor::Floored;
 use tomex_html::{Links, push_links};
 use tomex_page_rows::{
     PriceBook, push_against, push_changes_table, push_parts_table, push_prices_table,
 };
 use tomex_page_tables::{ShownRow, hull_mark, row_of};
 use tomex_pareto::FrontRow;
-use tomex_study::Surveyed;
-use tomex_survey::Floored;
+use tomex_study::{Program, Surveyed};
 
 /// A row between its neighbours among the rows that are shown.
 #[derive(Drop)]
@@ -116,13 +117,15 @@ fn push_section_runs<A: Allocator, B: Allocator + Clone>(
     alloc: &B,
     heap: Global,
     config: &Config,
-    programs: &mut Vec<Floored<'_, B>, B>,
+    programs: &[Program<B>],
+    floored: &mut Vec<Floored<'_, B>, B>,
 ) -> Result<(), AllocError>
-    ensures programs { programs.new.items ≡ programs.old.items }
-    ensures text { OnOk result (Appends (section_runs programs.old.items config.now) text.old text.new) }
+    requires runs { floored.old.items ≡ map steps_of programs.now }
+    ensures runs { floored.new.items ≡ floored.old.items }
+    ensures text { OnOk result (Appends (section_runs programs.now config.now) text.old text.new) }
 {
     text.push_str("<div class=\"l\">\n")?;
-    push_runs(text, alloc, heap, config, programs)?;
+    push_runs(text, alloc, heap, config, programs, floored)?;
     write!(text, "</div>\n</section>\n")
 }
 
@@ -133,41 +136,43 @@ fn push_section<A: Allocator, B: Allocator + Clone>(
     alloc: &B,
     heap: Global,
     surveyed: &Surveyed<'_, B>,
-    programs: &mut Vec<Floored<'_, B>, B>,
+    floored: &mut Vec<Floored<'_, B>, B>,
     book: &PriceBook,
     hull: &[FrontRow],
     shown: &[FrontRow],
     place: usize,
     view: &View,
 ) -> Result<(), AllocError>
-    requires programs { programs.old.items ≡ surveyed.now.programs }
+    requires runs { floored.old.items ≡ map steps_of surveyed.now.programs }
     requires book { AreFound surveyed.now shown.now book.now }
     requires place { place < length shown.now }
     requires within { All (λ r. r.row < length surveyed.now.rows) shown.now }
     requires here { view.now.here.row ≡ slice_index_or shown.now place no_row }
-    ensures programs { programs.new.items ≡ programs.old.items }
+    ensures runs { floored.new.items ≡ floored.old.items }
     ensures text { OnOk result (Appends (row_section surveyed.now hull.now shown.now view.now) text.old text.new) }
 {
     push_head(text, hull, shown, view)?;
     push_tables(text, heap, surveyed, book, shown, place, view)?;
-    push_section_runs(text, alloc, heap, &view.here.config, programs)
+    let programs = surveyed.study().programs();
+    push_section_runs(text, alloc, heap, &view.here.config, programs, floored)
 }
 
-/// Adds a view for each row that is shown. `programs` are the study's, and `hull` the rows on the front's hull.
+/// Adds a view for each row that is shown. `floored` are the runs of the study's programs, and `hull` the rows on the
+/// front's hull.
 pub fn push_sections<A: Allocator, B: Allocator + Clone>(
     text: &mut String<A>,
     alloc: &B,
     heap: Global,
     surveyed: &Surveyed<'_, B>,
-    programs: &mut Vec<Floored<'_, B>, B>,
+    floored: &mut Vec<Floored<'_, B>, B>,
     book: &PriceBook,
     hull: &[FrontRow],
     shown: &[FrontRow],
 ) -> Result<(), AllocError>
-    requires programs { programs.old.items ≡ surveyed.now.programs }
+    requires runs { floored.old.items ≡ map steps_of surveyed.now.programs }
     requires book { AreFound surveyed.now shown.now book.now }
     requires within { All (λ r. r.row < length surveyed.now.rows) shown.now }
-    ensures programs { programs.new.items ≡ programs.old.items }
+    ensures runs { floored.new.items ≡ floored.old.items }
     ensures text { OnOk result
         (Appends (row_sections surveyed.now hull.now shown.now None shown.now) text.old text.new) }
 {
@@ -180,7 +185,7 @@ pub fn push_sections<A: Allocator, B: Allocator + Clone>(
             after: shown.get(place + 1).copied(),
         };
         push_section(
-            text, alloc, heap, surveyed, programs, book, hull, shown, place, &view,
+            text, alloc, heap, surveyed, floored, book, hull, shown, place, &view,
         )?;
         before = Some(row_of(study, *row));
     }

@@ -1,7 +1,7 @@
 -- The lists of parts: their choices, the prices of these, and which of them no row of the front has.
 use Rattle.std.specs.Prelude.{ℕ, List, [], ◌∷◌, ◌++◌, codes}
 use Rattle.std.specs.List.{flat_map}
-use Rattle.tomex_choices.specs.Choices.{unused}
+use Rattle.tomex_study.specs.Choices.{unused}
 use Rattle.tomex_config.specs.Configuration.{Configuration}
 use Rattle.tomex_config.specs.Cost.{PriceList}
 use Rattle.tomex_html.specs.Html.{table_end, td}

@@ -1,22 +1,20 @@
 //! The table of what choices that the lists lack would bring.
 
-ghost use Rattle.std.specs.Prelude.{◌≡◌, ◌<◌, OnOk};
+ghost use Rattle.std.specs.Prelude.{◌≡◌, OnOk};
 ghost use Rattle.std.specs.List.{flat_map};
 ghost use Rattle.tomex_layout.specs.Growth.{Appends};
 ghost use Rattle.tomex_html.specs.Html.{td};
-ghost use Rattle.tomex_config.specs.Parts.{all_parts};
-ghost use Rattle.tomex_config.specs.Parts.{part_at};
 ghost use Rattle.tomex_choices_table.specs.ChoicesTable.{percent_cell};
 ghost use Rattle.tomex_page_rows.specs.Additions.{addition_cells, addition_row, additions_cell, choices_table};
 ghost use Rattle.tomex_page_rows.specs.Additions.{cost_cell, enough_cell, saving_cells};
 
 use crate::lists::push_choices_cell;
-use std::alloc::{AllocError, Allocator, Global};
-use tomex_choices::{Saving, WeighedChoices};
+use std::alloc::{AllocError, Allocator};
 use tomex_choices_table::push_saving;
-use tomex_config::Part;
+use tomex_config::{Part, Prices};
 use tomex_html::{push_empty, push_number, push_table_end, push_table_head};
 use tomex_page_tables::push_list_start;
+use tomex_study::{ListReport, Saving};
 
 /// Adds a cell with a saving's percentage.
 fn push_percent_cell<A: Allocator>(
@@ -69,59 +67,51 @@ fn push_enough_cell<A: Allocator>(
     }
 }
 
-/// Adds a cell with the choices that are worth adding to the list at a place.
-fn push_additions_cell<A: Allocator, B: Allocator>(
+/// Adds a cell with the choices that are worth adding to a list.
+fn push_additions_cell<A: Allocator>(
     text: &mut String<A>,
-    heap: Global,
-    weighed: &WeighedChoices<'_, B>,
-    place: usize,
+    prices: &Prices,
+    list: &ListReport,
 ) -> Result<(), AllocError>
-    requires { place < 13 }
-    ensures { OnOk result (Appends (additions_cell weighed.now (part_at place)) text.old text.new) }
+    ensures { OnOk result (Appends (additions_cell prices.now list.now) text.old text.new) }
 {
-    let additions = weighed.additions(heap, place)?;
-    let prices = weighed.surveyed().study().prices();
-    push_choices_cell(text, &prices, Part::ALL[place], additions.as_slice())
+    push_choices_cell(text, prices, list.part, list.additions.as_slice())
 }
 
-fn push_addition_cells<A: Allocator, B: Allocator>(
+fn push_addition_cells<A: Allocator>(
     text: &mut String<A>,
-    heap: Global,
-    weighed: &WeighedChoices<'_, B>,
-    place: usize,
+    prices: &Prices,
+    list: &ListReport,
 ) -> Result<(), AllocError>
-    requires { place < 13 }
-    ensures { OnOk result (Appends (addition_cells weighed.now (part_at place)) text.old text.new) }
+    ensures { OnOk result (Appends (addition_cells prices.now list.now) text.old text.new) }
 {
-    push_additions_cell(text, heap, weighed, place)?;
-    push_saving_cells(text, weighed.saving(place))?;
-    push_enough_cell(text, Part::ALL[place], weighed.enough(place))
+    push_additions_cell(text, prices, list)?;
+    push_saving_cells(text, list.saving)?;
+    push_enough_cell(text, list.part, list.enough)
 }
 
 #[tactic(auto, unfolding(crate::specs::Additions::addition_row, tomex_html::specs::Tables::table_row))]
-fn push_addition_row<A: Allocator, B: Allocator>(
+fn push_addition_row<A: Allocator>(
     text: &mut String<A>,
-    heap: Global,
-    weighed: &WeighedChoices<'_, B>,
-    place: usize,
+    prices: &Prices,
+    list: &ListReport,
 ) -> Result<(), AllocError>
-    requires { place < 13 }
-    ensures { OnOk result (Appends (addition_row weighed.now (part_at place)) text.old text.new) }
+    ensures { OnOk result (Appends (addition_row prices.now list.now) text.old text.new) }
 {
-    push_list_start(text, Part::ALL[place])?;
-    push_addition_cells(text, heap, weighed, place)?;
+    push_list_start(text, list.part)?;
+    push_addition_cells(text, prices, list)?;
     text.push_str("</tr>\n")
 }
 
-fn push_addition_rows<A: Allocator, B: Allocator>(
+fn push_addition_rows<A: Allocator>(
     text: &mut String<A>,
-    heap: Global,
-    weighed: &WeighedChoices<'_, B>,
+    prices: &Prices,
+    lists: &[ListReport],
 ) -> Result<(), AllocError>
-    ensures { OnOk result (Appends (flat_map (addition_row weighed.now) all_parts) text.old text.new) }
+    ensures { OnOk result (Appends (flat_map (addition_row prices.now) lists.now) text.old text.new) }
 {
-    for place in 0..Part::ALL.len() {
-        push_addition_row(text, heap, weighed, place)?;
+    for list in lists {
+        push_addition_row(text, prices, list)?;
     }
     Ok(())
 }
@@ -129,12 +119,12 @@ fn push_addition_rows<A: Allocator, B: Allocator>(
 /// Adds the table of what choices that the lists lack would bring: for each list those that are worth adding, what they
 /// save and at which cost, and how many of the part are enough.
 #[tactic(auto, unfolding(crate::specs::Additions::choices_table))]
-pub fn push_choices_table<A: Allocator, B: Allocator>(
+pub fn push_choices_table<A: Allocator>(
     text: &mut String<A>,
-    heap: Global,
-    weighed: &WeighedChoices<'_, B>,
+    prices: &Prices,
+    lists: &[ListReport],
 ) -> Result<(), AllocError>
-    ensures { OnOk result (Appends (choices_table weighed.now) text.old text.new) }
+    ensures { OnOk result (Appends (choices_table prices.now lists.now) text.old text.new) }
 {
     let caption = "What choices that the lists lack would bring";
     let names = [
@@ -145,6 +135,6 @@ pub fn push_choices_table<A: Allocator, B: Allocator>(
         "Enough",
     ];
     push_table_head(text, " class=\"a x\"", caption, &names)?;
-    push_addition_rows(text, heap, weighed)?;
+    push_addition_rows(text, prices, lists)?;
     push_table_end(text)
 }

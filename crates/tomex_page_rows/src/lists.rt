@@ -8,11 +8,10 @@ ghost use Rattle.tomex_page_rows.specs.Lists.{choices_text, list_cells, list_row
 ghost use Rattle.tomex_page_rows.specs.Lists.{unused_cell};
 
 use std::alloc::{AllocError, Allocator, Global};
-use tomex_choices::unused;
 use tomex_config::{Config, Part, Prices};
 use tomex_html::{push_table_end, push_table_head};
 use tomex_page_tables::{Facet, all_parts, push_entries, push_list_start, push_prices, push_some};
-use tomex_study::{Study, Surveyed};
+use tomex_study::{Study, Surveyed, unused};
 
 /// Adds a cell with the texts of some configurations' entries in a part's list.
 pub(crate) fn push_choices_cell<A: Allocator>(

@@ -1,6 +1,7 @@
 -- Lemmas of this crate.
 pub mod Bounds
 pub mod Each
+pub mod Filtering
 pub mod Rows
 pub mod SameCycles
 pub mod Selection

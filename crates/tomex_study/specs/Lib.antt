@@ -1,5 +1,5 @@
 -- Definitions that contracts cite: watched ranges, programs that end, studies, those with fewer programs, the cycles of
--- their configurations, their rows and front.
+-- their configurations, their rows and front, the choices of their lists.
 pub mod Watch
 pub mod Program
 pub mod Study
@@ -7,3 +7,5 @@ pub mod Selection
 pub mod Cycles
 pub mod StudyFront
 pub mod Surveyed
+pub mod Choices
+pub mod ListFindings

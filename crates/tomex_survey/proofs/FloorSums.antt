@@ -10,7 +10,7 @@ use Rattle.tomex_study.specs.Program.{Workload}
 use Rattle.tomex_study.specs.Study.{DesignSpace}
 use Rattle.tomex_survey.specs.Extremes.{least, lesser}
 use Rattle.tomex_survey.specs.Floors.{any_width, floor_at, study_floor, weighted_floor}
-use Rattle.tomex_survey.specs.declared.floors.Floors.{Floors}
+use Rattle.tomex_survey.specs.declared.floors.WeightedFloors.{WeightedFloors}
 use Rattle.tomex_survey.proofs.Leasts.{last_least, least_by, least_of_all}
 
 -- sums
@@ -52,19 +52,19 @@ least_more f o next xs k x whole low at is before =
     ∙ ap (λ (y : _). least_by (λ z. true) f o (y ∷ drop (k + 1) xs)) (sym at))
     ∙ before)
 
-abbrev none : Floors
+abbrev none : WeightedFloors
 none = record { own = 0; any_width = 0 }
 
-pub own_of : (o : Option Floors) → (unwrap_or o none).own ≡ unwrap_or (option_map (λ f. f.own) o) 0
+pub own_of : (o : Option WeightedFloors) → (unwrap_or o none).own ≡ unwrap_or (option_map (λ f. f.own) o) 0
 own_of None = refl
 own_of (Some f) = refl
 
-pub any_width_of : (o : Option Floors)
+pub any_width_of : (o : Option WeightedFloors)
     → (unwrap_or o none).any_width ≡ unwrap_or (option_map (λ f. f.any_width) o) 0
 any_width_of None = refl
 any_width_of (Some f) = refl
 
-pub least_own : (s : DesignSpace) (rows : List Configuration) (k : ℕ) (o : Option Floors) → rows ≡ s.rows
+pub least_own : (s : DesignSpace) (rows : List Configuration) (k : ℕ) (o : Option WeightedFloors) → rows ≡ s.rows
     → length rows ≤ k
     → least_by (λ c. true) (λ c. floor_at s.programs c.width c) (option_map (λ f. f.own) o) (drop k rows)
     ≡ least_by (λ c. true) (λ c. floor_at s.programs c.width c) None rows
@@ -76,7 +76,7 @@ least_own s rows k o same past is =
     ∙ (is ∙ (least_of_all (λ (c : Configuration). floor_at s.programs c.width c) rows
     ∙ ap (λ (cs : List Configuration). least (map (λ c. floor_at s.programs c.width c) cs)) same)))
 
-pub least_any_width : (s : DesignSpace) (rows : List Configuration) (k : ℕ) (o : Option Floors) → rows ≡ s.rows
+pub least_any_width : (s : DesignSpace) (rows : List Configuration) (k : ℕ) (o : Option WeightedFloors) → rows ≡ s.rows
     → length rows ≤ k
     → least_by (λ c. true) (floor_at s.programs 4) (option_map (λ f. f.any_width) o) (drop k rows)
     ≡ least_by (λ c. true) (floor_at s.programs 4) None rows

@@ -4,4 +4,4 @@ pub mod Weighing
 pub mod Oks
 pub mod Leasts
 pub mod FloorSums
-pub mod SameFloors
+pub mod FloorBounds

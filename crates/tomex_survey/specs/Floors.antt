@@ -6,6 +6,7 @@ use Rattle.tomex_config.specs.Configuration.{latency_of}
 use Rattle.tomex_study.specs.Program.{Workload, steps_of}
 use Rattle.tomex_study.specs.Study.{DesignSpace}
 use Rattle.tomex_study.specs.StudyFront.{all_rows}
+use Rattle.tomex_study.specs.declared.list_report.Floors.{Floors}
 use Rattle.tomex_survey.specs.Extremes.{least}
 
 -- a program's floor for a configuration's latencies and a width, times its weight
@@ -29,3 +30,7 @@ any_width s = least_for s.rows (floor_at s.programs 4)
 -- the fewest cycles of a row
 unfoldable pub fastest : DesignSpace → ℕ
 fastest s = unwrap_or (least (map (λ r. r.cycles) (all_rows s))) 0
+
+-- all of these
+unfoldable pub floors_of : DesignSpace → Floors
+floors_of s = record { fastest = fastest s; own = study_floor s; any_width = any_width s }

@@ -2,4 +2,3 @@
 pub mod Stretches
 pub mod Extremes
 pub mod Floors
-pub mod Flooring

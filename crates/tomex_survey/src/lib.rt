@@ -11,7 +11,7 @@ mod stretch;
 mod surveying;
 mod totals;
 
-pub use floors::{Floored, Floors, all_floored, fastest, floors_of};
+pub use floors::{all_floored, floors_of};
 pub use least::lesser;
 pub use rows::cycles_by_weight;
 pub use stretch::{Stretch, stretches};

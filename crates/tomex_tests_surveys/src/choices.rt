@@ -8,8 +8,9 @@ use std::thread::Threads;
 use tomex_choices::{WeighedChoices, weigh_choices};
 use tomex_choices_table::choices_table;
 use tomex_config::Config;
+use tomex_floor::Floored;
 use tomex_study::{OpenGate, Program, Study};
-use tomex_survey::Floored;
+use tomex_survey::{all_floored, floors_of};
 use tomex_tests_fixtures::studies::PRODUCT_STUDY;
 use tomex_tests_fixtures::{Heap, Try, ample, refusals_of};
 
@@ -31,12 +32,24 @@ unit.bru    1@1       -    -  0     -       -
 fastest 8, floor 8 (0%), at any width 7 (-12.5%)
 ";
 
+/// The table of what was found, in this memory.
+fn table_in(
+    heap: Heap,
+    other: Global,
+    weighed: &WeighedChoices<'_, Heap>,
+) -> Result<Vec<u8, Heap>, AllocError> {
+    let (lists, surveyed) = (weighed.reports(other)?, weighed.surveyed());
+    let mut floored = all_floored(heap.clone()?, surveyed.study())?;
+    let floors = floors_of(&heap, surveyed, &mut floored)?;
+    choices_table(heap, other, lists.as_slice(), floors)
+}
+
 /// The number of blocks that the text takes.
 fn blocks_of_text(
     other: Global,
     weighed: &WeighedChoices<'_, Heap>,
 ) -> Result<Option<u64>, AllocError> {
-    Ok(refusals_of!(other, heap => outcome_of(choices_table(heap, other, weighed), TABLE)))
+    Ok(refusals_of!(other, heap => outcome_of(table_in(heap, other, weighed), TABLE)))
 }
 
 /// Finds the new machines in this memory, by this number of workers, from 1 to 32. Then the number of blocks that the
@@ -104,15 +117,15 @@ fn rows_that_cannot_differ_are_asked_once(rt: HostRuntime) -> Result<(), Fail> {
     let four = blocks_on(&rt, rt.alloc(), FOUR)?;
     // Lists that grow with the rows take a block each time that their number doubles, which it does twice. They are
     // eleven: that of the programs' cycles, and those of new machines, except divide stations, of which four rows have
-    // no more than one. Nothing else grows: no program is evaluated again, and no floor.
+    // no more than one. Nothing else grows: no program is evaluated again.
     assert!(rt; four <= one.saturating_add(2 * 11));
     Ok(())
 }
 
 /// The program's floor on a row.
 fn floor_in(heap: &Heap, program: &Program<Heap>, row: &Config) -> Result<u64, AllocError> {
-    let mut program = Floored::new(heap.clone()?, program);
-    program.own_floor(heap, row)
+    let mut floored = Floored::new(heap.clone()?, program.run());
+    floored.own_floor(heap, row)
 }
 
 /// Whether it is found in this memory. It is that of the table.

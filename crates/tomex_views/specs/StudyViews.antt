@@ -22,9 +22,11 @@ use Rattle.tomex_weights.specs.WeightsCsv.{weights_csv_of}
 use Rattle.tomex_weights.specs.WeightsTable.{weights_table_of}
 use Rattle.tomex_compare.specs.Compare.{compare_table_of}
 use Rattle.tomex_compare.specs.GroupCsv.{compare_csv_of}
+use Rattle.tomex_choices.specs.Reports.{list_reports}
 use Rattle.tomex_choices_table.specs.ChoicesCsv.{choices_csv_of}
 use Rattle.tomex_choices_table.specs.ChoicesTable.{choices_table_of}
 use Rattle.tomex_page.specs.Page.{page_of}
+use Rattle.tomex_survey.specs.Floors.{floors_of}
 use Rattle.tomex_views.specs.declared.study_view.ChoicesView.{ChoicesView}
 use Rattle.tomex_views.specs.declared.study_view.ChoicesView.TheVariants as choices
 use Rattle.tomex_views.specs.declared.study_view.Form.{Form}
@@ -70,8 +72,8 @@ weights_of forms.Table s = weights_table_of s
 weights_of forms.Csv s = weights_csv_of s
 
 abbrev pub choices_of : Form → DesignSpace → List ℕ
-choices_of forms.Table s = choices_table_of s
-choices_of forms.Csv s = choices_csv_of s
+choices_of forms.Table s = choices_table_of (list_reports s) (floors_of s)
+choices_of forms.Csv s = choices_csv_of (list_reports s)
 
 -- the text of a study's front, or of all its rows
 abbrev pub survey_text : SurveyView → DesignSpace → List ℕ
@@ -84,12 +86,12 @@ survey_text (Worth name form) s = worth_of form s (row_named s name)
 survey_text (Prices form) s = prices_of form s
 survey_text (Weights form) s = weights_of form s
 survey_text (Compare old new form) s = compared form s (place_of old.now s) (place_of new.now s)
-survey_text (Page name) s = page_of false name.now s
+survey_text (Page name) s = page_of None (floors_of s) name.now s
 
 -- and with what its lists lack
 abbrev pub choices_text : ChoicesView → DesignSpace → List ℕ
 choices_text (choices.Lists form) s = choices_of form s
-choices_text (choices.Page name) s = page_of true name.now s
+choices_text (choices.Page name) s = page_of (Some (list_reports s)) (floors_of s) name.now s
 
 -- the view is of a program that the study doesn't have
 abbrev pub lacks_program : SurveyView → DesignSpace → Bool

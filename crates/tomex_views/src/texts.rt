@@ -1,6 +1,9 @@
 //! The texts of a study's views.
 
-ghost use Rattle.std.specs.Prelude.{◌≡◌, ◌↔◌, ◌<◌, false, true, length, IfErr, IfOk, IfSome, IsErrOf};
+ghost use Rattle.std.specs.Prelude.{◌≡◌, ◌↔◌, ◌<◌, false, true, length, option_map, IfErr, IfOk, IfSome, IsErrOf};
+ghost use Rattle.tomex_choices_table.specs.ChoicesTable.{choices_table_of};
+ghost use Rattle.tomex_page.specs.Page.{page_of};
+ghost use Rattle.tomex_survey.specs.Floors.{floors_of};
 ghost use Rattle.tomex_prices.specs.PricesTable.{is_too_large};
 ghost use Rattle.tomex_views.specs.StudyViews.{choices_text, compared_at, lacks_program, place_of, prices_of};
 ghost use Rattle.tomex_views.specs.StudyViews.{weights_of, worth_at};
@@ -14,9 +17,10 @@ use tomex_choices::WeighedChoices;
 use tomex_choices_table::{choices_csv, choices_table};
 use tomex_compare::{compare_csv, compare_table};
 use tomex_front_views::{RowName, front_picture, front_table, hull_table, row_named, rows_picture};
-use tomex_page::{page_with_choices, study_page};
+use tomex_page::study_page;
 use tomex_prices::{PricesError, prices_csv, prices_table};
-use tomex_study::{Study, Surveyed};
+use tomex_study::{ListReport, Study, Surveyed};
+use tomex_survey::{all_floored, floors_of};
 use tomex_texts::rows_report;
 use tomex_weights::{weights_csv, weights_table};
 use tomex_worth::{worth_csv, worth_table};
@@ -133,6 +137,36 @@ fn weights<A: Allocator>(
     }
 }
 
+/// The report of a study of this name as a page; with `choices`, what was found out of its lists is on it.
+fn page<A: Allocator + Clone>(
+    alloc: A,
+    heap: Global,
+    surveyed: &Surveyed<'_, A>,
+    name: &str,
+    choices: Option<&[ListReport]>,
+) -> Result<Vec<u8, A>, AllocError>
+    ensures { IfOk result (λ text. text.items
+        ≡ page_of (option_map (λ l. l.now) choices.entry) (floors_of surveyed.now) name.now surveyed.now) }
+{
+    let mut floored = all_floored(alloc.clone()?, surveyed.study())?;
+    let floors = floors_of(&alloc, surveyed, &mut floored)?;
+    study_page(alloc, heap, name, surveyed, floors, &mut floored, choices)
+}
+
+/// The table of what was found out of a study's lists, with its floors.
+fn table_of_choices<A: Allocator + Clone>(
+    alloc: A,
+    heap: Global,
+    surveyed: &Surveyed<'_, A>,
+    lists: &[ListReport],
+) -> Result<Vec<u8, A>, AllocError>
+    ensures { IfOk result (λ text. text.items ≡ choices_table_of lists.now (floors_of surveyed.now)) }
+{
+    let mut floored = all_floored(alloc.clone()?, surveyed.study())?;
+    let floors = floors_of(&alloc, surveyed, &mut floored)?;
+    choices_table(alloc, heap, lists, floors)
+}
+
 /// A view of a study's front or of all its rows.
 pub(crate) fn text_of_survey<A: Allocator + Clone>(
     alloc: A,
@@ -155,7 +189,7 @@ pub(crate) fn text_of_survey<A: Allocator + Clone>(
         SurveyView::Prices(form) => Ok(prices(alloc, heap, surveyed, form)?),
         SurveyView::Weights(form) => Ok(weights(alloc, heap, surveyed, form)?),
         SurveyView::Compare(old, new, form) => compared(alloc, heap, surveyed, old, new, form),
-        SurveyView::Page(name) => Ok(study_page(alloc, heap, name, surveyed)?),
+        SurveyView::Page(name) => Ok(page(alloc, heap, surveyed, name, None)?),
     }
 }
 
@@ -168,10 +202,12 @@ pub(crate) fn text_of_choices<A: Allocator + Clone>(
 ) -> Result<Vec<u8, A>, AllocError>
     ensures { IfOk result (λ text. text.items ≡ choices_text view.entry weighed.now) }
 {
+    let lists = weighed.reports(heap)?;
+    let (surveyed, lists) = (weighed.surveyed(), lists.as_slice());
     match view {
-        ChoicesView::Lists(Form::Table) => choices_table(alloc, heap, weighed),
-        ChoicesView::Lists(Form::Csv) => choices_csv(alloc, heap, weighed),
-        ChoicesView::Page(name) => page_with_choices(alloc, heap, name, weighed),
+        ChoicesView::Lists(Form::Table) => table_of_choices(alloc, heap, surveyed, lists),
+        ChoicesView::Lists(Form::Csv) => choices_csv(alloc, heap, lists),
+        ChoicesView::Page(name) => page(alloc, heap, surveyed, name, Some(lists)),
     }
 }
 

@@ -2,7 +2,7 @@
 use Rattle.std.proofs.Common.{◌≡◌, ◌<◌, ◌≤◌, ◌∙◌, length, refl, rules, subst, sym, ℕ}
 use Rattle.std.proofs.lemmas.Option.{slice_get_read}
 use Rattle.std.specs.Vec.Iter.{into_iter_items}
-use Rattle.tomex_choices.proofs.Filtering.{next_place}
+use Rattle.tomex_choices.proofs.RowLimits.{next_place}
 use Rattle.tomex_choices.proofs.Joining.{all_joined, left_first, left_within, none_joined, none_left}
 use Rattle.tomex_choices.proofs.Joining.{one_joined}
 use Rattle.tomex_choices.proofs.found.append_lists.Goals as goal

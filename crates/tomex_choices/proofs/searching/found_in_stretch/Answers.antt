@@ -7,7 +7,7 @@ use Rattle.tomex_study.specs.Cycles.{totals_on}
 use Rattle.tomex_study.specs.Program.{IsProgram, Workload}
 use Rattle.tomex_survey.proofs.Neighbours.{all_in_stretch, none_in_stretch, one_in_stretch}
 use Rattle.tomex_choices.specs.Asking.{AreFound}
-use Rattle.tomex_choices.proofs.Filtering.{last_row, row_within}
+use Rattle.tomex_choices.proofs.RowLimits.{last_row, row_within}
 use Rattle.tomex_choices.proofs.Finding.{row_more}
 use Rattle.tomex_choices.proofs.searching.found_in_stretch.Goals as goal
 

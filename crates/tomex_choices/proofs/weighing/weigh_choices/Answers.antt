@@ -2,7 +2,7 @@
 use Rattle.std.proofs.Common.{◌≡◌, ◌∙◌, ap, length, subst, sym}
 use Rattle.tomex_study.specs.Study.{DesignSpace}
 use Rattle.tomex_study.specs.StudyFront.{all_rows}
-use Rattle.tomex_choices.specs.Weighed.{IsWeighing}
+use Rattle.tomex_choices.specs.Weighed.{AreWeighed}
 use Rattle.tomex_choices.proofs.AllWeighed.{few_changes}
 use Rattle.tomex_choices.proofs.weighing.weigh_choices.Goals as goal
 
@@ -16,8 +16,5 @@ invariant_of-result g c =
     let s = c.args.study.now in
     let same : c.in_ok-surveyed.surveyed ≡ s = c.in_ok-surveyed.ensures in
     let rows = c.rows-2.ensures.value ∙ ap (λ (z : DesignSpace). all_rows z) same in
-    subst (λ (z : DesignSpace). IsWeighing z c.in_ok-lists.lists.items c.in_ok-floors.floors) (sym same) (record {
-      lists_are = c.in_ok-lists.ensures s c.keeps_limits.ensures rows c.in_ok-found.ensures.lists;
-      floor_is = c.in_ok-floors.ensures.own;
-      any_width_is = c.in_ok-floors.ensures.any_width;
-    })
+    subst (λ (z : DesignSpace). AreWeighed z c.in_ok-lists.lists.items) (sym same)
+    (c.in_ok-lists.ensures s c.keeps_limits.ensures rows c.in_ok-found.ensures.lists)

@@ -5,4 +5,4 @@ use Rattle.tomex_choices_table.proofs.table.all_columns.Given as goal
 
 abbrev pub invariant-loop-heading : goal.invariant-loop-heading
 invariant-loop-heading g l =
-    l.columns.items ≡ map (heading_column l.weighed) (take l.heading-index all_headings)
+    l.columns.items ≡ map (heading_column l.lists) (take l.heading-index all_headings)

@@ -9,8 +9,8 @@ pub returns : goal.returns
 unfolding both_floors
 returns g c =
     let text = string_bytes c.args.text.now in
-    let first = floor_text c.args.fastest c.args.floor in
-    let next = floor_text c.args.fastest c.args.any_width in
+    let first = floor_text c.args.floors.fastest c.args.floors.own in
+    let next = floor_text c.args.floors.fastest c.args.floors.any_width in
     IfOk-weaker c.push_floor-2.result _ _
     (λ u is. is
     ∙ (ap (λ (bs : List ℕ). bs ++ next)

@@ -8,5 +8,5 @@ pub returns : goal.returns
 unfolding page_over
 returns g c =
     on_ok_weaker c.push_rest.result (λ last.
-    (c.in_ok-push_start.ensures ▸ (rw c.requires.choices at c.in_ok-push_str.ensures.bytes) ▸ last_piece last).is)
+    (c.in_ok-push_start.ensures ▸ c.in_ok-push_asked_choices.ensures ▸ last_piece last).is)
     c.push_rest.ensures

@@ -9,6 +9,5 @@ unfolding run_block
 returns-clause-text g c =
     on_ok_weaker c.write.result (λ last.
     (c.in_ok-push_str.ensures.bytes ▸ c.in_ok-push_run_stalls.ensures.text
-    ▸ (rw (c.in_ok-times.ensures.times, c.program.ensures, c.program-2.ensures, c.push_run_stalls.ensures.program)
-    at c.in_ok-push_chart.ensures)
+    ▸ (rw c.in_ok-times.ensures.times at c.in_ok-push_chart.ensures)
     ▸ last_piece last).is) c.write.ensures.bytes

@@ -13,7 +13,7 @@ returns g c =
     IfOk-weaker c.all_added.result _ _
     (λ v is. is ∙ added_is c.self.inside.surveyed c.args.self.now c.args.place _ c.self.inside.lists.items
     c.index.result.now c.new-entries.result c.as_slice-machines.result.now c.as_slice.result.now c.rows-rows.result.now
-    c.self.view_is c.self.invariant.lists_are c.requires (get_or_default all_parts c.args.place _ Width c.requires)
+    c.self.view_is c.self.invariant c.requires (get_or_default all_parts c.args.place _ Width c.requires)
     c.index.ensures c.as_slice-machines.ensures.value
     (c.rows-rows.ensures.value ∙ ap (λ (s : DesignSpace). s.rows) c.study.ensures)
     c.new-entries.ensures.rows c.new-entries.ensures.place
