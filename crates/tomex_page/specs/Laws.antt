@@ -11,7 +11,9 @@ use Rattle.tomex_pareto.specs.Hull.{hull_of}
 use Rattle.tomex_pareto.specs.declared.front_row.FrontRow.{FrontRow}
 use Rattle.tomex_study.specs.StudyFront.{front_of_study}
 use Rattle.tomex_study.specs.Program.{Workload, steps_of}
+use Rattle.tomex_study.specs.ListFindings.{ListFindings}
 use Rattle.tomex_study.specs.Study.{DesignSpace}
+use Rattle.tomex_study.specs.declared.list_report.Floors.{Floors}
 use Rattle.tomex_pareto.specs.Front.{is_on}
 use Rattle.tomex_timing.specs.Needs.{need_of}
 use Rattle.tomex_timing.specs.declared.needs.Needs.{Needs}

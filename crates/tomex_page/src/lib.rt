@@ -19,4 +19,4 @@ pub use laws::{
     choices_are_added, cycles_add_up, links_lead_to_views, on_path_is_within_all,
     rates_are_the_hulls,
 };
-pub use page::{page_with_choices, study_page};
+pub use page::study_page;

@@ -5,4 +5,4 @@ use Rattle.tomex_choices_table.specs.ChoicesTable.{all_headings}
 use Rattle.tomex_choices_table.proofs.records.fields_of.Given as goal
 
 abbrev pub invariant-loop-heading : goal.invariant-loop-heading
-invariant-loop-heading g l = l.fields ≡ map (field_under l.list) (take l.heading-index all_headings)
+invariant-loop-heading l = l.fields ≡ map (field_under l.list) (take l.heading-index all_headings)

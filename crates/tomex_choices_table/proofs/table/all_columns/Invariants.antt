@@ -4,5 +4,5 @@ use Rattle.tomex_choices_table.specs.ChoicesTable.{all_headings, heading_column}
 use Rattle.tomex_choices_table.proofs.table.all_columns.Given as goal
 
 abbrev pub invariant-loop-heading : goal.invariant-loop-heading
-invariant-loop-heading g l =
+invariant-loop-heading l =
     l.columns.items ≡ map (heading_column l.lists) (take l.heading-index all_headings)

@@ -4,7 +4,7 @@ use Rattle.tomex_choices_table.specs.ChoicesTable.{name_under, text_under}
 use Rattle.tomex_choices_table.proofs.table.heading_column.Given as goal
 
 abbrev pub invariant-loop-list : goal.invariant-loop-list
-invariant-loop-list g l = record {
+invariant-loop-list l = record {
   name : l.column.name ≡ name_under l.heading;
   entries : l.column.entries ++ map (text_under l.heading) (drop l.list-index l.lists)
       ≡ map (text_under l.heading) l.lists;

@@ -9,4 +9,4 @@ unfolding row_section
 returns-clause-text g c =
     on_ok_weaker c.push_section_runs.result (λ last.
     (c.in_ok-push_head.ensures ▸ c.in_ok-push_tables.ensures ▸ last_piece last).is)
-    (rw c.requires.programs at c.push_section_runs.ensures.text)
+    (rw (c.programs-programs.ensures.value, c.study.ensures) at c.push_section_runs.ensures.text)
