@@ -10,14 +10,15 @@ mod front_fields;
 mod front_header;
 mod laws;
 mod row_ends;
-mod rows_fields;
+mod row_numbers;
 mod rows_header;
+mod rows_numbers;
 mod rows_text;
 mod tables;
 mod times;
 
 pub use ends::ProgramEnd;
-pub use front_fields::{fill_record, push_row};
+pub use front_fields::fill_record;
 pub use front_header::{columns, push_row_columns};
 pub use laws::{flagged_rows_are_the_hull, limit_changes_no_end};
 pub use row_ends::RowEnds;
