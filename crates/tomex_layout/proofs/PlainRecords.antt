@@ -26,7 +26,7 @@ one_is_plain b low high =
     All-push (λ x. needs_byte default_writer x ≡ false) [] b (λ k d none. absurd (omega (arith, none)))
     (digit_is_plain b low high)
 
-digits_are_plain : (n : ℕ) → n < 2 ^ 64 → ArePlain (decimal n)
+pub digits_are_plain : (n : ℕ) → n < 2 ^ 64 → ArePlain (decimal n)
 digits_are_plain n small =
     decimal_by_steps (λ m ds. ArePlain ds) (λ m few. one_is_plain (48 + m) (omega arith) (omega (arith, few)))
     (λ m ds many so_far. All-push (λ x. needs_byte default_writer x ≡ false) ds (48 + m % 10) so_far

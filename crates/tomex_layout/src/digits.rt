@@ -21,7 +21,7 @@ fn put_digits(digits: &mut [u8; 20], number: u64) -> usize
 }
 
 /// Adds the digits of a number.
-pub(crate) fn push_digits<A: Allocator>(
+pub fn push_digits<A: Allocator>(
     text: &mut Vec<u8, A>,
     number: u64,
 ) -> Result<(), AllocError>

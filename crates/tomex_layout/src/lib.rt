@@ -27,6 +27,7 @@ pub use column::Column;
 pub use csv_fields::Fields;
 pub use csv_text::CsvText;
 pub use differences::{percent, push_percent, push_signed, signed_difference};
+pub use digits::push_digits;
 pub use fields::{push_decimal, push_instruction, push_names};
 pub use headings::push_row_columns;
 pub use hundredths::push_hundredths;
@@ -35,7 +36,7 @@ pub use lists::{
 };
 pub use names::{push_shown, shown_name};
 pub use percents::percent_text;
-pub use plain_records::push_numbers;
+pub use plain_records::{push_next_number, push_numbers};
 pub use rates::{push_rate, rate_text};
 pub use table::table_of;
-pub use writing::{into_text, put_record};
+pub use writing::{into_text, put_record, text_of_record};

@@ -9,13 +9,23 @@ ghost use Rattle.tomex_layout.specs.PlainRecords.{after_comma};
 use crate::digits::push_digits;
 use std::alloc::{AllocError, Allocator};
 
-/// Adds the digits of each of these numbers, after a comma.
+/// Adds a number after a comma.
+pub fn push_next_number<A: Allocator>(
+    text: &mut Vec<u8, A>,
+    number: u64,
+) -> Result<(), AllocError>
+    ensures { OnOk result (text.new.items ≡ text.old.items ++ after_comma number) }
+{
+    text.push(b',')?;
+    push_digits(text, number)
+}
+
+/// Adds each of these numbers after a comma.
 fn push_others<A: Allocator>(text: &mut Vec<u8, A>, numbers: &[u64]) -> Result<(), AllocError>
     ensures { OnOk result (text.new.items ≡ text.old.items ++ flat_map after_comma numbers.now) }
 {
     for number in numbers {
-        text.push(b',')?;
-        push_digits(text, *number)?;
+        push_next_number(text, *number)?;
     }
     Ok(())
 }

@@ -9,6 +9,7 @@ mod flags;
 mod front_fields;
 mod front_header;
 mod laws;
+mod places;
 mod row_ends;
 mod row_numbers;
 mod rows_header;

@@ -2,8 +2,7 @@
 
 ghost use Rattle.std.specs.Prelude.{◌≡◌, ◌<◌, ◌++◌, length, map, IfOk, OnOk};
 ghost use Rattle.std.specs.List.{flat_map, range_with_len};
-ghost use Rattle.tomex_layout.specs.Csv.{record_text};
-ghost use Rattle.tomex_texts.specs.RowsReport.{columns_of, row_record, rows_text_of};
+ghost use Rattle.tomex_texts.specs.RowsReport.{row_record, rows_text_of};
 ghost use Rattle.tomex_pareto.specs.Front.{is_on};
 ghost use Rattle.tomex_pareto.specs.Hull.{hull_of};
 ghost use Rattle.tomex_study.specs.StudyFront.{all_rows, front_of_study};
@@ -11,11 +10,10 @@ ghost use Rattle.tomex_study.specs.StudyFront.{all_rows, front_of_study};
 use crate::flags::flags;
 use crate::rows_header::columns;
 use crate::rows_numbers::fill_numbers;
-use csv::Writer;
 use std::alloc::{AllocError, Allocator, Global};
-use tomex_layout::{into_text, push_numbers, put_record};
+use tomex_layout::{push_numbers, text_of_record};
 use tomex_pareto::{FrontRow, hull};
-use tomex_study::{Study, Surveyed};
+use tomex_study::Surveyed;
 
 /// Adds the record of a row, whose numbers are listed in `numbers`.
 fn put_row<A: Allocator>(
@@ -66,19 +64,6 @@ fn put_rows<A: Allocator>(
     Ok(())
 }
 
-/// The header.
-fn header<A: Allocator>(
-    alloc: A,
-    heap: Global,
-    study: &Study<A>,
-) -> Result<Vec<u8, A>, AllocError>
-    ensures { IfOk result (λ text. text.items ≡ record_text (columns_of study.now)) }
-{
-    let mut writer = Writer::from_writer(Vec::new(alloc));
-    put_record(&mut writer, &columns(heap, study)?)?;
-    into_text(writer)
-}
-
 /// All rows of a study as CSV: a header, and a record for each row in the order of their numbers.
 /// The first columns are those of the front report; then come each program's cycles without its
 /// weight, `front`, which is 1 if the row is on the front, else 0, and `hull`, which is 1 if it is on the front's hull.
@@ -96,7 +81,7 @@ pub fn rows_report<A: Allocator + Clone>(
     let hull = hull(heap, front)?;
     let on_front = flags(alloc.clone()?, count, front)?;
     let on_hull = flags(alloc.clone()?, count, hull.as_slice())?;
-    let mut text = header(alloc, heap, surveyed.study())?;
+    let mut text = text_of_record(alloc, &columns(heap, surveyed.study())?)?;
     put_rows(
         &mut text,
         heap,
