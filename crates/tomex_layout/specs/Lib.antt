@@ -9,3 +9,4 @@ pub mod Growth
 pub mod Table
 pub mod RowColumns
 pub mod CsvFields
+pub mod PlainRecords

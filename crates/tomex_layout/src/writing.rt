@@ -32,3 +32,12 @@ pub fn into_text<A: Allocator>(writer: Writer<Vec<u8, A>>) -> Result<Vec<u8, A>,
         Err(_) => Err(AllocError),
     }
 }
+
+/// The text of a record.
+pub fn text_of_record<A: Allocator>(alloc: A, fields: &ByteRecord) -> Result<Vec<u8, A>, AllocError>
+    ensures { IfOk result (λ text. text.items ≡ record_text (fields_of fields.now)) }
+{
+    let mut writer = Writer::from_writer(Vec::new(alloc));
+    put_record(&mut writer, fields)?;
+    into_text(writer)
+}

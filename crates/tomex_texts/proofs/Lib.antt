@@ -6,3 +6,4 @@ pub mod Loops
 mod Flagged
 mod Lines
 mod OnHull
+mod StepRecords

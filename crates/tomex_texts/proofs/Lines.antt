@@ -2,6 +2,7 @@
 use Rattle.std.proofs.Common.{◌≡◌, ℕ, ◌+◌, ◌<◌, arith, ap, sym, refl, ◌∙◌, List, [], ◌∷◌, ◌++◌, Bool, append_assoc}
 use Rattle.std.proofs.Common.{false, get_or, length, map, take}
 use Rattle.std.specs.List.{range_with_len}
+use Rattle.std.specs.Fmt.{decimal}
 use Rattle.std.proofs.lemmas.List.FromFn.{get_or-map-range_with_len, length-map-range_with_len}
 use Rattle.std.proofs.lemmas.List.{map_more}
 use Rattle.tomex_config.specs.Configuration.{Configuration}
@@ -10,7 +11,7 @@ use Rattle.tomex_layout.specs.Csv.{record_text}
 use Rattle.tomex_study.specs.Cycles.{totals_on}
 use Rattle.tomex_study.specs.StudyFront.{front_of_study}
 use Rattle.tomex_study.specs.Study.{DesignSpace, config_at}
-use Rattle.tomex_texts.specs.RowsReport.{fields_of_row, row_record}
+use Rattle.tomex_texts.specs.RowsReport.{numbers_of_row, row_record}
 use Rattle.tomex_pareto.specs.Front.{is_on}
 use Rattle.tomex_pareto.specs.Hull.{hull_of}
 
@@ -33,7 +34,7 @@ pub record_there : (s : DesignSpace) (r : FrontRow) (wide : Bool) (config : Conf
     (on_front on_hull : Bool) → wide ≡ s.wide → config ≡ config_at s r.row
     → totals ≡ totals_on s.programs (config_at s r.row)
     → on_front ≡ is_on (front_of_study s) r.row → on_hull ≡ is_on (hull_of (front_of_study s)) r.row
-    → record_text (fields_of_row wide r config totals on_front on_hull) ≡ row_record s r
+    → record_text (map decimal (numbers_of_row wide r config totals on_front on_hull)) ≡ row_record s r
 unfolding row_record
 record_there s r wide config totals on_front on_hull wide_is config_is totals_are on_front_is on_hull_is =
     rw (wide_is, config_is, totals_are, on_front_is, on_hull_is) refl

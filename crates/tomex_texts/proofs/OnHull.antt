@@ -1,5 +1,5 @@
 -- Rows of a study on the hull of its front, by their numbers.
-use Rattle.std.proofs.Common.{◌≡◌, All, ap, subst, true}
+use Rattle.std.proofs.Common.{◌≡◌, subst, true}
 use Rattle.std.specs.List.{Contains, filter}
 use Rattle.std.proofs.lemmas.List.Elements.{All-contains, All-contains_itself, All-filter}
 use Rattle.tomex_pareto.specs.Front.{is_on}

@@ -21,9 +21,9 @@ use Rattle.tomex_texts.specs.declared.ends.ProgramEnd.{ProgramEnd}
 use Rattle.tomex_texts.specs.Ends.{bytes_at, count_of, last_state}
 
 -- a field that is only in reports that show widths and weights
-abbrev pub if_wide : Bool → List ℕ → List (List ℕ)
-if_wide true text = text ∷ []
-if_wide false text = []
+abbrev pub if_wide : {X : Type 0} → Bool → X → List X
+if_wide true field = field ∷ []
+if_wide false field = []
 
 -- the columns of a configuration's number, cost, cycles and stations
 abbrev pub station_columns : List (List ℕ)
@@ -50,19 +50,18 @@ program_columns wide =
     ++ (codes "steps" ∷ codes "program_cycles" ∷ codes "end" ∷ codes "regs" ∷ codes "watch" ∷ []))
 
 -- a unit option's number of units and latency
-abbrev pub unit_fields : Configuration → UnitId → List (List ℕ)
-unit_fields config unit = decimal (option_of config unit).units ∷ decimal (option_of config unit).latency ∷ []
-
--- the stations of each pool
-unfoldable pub station_fields : Configuration → List (List ℕ)
-station_fields config = map (λ pool. decimal (stations_of config pool)) all_pools
+abbrev pub unit_numbers : Configuration → UnitId → List ℕ
+unit_numbers config unit = (option_of config unit).units ∷ (option_of config unit).latency ∷ []
 
 -- a configuration's number, cost and cycles, and its parts
-unfoldable pub row_fields : Bool → FrontRow → Configuration → List (List ℕ)
-row_fields wide r config =
-    (decimal r.row ∷ decimal r.cost ∷ decimal r.cycles ∷ [])
-    ++ (station_fields config
-    ++ (flat_map (unit_fields config) all_units ++ (decimal config.buses ∷ if_wide wide (decimal config.width))))
+unfoldable pub row_numbers : Bool → FrontRow → Configuration → List ℕ
+row_numbers wide r config =
+    (r.row ∷ r.cost ∷ r.cycles ∷ [])
+    ++ (map (stations_of config) all_pools
+    ++ (flat_map (unit_numbers config) all_units ++ (config.buses ∷ if_wide wide config.width)))
+
+abbrev pub row_fields : Bool → FrontRow → Configuration → List (List ℕ)
+row_fields wide r config = map decimal (row_numbers wide r config)
 
 -- texts joined by one space, or `-` if there is none
 abbrev pub join_texts : List (List ℕ) → List ℕ

@@ -1,4 +1,5 @@
 pub mod TimesReport
+pub mod Places
 pub mod TablesText
 pub mod Ends
 pub mod RowEnds

@@ -1,6 +1,6 @@
 -- All rows of a study as CSV: a record for each row, in the order of their numbers.
-use Rattle.std.specs.Prelude.{ℕ, ◌==◌, Bool, if◌then◌else◌, List, [], ◌∷◌, ◌++◌, codes, map, slice_index_or}
-use Rattle.std.specs.List.{flat_map, list_any}
+use Rattle.std.specs.Prelude.{ℕ, Bool, if◌then◌else◌, List, [], ◌∷◌, ◌++◌, codes, map, slice_index_or}
+use Rattle.std.specs.List.{flat_map}
 use Rattle.std.specs.Fmt.{decimal}
 use Rattle.tomex_config.specs.Configuration.{Configuration, plain}
 use Rattle.tomex_pareto.specs.Front.{is_on}
@@ -12,7 +12,7 @@ use Rattle.tomex_study.specs.StudyFront.{front_of_study}
 use Rattle.tomex_study.specs.Program.{Workload}
 use Rattle.tomex_study.specs.Study.{DesignSpace}
 use Rattle.tomex_study.specs.StudyFront.{all_rows}
-use Rattle.tomex_texts.specs.FrontReport.{row_columns, row_fields}
+use Rattle.tomex_texts.specs.FrontReport.{row_columns, row_numbers}
 
 -- the column of a program's own cycles, without its weight
 abbrev pub cycles_column : Workload → List ℕ
@@ -27,17 +27,17 @@ columns_of s = row_columns s.wide ++ (map cycles_column s.programs ++ codes "fro
 abbrev pub flag : Bool → ℕ
 flag is_on = if is_on then 1 else 0
 
--- the fields of a row of the study in these columns, given its totals and its flags
-abbrev pub fields_of_row : Bool → FrontRow → Configuration → List ℕ → Bool → Bool → List (List ℕ)
-fields_of_row wide r config totals on_front on_hull =
-    row_fields wide r config ++ (map decimal totals ++ decimal (flag on_front) ∷ decimal (flag on_hull) ∷ [])
+-- the numbers of a row of the study in these columns, given its totals and its flags
+abbrev pub numbers_of_row : Bool → FrontRow → Configuration → List ℕ → Bool → Bool → List ℕ
+numbers_of_row wide r config totals on_front on_hull =
+    row_numbers wide r config ++ (totals ++ flag on_front ∷ flag on_hull ∷ [])
 
 unfoldable pub row_record : DesignSpace → FrontRow → List ℕ
 row_record s r =
     let config = slice_index_or s.rows r.row plain in
     let front = front_of_study s in
-    record_text (fields_of_row s.wide r config (totals_on s.programs config) (is_on front r.row)
-    (is_on (hull_of front) r.row))
+    record_text (map decimal (numbers_of_row s.wide r config (totals_on s.programs config) (is_on front r.row)
+    (is_on (hull_of front) r.row)))
 
 -- the header, and a record for each row
 unfoldable pub rows_text_of : DesignSpace → List ℕ

@@ -1,58 +1,35 @@
 //! The fields of the front report's records.
 
-ghost use Rattle.std.specs.Prelude.{◌≡◌, ◌++◌, ◌∷◌, [], OnOk, length};
-ghost use Rattle.std.specs.List.{flat_map};
+ghost use Rattle.std.specs.Prelude.{◌≡◌, ◌++◌, ◌∷◌, [], OnOk, length, map};
 ghost use Rattle.csv.specs.Records.{fields_of, partial_of};
-ghost use Rattle.tomex_config.specs.Cost.{all_units};
 ghost use Rattle.tomex_study.specs.Watch.{watched_bytes};
 ghost use Rattle.tomex_texts.specs.Ends.{IsProgramEnd};
 ghost use Rattle.tomex_texts.specs.FrontReport.{end_fields, if_wide, program_fields, row_fields};
-ghost use Rattle.tomex_texts.specs.FrontReport.{station_fields, unit_fields};
 ghost use Rattle.std.specs.Fmt.{decimal};
 
 use crate::end_texts::{registers_text, watch_text};
 use crate::ends::ProgramEnd;
+use crate::row_numbers::push_row_numbers;
 use csv::ByteRecord;
 use std::alloc::{AllocError, Allocator, Global};
 use std::fmt::Write;
 use tomex_config::Config;
 use tomex_layout::push_decimal;
 use tomex_pareto::FrontRow;
-use tomex_rvdec::{PoolId, UnitId};
 use tomex_study::{Program, WatchRange};
 
-/// Adds the stations of each pool.
-#[tactic(auto, unfolding(crate::specs::FrontReport::station_fields))]
-fn push_stations(
+/// Adds each of these numbers.
+fn push_decimals(
     fields: &mut ByteRecord,
     scratch: &mut String,
-    config: &Config,
+    numbers: &[u64],
 ) -> Result<(), AllocError>
     requires { partial_of fields.old ≡ [] }
-    ensures fields { OnOk result (fields_of fields.new
-        ≡ fields_of fields.old ++ station_fields config.now) }
+    ensures fields { OnOk result (fields_of fields.new ≡ fields_of fields.old ++ map decimal numbers.now) }
     ensures whole { OnOk result (partial_of fields.new ≡ []) }
 {
-    for pool in PoolId::ALL {
-        push_decimal(fields, scratch, u64::from(config.stations(pool)))?;
-    }
-    Ok(())
-}
-
-/// Adds the units and the latency of each kind.
-fn push_units(
-    fields: &mut ByteRecord,
-    scratch: &mut String,
-    config: &Config,
-) -> Result<(), AllocError>
-    requires { partial_of fields.old ≡ [] }
-    ensures fields { OnOk result
-        (fields_of fields.new ≡ fields_of fields.old ++ flat_map (unit_fields config.now) all_units) }
-    ensures whole { OnOk result (partial_of fields.new ≡ []) }
-{
-    for unit in UnitId::ALL {
-        push_decimal(fields, scratch, u64::from(config.units(unit)))?;
-        push_decimal(fields, scratch, u64::from(config.latency(unit)))?;
+    for number in numbers {
+        push_decimal(fields, scratch, *number)?;
     }
     Ok(())
 }
@@ -76,8 +53,9 @@ fn push_if_wide(
 }
 
 /// Adds a row's number, cost and cycles, and its parts.
-pub fn push_row(
+fn push_row(
     fields: &mut ByteRecord,
+    heap: Global,
     scratch: &mut String,
     wide: bool,
     front: FrontRow,
@@ -88,14 +66,9 @@ pub fn push_row(
         ≡ fields_of fields.old ++ row_fields wide front config.now) }
     ensures whole { OnOk result (partial_of fields.new ≡ []) }
 {
-    push_decimal(fields, scratch, front.row as u64)?;
-    push_decimal(fields, scratch, front.cost)?;
-    push_decimal(fields, scratch, front.cycles)?;
-    push_stations(fields, scratch, config)?;
-    push_units(fields, scratch, config)?;
-    push_decimal(fields, scratch, u64::from(config.buses()))?;
-    push_if_wide(fields, scratch, wide, u64::from(config.width()))?;
-    Ok(())
+    let mut numbers = Vec::new(heap);
+    push_row_numbers(&mut numbers, wide, front, config)?;
+    push_decimals(fields, scratch, numbers.as_slice())
 }
 
 /// Adds the fields of the end of a program that watches these ranges.
@@ -141,7 +114,7 @@ pub fn fill_record<A: Allocator>(
     program.image().fills_its_window();
     let mut scratch = String::new(heap);
     fields.clear();
-    push_row(fields, &mut scratch, wide, front, config)?;
+    push_row(fields, heap, &mut scratch, wide, front, config)?;
     fields.push_field(program.name().as_bytes())?;
     push_if_wide(fields, &mut scratch, wide, u64::from(program.weight()))?;
     push_end(fields, &mut scratch, heap, program.watch(), end)?;

@@ -1,20 +1,22 @@
 //! The times report of a run on one configuration.
 
-ghost use Rattle.std.specs.Prelude.{◌≡◌, ◌++◌, ◌∷◌, [], IfOk, OnOk, length, codes};
-ghost use Rattle.csv.specs.Records.{fields_of, partial_of};
-ghost use Rattle.tomex_layout.specs.Csv.{IsReady};
-ghost use Rattle.tomex_layout.specs.Growth.{Writes};
-ghost use Rattle.tomex_texts.specs.TimesReport.{cycle_text, station_text, fields_of_step, header, report_of_times};
+ghost use Rattle.std.specs.Prelude.{◌≡◌, ◌<◌, ◌^◌, ◌++◌, ◌∷◌, [], IfOk, OnOk, length};
+ghost use Rattle.std.specs.Option.{ForSome};
+ghost use Rattle.std.specs.List.{flat_map};
+ghost use Rattle.csv.specs.Records.{fields_of};
+ghost use Rattle.tomex_layout.specs.Csv.{record_text};
+ghost use Rattle.tomex_texts.specs.Places.{AreKept, AreSmall, after, time_fields};
+ghost use Rattle.tomex_texts.specs.TimesReport.{cycle_text, fields_of_step, header, report_of_times, station_text};
 ghost use Rattle.tomex_texts.specs.TimesReport.{step_records, times_report_of, total_fields};
 ghost use Rattle.tomex_rvexec.specs.Run.{start_of};
 ghost use Rattle.tomex_rvexec.specs.Steps.{step_pool};
 ghost use Rattle.tomex_rvexec.specs.Trace.{steps_from};
 
-use csv::{ByteRecord, Writer};
+use crate::places::{Place, no_places, push_place};
+use csv::ByteRecord;
 use std::alloc::{AllocError, Allocator, Global};
-use std::fmt::Write;
 use tomex_config::Config;
-use tomex_layout::{into_text, push_decimal, push_instruction, push_names, put_record};
+use tomex_layout::{push_decimal, push_digits, push_names, push_next_number, text_of_record};
 use tomex_rvexec::Step;
 use tomex_study::Program;
 use tomex_timing::Times;
@@ -46,85 +48,123 @@ fn total_record(heap: Global, total: u64) -> Result<ByteRecord, AllocError>
     Ok(record)
 }
 
-/// Adds a cycle, or `-` if there is none.
-fn push_cycle(
-    fields: &mut ByteRecord,
-    scratch: &mut String,
-    cycle: Option<u64>,
-) -> Result<(), AllocError>
-    requires { partial_of fields.old ≡ [] }
-    ensures fields { OnOk result (fields_of fields.new
-        ≡ fields_of fields.old ++ cycle_text cycle ∷ []) }
-    ensures whole { OnOk result (partial_of fields.new ≡ []) }
+/// Adds a cycle after a comma, or `-` if there is none.
+fn push_cycle<A: Allocator>(text: &mut Vec<u8, A>, cycle: Option<u64>) -> Result<(), AllocError>
+    ensures { OnOk result (text.new.items ≡ text.old.items ++ 44 ∷ cycle_text cycle) }
 {
     match cycle {
-        Some(cycle) => push_decimal(fields, scratch, cycle),
-        None => fields.push_field(b"-"),
+        Some(cycle) => push_next_number(text, cycle),
+        None => text.extend_from_slice(b",-"),
     }
 }
 
-/// Adds a step's station, or `-` if it has none.
-fn push_station(
-    fields: &mut ByteRecord,
-    scratch: &mut String,
+/// Adds a step's station after a comma, or `-` if it has none.
+fn push_station<A: Allocator>(
+    text: &mut Vec<u8, A>,
     step: &Step,
     station: Option<u8>,
 ) -> Result<(), AllocError>
-    requires { partial_of fields.old ≡ [] }
-    ensures fields { OnOk result
-        (fields_of fields.new ≡ fields_of fields.old ++ station_text (step_pool step.now) station ∷ []) }
-    ensures whole { OnOk result (partial_of fields.new ≡ []) }
+    ensures { OnOk result
+        (text.new.items ≡ text.old.items ++ 44 ∷ station_text (step_pool step.now) station) }
 {
     match (step.pool(), station) {
         (Some(pool), Some(number)) => {
-            scratch.clear();
-            write!(scratch, "{pool}{number}")?;
-            fields.push_field(scratch.as_bytes())
+            text.push(b',')?;
+            text.extend_from_slice(pool.name().as_bytes())?;
+            push_digits(text, u64::from(number))
         }
-        _ => fields.push_field(b"-"),
+        _ => text.extend_from_slice(b",-"),
     }
 }
 
-/// Fills a record with the fields of a step.
-fn fill_record(
-    fields: &mut ByteRecord,
-    scratch: &mut String,
+/// A law: a number is of 64 bits.
+fn is_small(number: u64)
+    ensures { number < 2 ^ 64 }
+{}
+
+/// A law: so is a cycle, if there is one.
+fn cycle_is_small(cycle: Option<u64>)
+    ensures { ForSome cycle (λ n. n < 2 ^ 64) }
+{
+    if let Some(cycle) = cycle {
+        is_small(cycle);
+    }
+}
+
+/// A law: so is the number of a station, if there is one.
+fn station_is_small(station: Option<u8>)
+    ensures { ForSome station (λ n. n < 2 ^ 64) }
+{
+    if let Some(station) = station {
+        is_small(u64::from(station));
+    }
+}
+
+/// A law: so are all numbers of a step's times.
+fn times_are_small(at: &Times)
+    ensures { AreSmall at.now }
+{
+    is_small(at.issue);
+    cycle_is_small(at.address);
+    is_small(at.start);
+    is_small(at.finish);
+    is_small(at.end);
+    station_is_small(at.station);
+}
+
+/// Adds the times of a step, each after a comma, and the end of its record.
+fn push_times<A: Allocator>(
+    text: &mut Vec<u8, A>,
+    step: &Step,
+    at: &Times,
+) -> Result<(), AllocError>
+    ensures { OnOk result
+        (text.new.items ≡ text.old.items ++ (flat_map after (time_fields step.now at.now) ++ 10 ∷ [])) }
+{
+    push_next_number(text, at.issue)?;
+    push_cycle(text, at.address)?;
+    push_next_number(text, at.start)?;
+    push_next_number(text, at.finish)?;
+    push_next_number(text, at.end)?;
+    push_station(text, step, at.station)?;
+    text.push(b'\n')?;
+    Ok(())
+}
+
+/// Adds the record of a step.
+fn push_step<A: Allocator>(
+    text: &mut Vec<u8, A>,
+    heap: Global,
+    places: &mut Vec<Option<Place>>,
     number: u64,
     step: &Step,
     at: &Times,
 ) -> Result<(), AllocError>
-    ensures fields { OnOk result (fields_of fields.new ≡ fields_of_step number step.now at.now) }
-    ensures whole { OnOk result (partial_of fields.new ≡ []) }
+    requires kept { AreKept places.old.items }
+    ensures kept { AreKept places.new.items }
+    ensures text { OnOk result
+        (text.new.items ≡ text.old.items ++ record_text (fields_of_step number step.now at.now)) }
 {
-    fields.clear();
-    push_decimal(fields, scratch, number)?;
-    push_instruction(fields, scratch, step.pc, step.instr)?;
-    push_decimal(fields, scratch, at.issue)?;
-    push_cycle(fields, scratch, at.address)?;
-    push_decimal(fields, scratch, at.start)?;
-    push_decimal(fields, scratch, at.finish)?;
-    push_decimal(fields, scratch, at.end)?;
-    push_station(fields, scratch, step, at.station)
+    times_are_small(at);
+    push_digits(text, number)?;
+    push_place(text, heap, places, step.pc, step.instr)?;
+    push_times(text, step, at)
 }
 
-/// Writes the records of the steps, numbered from 1.
-fn put_steps<A: Allocator>(
-    writer: &mut Writer<Vec<u8, A>>,
+/// Adds the records of the steps, numbered from 1.
+fn push_steps<A: Allocator>(
+    text: &mut Vec<u8, A>,
     heap: Global,
     steps: &[Step],
     times: &[Times],
 ) -> Result<(), AllocError>
-    requires ready { IsReady writer.old }
     requires pairs { length times.now ≡ length steps.now }
-    ensures ready { OnOk result (IsReady writer.new) }
-    ensures text { OnOk result (Writes (step_records 1 steps.now times.now) writer.old writer.new) }
+    ensures { OnOk result (text.new.items ≡ text.old.items ++ step_records 1 steps.now times.now) }
 {
-    let mut record = ByteRecord::new(heap);
-    let mut scratch = String::new(heap);
+    let mut places = no_places(heap)?;
     for (index, step) in steps.iter().enumerate() {
         let number = index as u64 + 1;
-        fill_record(&mut record, &mut scratch, number, step, &times[index])?;
-        put_record(writer, &record)?;
+        push_step(text, heap, &mut places, number, step, &times[index])?;
     }
     Ok(())
 }
@@ -139,11 +179,11 @@ fn text_of_times<A: Allocator>(
     requires pairs { length times.now ≡ length steps.now }
     ensures { IfOk result (λ text. text.items ≡ report_of_times steps.now times.now) }
 {
-    let mut writer = Writer::from_writer(Vec::new(alloc));
-    put_record(&mut writer, &header_of(heap)?)?;
-    put_steps(&mut writer, heap, steps, times)?;
-    put_record(&mut writer, &total_record(heap, total(times))?)?;
-    into_text(writer)
+    let mut text = text_of_record(alloc, &header_of(heap)?)?;
+    push_steps(&mut text, heap, steps, times)?;
+    let last = text_of_record(heap, &total_record(heap, total(times))?)?;
+    text.extend_from_slice(last.as_slice())?;
+    Ok(text)
 }
 
 /// The times report of a program on a configuration: CSV with a header, a record for each step in

@@ -1,5 +1,5 @@
 -- The names are in their order.
-use Rattle.std.proofs.Common.{◌≡◌, ◌∙◌, ℕ, List, [], ◌∷◌, ◌++◌, append_assoc, map, refl}
+use Rattle.std.proofs.Common.{◌≡◌, ℕ, List, [], ◌∷◌, ◌++◌, append_assoc, map}
 use Rattle.std.specs.Prelude.{codes}
 use Rattle.tomex_study.specs.Study.{DesignSpace}
 use Rattle.tomex_texts.specs.FrontReport.{row_columns}

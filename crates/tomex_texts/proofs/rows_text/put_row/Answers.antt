@@ -1,19 +1,26 @@
 -- The record of the row.
-use Rattle.std.proofs.Common.{◌∙◌, ap, List, ℕ, ◌++◌}
+use Rattle.std.proofs.Common.{◌∙◌, ap, arith, subst, sym, List, ℕ, ◌<◌, ◌++◌, length, map}
 use Rattle.std.proofs.lemmas.Result.{on_ok_weaker}
-use Rattle.tomex_layout.specs.Csv.{record_text, text_written}
+use Rattle.std.specs.Fmt.{decimal}
+use Rattle.tomex_layout.specs.Csv.{record_text}
 use Rattle.tomex_study.proofs.Rows.{totals_there}
+use Rattle.tomex_texts.specs.FrontReport.{row_numbers}
 use Rattle.tomex_texts.proofs.Lines.{record_there}
 use Rattle.tomex_texts.proofs.rows_text.put_row.Goals as goal
 
-pub returns-clause-text : goal.returns-clause-text
-returns-clause-text g c =
+pub push_numbers-requires : goal.push_numbers-requires
+unfolding row_numbers
+push_numbers-requires g c =
+    let are = c.as_slice.ensures.value ∙ c.in_ok-fill_numbers.ensures in
+    record { some = subst (λ (ns : List ℕ). 0 < length ns) (sym are) (omega arith) }
+
+pub returns : goal.returns
+returns g c =
     let s = c.args.surveyed.now in
-    on_ok_weaker c.put_record.result
-    (λ h. h ∙ (ap (λ (fs : List (List ℕ)). text_written (λ v. v.items) c.args.writer.now ++ record_text fs)
-    c.in_ok-fill_record.ensures
-    ∙ ap (λ (t : List ℕ). text_written (λ v. v.items) c.args.writer.now ++ t)
+    let are = c.as_slice.ensures.value ∙ c.in_ok-fill_numbers.ensures in
+    on_ok_weaker c.push_numbers.result
+    (λ h. h ∙ (ap (λ (ns : List ℕ). c.args.text.now.items ++ record_text (map decimal ns)) are
+    ∙ ap (λ (t : List ℕ). c.args.text.now.items ++ t)
     (record_there s c.args.row _ _ _ _ _ (rw c.study.ensures at c.wide-wide.ensures.value) c.config-config.ensures
-    (c.totals-totals.ensures ∙ totals_there s c.args.row.row c.requires.row) c.requires.front
-    c.requires.hull)))
-    c.put_record.ensures.text
+    (c.totals-totals.ensures ∙ totals_there s c.args.row.row c.requires.row) c.requires.front c.requires.hull)))
+    c.push_numbers.ensures

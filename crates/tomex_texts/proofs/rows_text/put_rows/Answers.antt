@@ -37,5 +37,5 @@ put_row-requires-clause-hull g c =
 pub loop-row-preserved : goal.loop-row-preserved
 loop-row-preserved = grind (arith, common_steps)
 
-pub returns-clause-text : goal.returns-clause-text
-returns-clause-text = grind (arith, common_steps)
+pub returns : goal.returns
+returns = grind (arith, common_steps)
