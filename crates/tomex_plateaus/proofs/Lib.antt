@@ -1,5 +1,6 @@
 -- Lemmas of this crate.
 pub mod Implied
+pub mod Comparing
 pub mod Keeping
 pub mod Finding
 pub mod Totals
