@@ -6,10 +6,9 @@ use Rattle.std.specs.List.{list_all}
 use Rattle.std.proofs.Math.Bool.{and_assoc, and-true}
 use Rattle.std.proofs.lemmas.List.{map_more, take_all, take_more_set}
 use Rattle.std.proofs.Math.ListN.{set, length-set}
-use Rattle.tomex_config.specs.Configuration.{Configuration}
 use Rattle.tomex_plateaus.specs.declared.interval.Interval.{Interval}
 use Rattle.tomex_plateaus.specs.declared.plateau.Plateau.{Plateau}
-use Rattle.tomex_plateaus.specs.Plateaus.{interval_at, is_within, lies_on, numbers_of}
+use Rattle.tomex_plateaus.specs.Plateaus.{fits, interval_at, is_within}
 
 -- the number at a place is one of the plateau's
 abbrev pub fits_at : Plateau → List ℕ → ℕ → Bool
@@ -52,12 +51,11 @@ all_below p numbers place (suc count) =
     ∙ ap (fits_below p numbers) e
 
 -- the first 13 numbers are counts, the other 5 latencies
-pub all_fit : (p : Plateau) (config : Configuration) → lies_on config p ≡ fits_below p (numbers_of config) 18
+pub all_fit : (p : Plateau) (numbers : List ℕ) → fits numbers p ≡ fits_below p numbers 18
 unfolding fits_below places_from
-all_fit p config =
-    ap (λ (b : Bool). b && list_all (fits_at p (numbers_of config)) (places_from 13 5))
-    (all_below p (numbers_of config) 0 13)
-    ∙ all_below p (numbers_of config) 13 5
+all_fit p numbers =
+    ap (λ (b : Bool). b && list_all (fits_at p numbers) (places_from 13 5)) (all_below p numbers 0 13)
+    ∙ all_below p numbers 13 5
 
 -- the ends of the intervals before a place were set
 pub record AreSplit (bounds : List Interval) (place : ℕ) (least most : List ℕ) : Type 0 where
@@ -98,10 +96,9 @@ pub all_split : (bounds : List Interval) (least most : List ℕ) → length boun
     → (least ≡ map (λ i. i.least) bounds) × (most ≡ map (λ i. i.most) bounds)
 all_split bounds least most count are =
     let few : length least ≡ 18 = are.least_count in
-    let many : length most ≡ 18 = are.most_count in
-    (
+    let many : length most ≡ 18 = are.most_count in (
       sym (take_all 18 least (omega arith)) ∙ are.least_are
-      ∙ ap (map (λ (i : Interval). i.least)) (take_all 18 bounds (omega arith)),
+          ∙ ap (map (λ (i : Interval). i.least)) (take_all 18 bounds (omega arith)),
       sym (take_all 18 most (omega arith)) ∙ are.most_are
-      ∙ ap (map (λ (i : Interval). i.most)) (take_all 18 bounds (omega arith)),
+          ∙ ap (map (λ (i : Interval). i.most)) (take_all 18 bounds (omega arith)),
     )

@@ -32,6 +32,10 @@ place_of_count (Units unit) = 6 + place_of_unit unit
 place_of_count Buses = 11
 place_of_count Width = 12
 
+-- that of a latency
+abbrev pub place_of_latency : UnitId → ℕ
+place_of_latency unit = 13 + place_of_unit unit
+
 -- from the least to the most of the number at a place on a plateau
 abbrev pub interval_at : Plateau → ℕ → Interval
 interval_at p place = record { least = slice_index p.least place; most = slice_index p.most place }
@@ -42,13 +46,17 @@ counts_of p part = interval_at p (place_of_count part)
 
 -- the latencies of a kind of unit on a plateau
 abbrev pub latencies_of : Plateau → UnitId → Interval
-latencies_of p unit = interval_at p (13 + place_of_unit unit)
+latencies_of p unit = interval_at p (place_of_latency unit)
+
+-- numbers in the intervals of a plateau
+abbrev pub fits : List ℕ → Plateau → Bool
+fits numbers p =
+    list_all (λ part. is_within (counts_of p part) (slice_index numbers (place_of_count part))) all_parts
+    && list_all (λ unit. is_within (latencies_of p unit) (slice_index numbers (place_of_latency unit))) all_units
 
 -- a configuration lies on a plateau: its counts and latencies are in the plateau's intervals
 abbrev pub lies_on : Configuration → Plateau → Bool
-lies_on config p =
-    list_all (λ part. is_within (counts_of p part) (count_of config part)) all_parts
-    && list_all (λ unit. is_within (latencies_of p unit) (option_of config unit).latency) all_units
+lies_on config p = fits (numbers_of config) p
 
 -- on every configuration of it the run of these steps takes its total
 abbrev pub IsPlateauOf : List Step → Plateau → Type 0

@@ -43,7 +43,8 @@ impl<'s, A: Allocator + Clone> Knowledge<'s, A> {
     {
         let mut lists = Vec::new(alloc.clone()?);
         for program in programs {
-            lists.push(Plateaus::new(alloc.clone()?, program.run()))?;
+            let list = Plateaus::new(alloc.clone()?, program.run())?;
+            lists.push(list)?;
         }
         Ok(Knowledge {
             alloc,

@@ -4,6 +4,7 @@
 #![tactic(auto)]
 
 mod interval;
+mod keys;
 mod knowledge;
 mod known_row;
 mod laws;

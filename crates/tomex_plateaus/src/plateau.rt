@@ -1,8 +1,7 @@
 //! One plateau.
 
 ghost use Rattle.std.specs.Prelude.{◌≡◌};
-ghost use Rattle.tomex_config.specs.Configuration.{Configuration};
-ghost use Rattle.tomex_plateaus.specs.Plateaus.{bounds_of, lies_on, numbers_of, plateau_of};
+ghost use Rattle.tomex_plateaus.specs.Plateaus.{bounds_of, fits, lies_on, numbers_of, plateau_of};
 ghost use Rattle.tomex_plateaus.specs.Plateaus.{latency_for, stations_for, units_for};
 
 use crate::interval::Interval;
@@ -122,7 +121,7 @@ impl Plateau {
     /// True if the configuration with these numbers lies on it. All numbers are compared, without a jump, so that the
     /// compiler compares many at once.
     pub(crate) fn has_numbers(&self, numbers: &[u8; 18]) -> bool
-        ensures { (config : Configuration) → numbers.now ≡ numbers_of config → result ≡ lies_on config self.now }
+        ensures { result ≡ fits numbers.now self.now }
     {
         let mut has_all = true;
         for place in 0..18 {

@@ -2,7 +2,6 @@
 use Rattle.std.proofs.Common.{◌≡◌, ◌∙◌, arith, ap, sym}
 use Rattle.std.specs.Prelude.{◌&&◌, nat_le, slice_index, Bool}
 use Rattle.std.proofs.Math.Bool.{and_assoc}
-use Rattle.tomex_plateaus.specs.Plateaus.{numbers_of}
 use Rattle.tomex_plateaus.proofs.Comparing.{all_fit, fits_at, fits_below, fits_more, none_compared}
 use Rattle.tomex_plateaus.proofs.plateau.Plateau.has_numbers.Goals as goal
 
@@ -18,8 +17,8 @@ loop-place-preserved c =
     ∙ fits_more c.args.self.now c.args.numbers.now c.loop-place.place
 
 pub returns : goal.returns
-returns c config are =
+returns c =
     let end : c.loop-place.place ≡ 18 = omega (arith, c.loop-place-test.false, c.loop-place.auto.place-end) in
-    let all : c.loop-place.has_all ≡ fits_below c.args.self.now (numbers_of config) 18 =
-    rw (← end, ← are) c.loop-place.invariant in
-    all ∙ sym (all_fit c.args.self.now config)
+    let all : c.loop-place.has_all ≡ fits_below c.args.self.now c.args.numbers.now 18 =
+    rw (← end) c.loop-place.invariant in
+    all ∙ sym (all_fit c.args.self.now c.args.numbers.now)
