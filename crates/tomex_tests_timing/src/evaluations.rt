@@ -1,4 +1,4 @@
-//! A run that is evaluated several times on a machine, from the third time on by its blocks: how often a block is
+//! A run that is evaluated several times on a machine, by its blocks: how often a block is
 //! evaluated, and how much memory that takes.
 
 ghost use Rattle.std.specs.Prelude.{◌≡◌, ◌≤◌, length, IfOk};
