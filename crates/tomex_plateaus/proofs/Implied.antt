@@ -108,7 +108,7 @@ latencies_are demands own units.Div = refl
 latencies_are demands own units.Mem = refl
 latencies_are demands own units.Bru = refl
 
-all_from : {X : Type 0} (p : X → Bool) (xs : List X) → ((x : X) → p x ≡ true) → list_all p xs ≡ true
+pub all_from : {X : Type 0} (p : X → Bool) (xs : List X) → ((x : X) → p x ≡ true) → list_all p xs ≡ true
 all_from p [] each = refl
 all_from p (x ∷ xs) each = and_from (p x) (list_all p xs) (each x) (all_from p xs each)
 

@@ -6,3 +6,4 @@ pub mod Finding
 pub mod Totals
 pub mod Looking
 pub mod Knowing
+pub mod Reaching

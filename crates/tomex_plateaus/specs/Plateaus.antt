@@ -1,5 +1,5 @@
 -- Plateaus: configurations on which a program takes the same cycles, derived from the demands of one run.
-use Rattle.std.specs.Prelude.{◌≡◌, ℕ, ◌+◌, min, ◌==◌, nat_le, Bool, true, ◌&&◌, if◌then◌else◌, List}
+use Rattle.std.specs.Prelude.{◌≡◌, ℕ, ◌+◌, ◌<◌, ◌≤◌, min, ◌==◌, nat_le, Bool, true, ◌&&◌, if◌then◌else◌, List}
 use Rattle.std.specs.Prelude.{◌++◌, map, reverse, Option, option_map, slice_index}
 use Rattle.std.specs.List.{find, list_all}
 use Rattle.tomex_rvdec.specs.Parts.{place_of_pool, place_of_unit}
@@ -12,7 +12,7 @@ use Rattle.tomex_timing.specs.declared.demands.Demands.{Demands}
 use Rattle.tomex_config.specs.declared.part.Part.{Part}
 use Rattle.tomex_config.specs.declared.part.Part.TheVariants.{Stations, Units, Buses, Width}
 use Rattle.tomex_timing.specs.Demands.{demand_of}
-use Rattle.tomex_config.specs.Parts.{all_parts, count_of}
+use Rattle.tomex_config.specs.Parts.{all_parts, count_of, with_count}
 use Rattle.tomex_config.specs.Cost.{all_units}
 use Rattle.tomex_timing.specs.Search.{times_in, total_of}
 use Rattle.tomex_plateaus.specs.declared.interval.Interval.{Interval}
@@ -101,3 +101,8 @@ plateau_of demands own = record {
   most = map (λ i. i.most) (bounds_of demands own);
   total = demands.total;
 }
+
+-- with each number of a part from this one on and below the configuration's own the run takes the same cycles
+abbrev pub AreSameFrom : List Step → Configuration → Part → ℕ → Type 0
+AreSameFrom steps config part low = (n : ℕ) → 1 ≤ n → low ≤ n → n < count_of config part
+    → total_of (times_in (with_count config part n) steps) ≡ total_of (times_in config steps)

@@ -1,8 +1,8 @@
 //! One plateau.
 
-ghost use Rattle.std.specs.Prelude.{◌≡◌};
-ghost use Rattle.tomex_plateaus.specs.Plateaus.{bounds_of, fits, lies_on, numbers_of, plateau_of};
-ghost use Rattle.tomex_plateaus.specs.Plateaus.{latency_for, stations_for, units_for};
+ghost use Rattle.std.specs.Prelude.{◌≡◌, ◌<◌};
+ghost use Rattle.tomex_plateaus.specs.Plateaus.{bounds_of, counts_of, fits, lies_on, numbers_of, plateau_of};
+ghost use Rattle.tomex_plateaus.specs.Plateaus.{latency_for, place_of_count, stations_for, units_for};
 
 use crate::interval::Interval;
 use tomex_config::{Config, Part};
@@ -92,6 +92,19 @@ fn bounds_of(demands: &Demands, own: &Config) -> [Interval; 18]
     ]
 }
 
+/// The place of a part's count among the numbers.
+fn place_of(part: Part) -> usize
+    ensures place { result ≡ place_of_count part }
+    ensures range { result < 13 }
+{
+    match part {
+        Part::Stations(pool) => pool.place(),
+        Part::Units(unit) => 6 + unit.place(),
+        Part::Buses => 11,
+        Part::Width => 12,
+    }
+}
+
 impl Plateau {
     /// The plateau that follows from the demands of a run on its own configuration.
     pub fn of(demands: &Demands, own: &Config) -> Plateau
@@ -129,5 +142,12 @@ impl Plateau {
             has_all = has_all & (self.least[place] <= number) & (number <= self.most[place]);
         }
         has_all
+    }
+
+    /// The least count of a part on it.
+    pub(crate) fn least_count(&self, part: Part) -> u64
+        ensures { result ≡ (counts_of self.now part).least }
+    {
+        u64::from(self.least[place_of(part)])
     }
 }

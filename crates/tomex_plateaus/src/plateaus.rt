@@ -4,13 +4,13 @@ ghost use Rattle.std.specs.Prelude.{◌≡◌, ◌<◌, [], ◌^◌, false, leng
 ghost use Rattle.std.specs.List.{position};
 ghost use Rattle.tomex_timing.specs.Search.{times_in, total_of};
 ghost use Rattle.tomex_plateaus.specs.Kept.{AreKept, HasLearnt, LiesAt, kept_with};
-ghost use Rattle.tomex_plateaus.specs.Plateaus.{IsPlateauOf, fits, total_known};
+ghost use Rattle.tomex_plateaus.specs.Plateaus.{AreSameFrom, IsPlateauOf, fits, total_known};
 
 use crate::keys::{Keys, Words};
 use crate::plateau::{Plateau, numbers_of};
 use std::alloc::{AllocError, Allocator};
 use std::marker::Model;
-use tomex_config::Config;
+use tomex_config::{Config, Part};
 use tomex_evaluation::Evaluator;
 use tomex_timing::Run;
 
@@ -50,6 +50,18 @@ impl<'s, A: Allocator> Plateaus<'s, A> {
         let place = self.place_of(&numbers_of(config))?;
         self.keys.remember(place);
         Some(self.found[place].total)
+    }
+
+    /// A number of a part down to which the program takes the cycles that it takes on a configuration, as the plateau
+    /// says whose total was given or learnt last. It is the configuration's own number if that isn't on the plateau.
+    pub fn reach(&self, config: &Config, part: Part) -> u64
+        ensures { AreSameFrom self.now.steps config.now part result }
+    {
+        config.keeps_limits();
+        match self.found.get(self.keys.latest()) {
+            Some(plateau) if plateau.has(config) => plateau.least_count(part),
+            _ => part.count(config),
+        }
     }
 
     /// The place of a plateau on which the configuration with these numbers lies, if there is one. Neighbours often lie
