@@ -14,3 +14,5 @@ pub mod Rising
 pub mod Distinct
 pub mod Joining
 pub mod Finishes
+pub mod Gathering
+pub mod Dear

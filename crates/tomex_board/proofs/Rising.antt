@@ -13,11 +13,11 @@ use native.Mathlib.Decide.{dec_le}
 use Rattle.tomex_board.specs.Bands.{with_costs, distinct_costs, floors_among, floors_of}
 use Rattle.tomex_board.proofs.Costs.{among_few, among_many, spread_among, floors_are}
 
-abbrev Above : ℕ → List ℕ → Type 0
+abbrev pub Above : ℕ → List ℕ → Type 0
 Above c [] = Unit {0}
 Above c (x ∷ xs) = (c < x) × Above c xs
 
-abbrev Rises : List ℕ → Type 0
+abbrev pub Rises : List ℕ → Type 0
 Rises [] = Unit {0}
 Rises (x ∷ xs) = Above x xs × Rises xs
 
@@ -35,7 +35,7 @@ inserted_above d c (x ∷ xs) h a = by (nat_cmp c x) (inserted_above d c xs h a.
     by Equal rec = a
     by Greater rec = (a.0, rec)
 
-inserted_rises : (xs : List ℕ) (c : ℕ) → Rises xs → Rises (insert_key nat_cmp xs c)
+pub inserted_rises : (xs : List ℕ) (c : ℕ) → Rises xs → Rises (insert_key nat_cmp xs c)
 inserted_rises [] c t = (tt, tt)
 inserted_rises (x ∷ xs) c t = by (nat_cmp c x) (ranked c x (nat_cmp c x) refl) (inserted_rises xs c t.1)
   where
@@ -49,7 +49,7 @@ with_rises : (rising costs : List ℕ) → Rises rising → Rises (with_costs ri
 with_rises rising [] t = t
 with_rises rising (c ∷ costs) t = with_rises (insert_key nat_cmp rising c) costs (inserted_rises rising c t)
 
-above_at : (c : ℕ) (xs : List ℕ) (k : ℕ) → Above c xs → k < length xs → c < get_or xs k 0
+pub above_at : (c : ℕ) (xs : List ℕ) (k : ℕ) → Above c xs → k < length xs → c < get_or xs k 0
 above_at c [] k a h = absurd (omega arith)
 above_at c (x ∷ xs) zero a h = a.0
 above_at c (x ∷ xs) (suc k) a h = above_at c xs k a.1 (omega arith)

@@ -10,6 +10,9 @@ use std::collections::BTreeSet;
 /// The number of bands of a board. If its rows have fewer distinct costs, the others aren't used.
 pub(crate) const BANDS: usize = 64;
 
+/// How many costs are remembered that are in the set already. Most rows have one of them.
+const LATEST: usize = 64;
+
 /// The keys of a set as a list.
 fn list_of<A: Allocator>(alloc: A, rising: &BTreeSet<u64, A>) -> Result<Vec<u64, A>, AllocError>
     ensures { IfOk result (λ v. v.items ≡ rising.now.keys) }
@@ -22,8 +25,13 @@ fn distinct_costs<A: Allocator + Clone>(alloc: A, costs: &[u64]) -> Result<Vec<u
     ensures { IfOk result (λ v. v.items ≡ distinct_costs costs.now) }
 {
     let mut rising = BTreeSet::new(alloc.clone()?);
+    let mut latest = [None; LATEST];
     for cost in costs {
-        rising.insert(*cost)?;
+        let place = (*cost % LATEST as u64) as usize;
+        if latest[place] != Some(*cost) {
+            rising.insert(*cost)?;
+            latest[place] = Some(*cost);
+        }
     }
     list_of(alloc, &rising)
 }

@@ -71,27 +71,11 @@ unfolding totals_on
 differ_is [] part c n = refl
 differ_is (p ∷ ps) part c n = rw (differ_is ps part c n) refl
 
--- the totals of a configuration, of which more are kept than there are programs
+-- the totals of a configuration
 
 pub many_totals : (programs : List Workload) (c : Configuration) → length (totals_on programs c) ≡ length programs
 unfolding totals_on
 many_totals programs c = length-map programs (λ p. total c p.image)
-
-pub enough_kept : (programs ps : List Workload) (c : Configuration) (totals : List ℕ) → ps ≡ programs
-    → take (length ps) totals ≡ totals_on ps c → length programs ≤ length totals
-enough_kept programs ps c totals same are =
-    let kept : length (take (length ps) totals) ≡ min (length ps) (length totals) = length-take (length ps) totals in
-    let own : length (take (length ps) totals) ≡ length ps = ap length are ∙ many_totals ps c in
-    let many = ap (λ (qs : List Workload). length qs) same in
-    omega (arith, kept, own, many)
-
-pub own_totals : (programs ps : List Workload) (most totals : List ℕ) (a b : Configuration) → ps ≡ programs
-    → take (length ps) totals ≡ totals_on ps a → most ≡ totals_on programs b
-    → take (length most) totals ≡ totals_on programs a
-own_totals programs ps most totals a b same are is =
-    let many : length most ≡ length programs = ap length is ∙ many_totals programs b in
-    ap (λ (n : ℕ). take n totals) (many ∙ ap (λ (qs : List Workload). length qs) (sym same))
-    ∙ (are ∙ ap (λ (qs : List Workload). totals_on qs a) same)
 
 pub change_asked : (programs : List Workload) (part : Part) (c : Configuration) (n : ℕ) (own most : List ℕ)
     → own ≡ totals_on programs (with_count c part n) → most ≡ totals_on programs (with_count c part (most_of part))

@@ -10,6 +10,7 @@ pub mod EnoughFrom
 pub mod Alike
 pub mod Chains
 pub mod Asked
+pub mod AskedTotals
 pub mod Finding
 pub mod WeighedLists
 pub mod AllWeighed

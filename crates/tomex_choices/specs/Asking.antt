@@ -1,7 +1,7 @@
 -- The code's own words: what it has read of a list, which rows it asks, and what workers have found.
 use Rattle.std.specs.Prelude.{ℕ, ◌≡◌, ◌==◌, ◌||◌, ◌<◌, ◌≤◌, ◌⊎◌, Bool, true, false, not, if◌then◌else◌, List, [], ◌∷◌}
 use Rattle.std.specs.Prelude.{◌++◌, length, map}
-use Rattle.std.specs.Prelude.{max, slice_get, Some, All}
+use Rattle.std.specs.Prelude.{max, slice_get, take, Some, All}
 use Rattle.std.specs.List.{filter, list_all, list_any, range_with_len}
 use Rattle.tomex_rvdec.specs.declared.pool.UnitId.{UnitId}
 use Rattle.tomex_config.specs.Configuration.{Configuration}
@@ -13,14 +13,14 @@ use Rattle.tomex_config.specs.Parts.{count_of}
 use Rattle.tomex_config.specs.declared.part.Part.{Part}
 use Rattle.tomex_config.specs.declared.part.Part.TheVariants.{Units}
 use Rattle.tomex_config.specs.Parts.{part_at, same_entry}
-use Rattle.tomex_config.specs.Parts.{most_of, same_latency}
+use Rattle.tomex_config.specs.Parts.{most_of, same_latency, with_count}
 use Rattle.tomex_choices.specs.Enough.{total_with}
 use Rattle.tomex_survey.specs.Extremes.{greatest}
 use Rattle.tomex_choices.specs.NewMachines.{brought_by, greatest_units, grown, least_price, machine_if}
 use Rattle.tomex_choices.specs.NewMachines.{new_machines}
 use Rattle.tomex_choices.specs.Passing.{Has}
-use Rattle.tomex_config.specs.declared.likeness.Likeness.{Likeness}
-use Rattle.tomex_config.specs.declared.likeness.Likeness.TheVariants.{Entry, Latency}
+use Rattle.tomex_study.specs.Cycles.{totals_on}
+use Rattle.tomex_choices.specs.declared.asking.AskedTotals.{AskedTotals}
 use Rattle.tomex_choices.specs.declared.entries.MostUnits.{MostUnits}
 use Rattle.tomex_choices.specs.declared.found.Found.{Found}
 use Rattle.tomex_choices.specs.declared.found.ListFound.{ListFound}
@@ -88,6 +88,11 @@ changes_at programs part c n =
 -- the greatest number with which some does, 0 if there is none
 unfoldable pub last_change : List Workload → Part → Configuration → ℕ
 last_change programs part c = greatest (filter (changes_at programs part c) (range_with_len 1 (most_of part)))
+
+-- these totals are those of the programs with each of these numbers of a part, up to the one that was asked
+abbrev pub AreAskedTotals : List Workload → Configuration → Part → ℕ → AskedTotals → Type 0
+AreAskedTotals programs config part number asked = (n : ℕ) → 1 ≤ n → asked.low ≤ n → n ≤ number
+    → take (length programs) asked.totals ≡ totals_on programs (with_count config part n)
 
 -- a configuration was asked with n of a part
 pub record IsNumberAsked {A : Type 0} (s : DesignSpace) (part : Part) (c : Configuration) (n : ℕ)

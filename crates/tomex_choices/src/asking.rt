@@ -6,7 +6,8 @@ ghost use Rattle.tomex_config.specs.Configuration.{is_between};
 ghost use Rattle.tomex_study.specs.Cycles.{totals_on};
 ghost use Rattle.tomex_study.specs.Study.{config_at};
 ghost use Rattle.tomex_config.specs.Parts.{part_at};
-ghost use Rattle.tomex_choices.specs.Asking.{AreAsked, AreLists, IsAsked, IsAskedOnce, IsNumberAsked, differ};
+ghost use Rattle.tomex_choices.specs.Asking.{AreAsked, AreAskedTotals, AreLists, IsAsked, IsAskedOnce};
+ghost use Rattle.tomex_choices.specs.Asking.{IsNumberAsked, differ};
 ghost use Rattle.tomex_config.specs.Parts.{latency_in, most_of};
 ghost use Rattle.tomex_choices.specs.NewMachines.{grown, machine_of};
 ghost use Rattle.tomex_plateaus.specs.Knowledge.{AreLearnt, known_totals_on};
@@ -78,44 +79,88 @@ fn last_change(last: u8, changes: bool, number: u8) -> u8
     if changes { last.max(number) } else { last }
 }
 
-/// Asks a configuration with one number of a list's part. `most` are the totals with the most.
-fn ask_number<A: Allocator + Clone>(
+/// The programs' totals with some numbers of a part, from `low` on up to the number that was asked.
+#[derive(Clone, Copy)]
+pub(crate) struct AskedTotals {
+    pub totals: [u64; 8],
+    pub low: u64,
+}
+
+/// Asks a configuration with a number of a part. The totals are those of all lower numbers that lie on the same
+/// plateaus, too.
+fn totals_down<A: Allocator + Clone>(
     knowledge: &mut Knowledge<'_, A>,
+    config: &Config,
+    part: Part,
+    number: u8,
+) -> Result<AskedTotals, AllocError>
+    requires { is_between 1 (most_of part) number ≡ true }
+    ensures programs { knowledge.new.programs ≡ knowledge.old.programs }
+    ensures totals { IfOk result (AreAskedTotals knowledge.old.programs config.now part number) }
+    ensures low { IfOk result (λ a. a.low ≤ number) }
+{
+    config.keeps_limits();
+    let asked = with_count(config, part, number);
+    let totals = totals_on(knowledge, &asked)?;
+    let low = knowledge.reach(&asked, part).min(u64::from(number));
+    Ok(AskedTotals { totals, low })
+}
+
+/// The totals with a number of a part, of which the next number above it had these.
+fn next_totals<A: Allocator + Clone>(
+    knowledge: &mut Knowledge<'_, A>,
+    config: &Config,
+    part: Part,
+    number: u8,
+    before: AskedTotals,
+) -> Result<AskedTotals, AllocError>
+    requires number { is_between 1 (most_of part) number ≡ true }
+    requires before { AreAskedTotals knowledge.old.programs config.now part number before }
+    ensures programs { knowledge.new.programs ≡ knowledge.old.programs }
+    ensures totals { IfOk result (AreAskedTotals knowledge.old.programs config.now part number) }
+    ensures low { IfOk result (λ a. a.low ≤ number) }
+{
+    if before.low <= u64::from(number) {
+        return Ok(before);
+    }
+    totals_down(knowledge, config, part, number)
+}
+
+/// Asks a configuration with one number of a list's part, with which the programs have these totals. `most` are the
+/// totals with the most.
+fn ask_number<A: Allocator + Clone>(
     study: &Study<A>,
     entries: &Entries<'_>,
     config: &Config,
     number: u8,
+    totals: &[u64],
     most: &[u64],
     found: &mut ListFound<A>,
 ) -> Result<(), AllocError>
-    requires programs { knowledge.old.programs ≡ study.now.programs }
     requires rows { entries.now.rows ≡ study.now.rows }
     requires number { is_between 1 (most_of (part_at entries.now.place)) number ≡ true }
+    requires totals { totals.now ≡ totals_on study.now.programs
+        (with_count config.now (part_at entries.now.place) number) }
     requires most { most.now ≡ totals_on study.now.programs
         (with_count config.now (part_at entries.now.place) (most_of (part_at entries.now.place))) }
-    ensures programs { knowledge.new.programs ≡ knowledge.old.programs }
     ensures asked { OnOk result
         (IsNumberAsked study.now (part_at entries.now.place) config.now number found.old found.new) }
 {
     let part = entries.part();
-    let asked = with_count(config, part, number);
-    let totals = totals_on(knowledge, &asked)?;
-    let own = &totals[..most.len()];
     config.keeps_limits();
-    asked.keeps_limits();
-    let changes = differ(own, most);
+    let changes = differ(totals, most);
     found.last_change = last_change(found.last_change, changes, number);
     if let Some(grown) = entries.grown(config, number) {
         grown.keeps_limits();
         found
             .machines
-            .push(new_machine(study, part, number, &grown, own))?;
+            .push(new_machine(study, part, number, &grown, totals))?;
     }
     Ok(())
 }
 
-/// Asks a configuration with each number of a list's part, from the most down: what is learnt with the most is often
-/// known of many others.
+/// Asks a configuration with each number of a list's part, from the most down. Only the first number on each plateau is
+/// looked up.
 fn ask_list<A: Allocator + Clone>(
     knowledge: &mut Knowledge<'_, A>,
     study: &Study<A>,
@@ -128,12 +173,17 @@ fn ask_list<A: Allocator + Clone>(
     ensures programs { knowledge.new.programs ≡ knowledge.old.programs }
     ensures asked { OnOk result (IsAsked study.now (part_at entries.now.place) config.now found.old found.new) }
 {
+    study.keeps_limits();
     let part = entries.part();
     let most = part.most();
-    let totals = totals_on(knowledge, &with_count(config, part, most))?;
-    let own = &totals[..study.programs().len()];
+    let with_most = totals_down(knowledge, config, part, most)?;
+    let of_most = &with_most.totals[..study.programs().len()];
+    let mut asked = with_most;
     for fewer in 0..most {
-        ask_number(knowledge, study, entries, config, most - fewer, own, found)?;
+        let number = most - fewer;
+        asked = next_totals(knowledge, config, part, number, asked)?;
+        let own = &asked.totals[..study.programs().len()];
+        ask_number(study, entries, config, number, own, of_most, found)?;
     }
     Ok(())
 }

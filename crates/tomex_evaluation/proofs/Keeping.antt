@@ -15,9 +15,10 @@ use Rattle.tomex_repeats.specs.Blocks.{Blocks}
 use Rattle.tomex_states.specs.Reuse.{CanBeKept, IsCopy}
 use Rattle.tomex_states.specs.States.{ShowsState}
 use Rattle.tomex_states.specs.declared.state.State.{State}
-use Rattle.tomex_evaluation.specs.Kept.{HasOneMore, entry_of, entry_place}
+use Rattle.tomex_evaluation.specs.Kept.{HasOneMore, entry_of, entry_place, next_of}
 use Rattle.tomex_evaluation.specs.Known.{AreKnown, IsEntry}
 use Rattle.tomex_evaluation.specs.Places.{WentThrough}
+use Rattle.tomex_evaluation.specs.declared.known.Entry.TheVariants.{Leads, Unknown}
 use Rattle.tomex_evaluation.specs.declared.known.Known.{Known}
 use Rattle.tomex_evaluation.specs.declared.known.Next.{Next}
 
@@ -127,23 +128,24 @@ module _ {A : Type 0} (config : Configuration) (steps : List Step) (run : Blocks
         → entry_of after v number ≡ Some next → IsEntry config steps run i (places ++ (i ∷ [])) v number next
     entries v number next l m e =
         let d = more.different in
-        let there_is : entry_of after v number ≡ get_or (before.next.items ++ replicate before.different None)
-        (entry_place before.different v number) None = rw (more.next, d) refl in
+        let there_is : entry_of after v number
+        ≡ next_of (get_or (before.next.items ++ replicate before.different Unknown)
+        (entry_place before.different v number) Unknown) = rw (more.next, d) refl in
         elim (there v l) [
           | inl k ↦
               let in_row = entry_there before.different v number (length places) k (omega arith) in
               let old : entry_of before v number ≡ Some next =
-              sym (get_or_append_left before.next.items (replicate before.different None) None
-              (entry_place before.different v number) (omega (arith, in_row, so.rows))) ∙ sym there_is ∙ e in
+              ap next_of (sym (get_or_append_left before.next.items (replicate before.different Unknown) Unknown
+              (entry_place before.different v number) (omega (arith, in_row, so.rows)))) ∙ sym there_is ∙ e in
               let entry = so.entries v number next k (omega arith) old in
               entry_kept config steps run i places (i ∷ []) v number next k entry
           | inr k ↦
               let past : length before.next.items ≤ entry_place before.different v number =
               rw k (omega (arith, so.rows)) in
               let none : entry_of after v number ≡ None = there_is
-              ∙ get_or-append_right before.next.items (replicate before.different None)
-              (length before.next.items) (entry_place before.different v number) None refl past
-              ∙ all_one before.different (entry_place before.different v number - length before.next.items) None in
+              ∙ ap next_of (get_or-append_right before.next.items (replicate before.different Unknown)
+              (length before.next.items) (entry_place before.different v number) Unknown refl past
+              ∙ all_one before.different (entry_place before.different v number - length before.next.items) Unknown) in
               absurd (cc (none, e))
         ]
 
@@ -160,8 +162,8 @@ module _ {A : Type 0} (config : Configuration) (steps : List Step) (run : Blocks
           rw more.states (omega (arith, long, room));
       rows =
           let long : length after.next.items ≡ length before.next.items + before.different =
-          ap length more.next ∙ length-append before.next.items (replicate before.different None)
-          ∙ ap (λ n. length before.next.items + n) (length-replicate before.different None) in
+          ap length more.next ∙ length-append before.next.items (replicate before.different Unknown)
+          ∙ ap (λ n. length before.next.items + n) (length-replicate before.different Unknown) in
           rw (length_push places i, more.different) (omega (arith, long, so.rows));
       passed = λ v k. elim (there v k) [
         | inl l ↦ rw (get_or_append_left places (i ∷ []) 0 v l) (so.passed v l)
@@ -183,7 +185,7 @@ module _ {A : Type 0} (config : Configuration) (steps : List Step) (run : Blocks
       → AreKnown config steps run i places before → v < length places → number < before.different
       → IsEntry config steps run i places v number next → after.states ≡ before.states
       → after.different ≡ before.different
-      → after.next.items ≡ set before.next.items (entry_place before.different v number) (Some next)
+      → after.next.items ≡ set before.next.items (entry_place before.different v number) (Leads next.state next.passed)
       → AreKnown config steps run i places after
   known_noted i places before after v number next so l m entry states different noted = record {
     different = different ∙ so.different;
@@ -204,7 +206,8 @@ module _ {A : Type 0} (config : Configuration) (steps : List Step) (run : Blocks
           → entry_of after w other ≡ Some then → IsEntry config steps run i places w other then
       entries w other then k o e =
           let p = entry_place before.different w other in
-          let is : entry_of after w other ≡ get_or (set before.next.items at (Some next)) p None =
+          let is : entry_of after w other
+          ≡ next_of (get_or (set before.next.items at (Leads next.state next.passed)) p Unknown) =
           rw (noted, different) refl in
           let o' : other < before.different = omega (arith, different) in
           let in_row = entry_there before.different v number (length places) l m in
@@ -212,11 +215,14 @@ module _ {A : Type 0} (config : Configuration) (steps : List Step) (run : Blocks
             | inl same ↦
                 let both = same_from_place w other v number before.different o' m same in
                 let put : entry_of after w other ≡ Some next =
-                is ∙ ap (λ x. get_or (set before.next.items at (Some next)) x None) same
-                ∙ get_or-set_same before.next.items at (Some next) None (omega (arith, in_row, so.rows)) in
+                is
+                ∙ ap (λ x. next_of (get_or (set before.next.items at (Leads next.state next.passed)) x Unknown)) same
+                ∙ ap next_of (get_or-set_same before.next.items at (Leads next.state next.passed) Unknown
+                (omega (arith, in_row, so.rows))) in
                 let one : next ≡ then = cc (put, e) in
                 rw (both.0, both.1, sym one) entry
             | inr apart ↦
                 so.entries w other then k o'
-                (sym (get_or-set_other before.next.items at p (Some next) None apart) ∙ sym is ∙ e)
+                (ap next_of (sym (get_or-set_other before.next.items at p (Leads next.state next.passed) Unknown apart))
+                ∙ sym is ∙ e)
           ]

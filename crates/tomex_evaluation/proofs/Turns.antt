@@ -1,7 +1,8 @@
 -- One block more: from the table, or evaluated.
 use Rattle.std.proofs.Common.{ℕ, ◌+◌, ◌<◌, ◌≤◌, ◌≡◌, ◌^◌, arith, refl, sym, List, Option}
-use Rattle.std.proofs.Common.{Some, None}
+use Rattle.std.proofs.Common.{Some, None, Bool, inl, inr, subst}
 use Rattle.std.proofs.Common.{IfSome}
+use Rattle.std.proofs.lemmas.Bool.{cases_Bool}
 use Rattle.std.proofs.Common.{drop, get_or, length, slice_get}
 use Rattle.std.specs.List.{Contains}
 use Rattle.std.specs.Prelude.{slice_index}
@@ -16,7 +17,7 @@ use Rattle.tomex_repeats.specs.declared.blocks.Block.{Block}
 use Rattle.tomex_repeats.proofs.SameBlocks.{row_within}
 use Rattle.tomex_states.specs.States.{ShowsState}
 use Rattle.tomex_states.specs.declared.state.State.{State}
-use Rattle.tomex_evaluation.specs.Kept.{HasEntry, IsNoted, IsNumbered, entry_of, entry_place}
+use Rattle.tomex_evaluation.specs.Kept.{HasEntry, HasEntryIf, IsNoted, IsNumbered, entry_of, entry_place, fits_in_entry}
 use Rattle.tomex_evaluation.specs.Known.{AreKnown, IsAt, IsBefore, IsEntry, IsInKept, StandsAt, kept_of}
 use Rattle.tomex_evaluation.specs.Places.{IsCut}
 use Rattle.tomex_evaluation.specs.declared.evaluation.Evaluation.{Evaluation}
@@ -150,8 +151,18 @@ module _ {A : Type 0} (config : Configuration) (steps : List Step) (run : Blocks
       → first_issue_at config steps b.end ≡ first_issue_at config steps b.first + passed
       → IsNoted known after from b.number to passed → AreKnown config steps run b.end is_known.places after
   known_then b e known after (Some v) (Some w) passed cut there at is_known is later noted =
-      noted_entry b at.places v w passed known after cut there is_known
-      (kept_in at.places b.first v e.state e.standing at.stands is) later noted
+      elim (cases_Bool (fits_in_entry (record { state = w; passed = passed }))) [
+        | inl fits ↦
+            noted_entry b at.places v w passed known after cut there is_known
+            (kept_in at.places b.first v e.state e.standing at.stands is) later
+            (subst (λ (x : Bool). HasEntryIf x known after v b.number (record { state = w; passed = passed })) fits
+            noted)
+        | inr not ↦
+            let same : after ≡ known =
+            subst (λ (x : Bool). HasEntryIf x known after v b.number (record { state = w; passed = passed })) not noted
+            in
+            rw same is_known.known
+      ]
   known_then b e known after (Some v) None passed cut there at is_known is later noted = rw noted is_known.known
   known_then b e known after None to passed cut there at is_known is later noted = rw noted is_known.known
 

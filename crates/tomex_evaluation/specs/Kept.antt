@@ -1,9 +1,11 @@
 -- The states that are kept, and the entries of the table.
 use Rattle.std.specs.Prelude.{ℕ, ◌+◌, ◌*◌, ◌^◌, ◌<◌, ◌≡◌, ◌⊎◌, [], ◌∷◌, ◌++◌, Option, Some, None, length}
-use Rattle.std.specs.Prelude.{replicate, slice_index_or, slice_set}
+use Rattle.std.specs.Prelude.{replicate, slice_index_or, slice_set, nat_lt, ◌&&◌, Bool, true, false}
 use Rattle.tomex_config.specs.Configuration.{Configuration}
 use Rattle.tomex_states.specs.Reuse.{CanBeKept, IsCopy, LookAlike, ShowsSome, ShowsTheSame}
 use Rattle.tomex_states.specs.declared.state.State.{State}
+use Rattle.tomex_evaluation.specs.declared.known.Entry.{Entry}
+use Rattle.tomex_evaluation.specs.declared.known.Entry.TheVariants.{Leads, Unknown}
 use Rattle.tomex_evaluation.specs.declared.known.Known.{Known}
 use Rattle.tomex_evaluation.specs.declared.known.Next.{Next}
 
@@ -11,8 +13,13 @@ use Rattle.tomex_evaluation.specs.declared.known.Next.{Next}
 abbrev pub entry_place : (different v number : ℕ) → ℕ
 entry_place different v number = v * different + number
 
+-- what an entry says
+abbrev pub next_of : Entry → Option Next
+next_of Unknown = None
+next_of (Leads state passed) = Some (record { state = state; passed = passed })
+
 abbrev pub entry_of : {A : Type 0} → Known A → (v number : ℕ) → Option Next
-entry_of known v number = slice_index_or known.next.items (entry_place known.different v number) None
+entry_of known v number = next_of (slice_index_or known.next.items (entry_place known.different v number) Unknown)
 
 -- a state that can be kept, and shows some history
 pub record IsUsable {A : Type 0} (config : Configuration) (state : State A) : Type 0 where
@@ -26,7 +33,7 @@ pub record HasOneMore {A : Type 0} (state : State A) (before after : Known A) : 
   pub is : IsCopy state copy
   pub shows : ShowsTheSame state copy
   pub states : after.states.items ≡ before.states.items ++ (copy ∷ [])
-  pub next : after.next.items ≡ before.next.items ++ replicate before.different None
+  pub next : after.next.items ≡ before.next.items ++ replicate before.different Unknown
   pub different : after.different ≡ before.different
 
 -- No state is kept.
@@ -61,11 +68,21 @@ pub record HasEntry {A : Type 0} (before after : Known A) (v number : ℕ) (then
   pub states : after.states ≡ before.states
   pub different : after.different ≡ before.different
   pub next : after.next.items
-      ≡ slice_set before.next.items (entry_place before.different v number) (Some then)
+      ≡ slice_set before.next.items (entry_place before.different v number) (Leads then.state then.passed)
 
--- so it is if the states before and after the block have numbers; without them nothing changes
+-- an entry holds a state's number in one byte, and cycles in four
+abbrev pub fits_in_entry : Next → Bool
+fits_in_entry next = nat_lt next.state 256 && nat_lt next.passed (2 ^ 32)
+
+-- so it is if an entry holds it, and nothing changes otherwise
+abbrev pub HasEntryIf : {A : Type 0} → Bool → (before after : Known A) → (v number : ℕ) → Next → Type 0
+HasEntryIf true before after v number then = HasEntry before after v number then
+HasEntryIf false before after v number then = after ≡ before
+
+-- and if the states before and after the block have numbers; without them nothing changes
 abbrev pub IsNoted : {A : Type 0} → (before after : Known A) → (from : Option ℕ) → (number : ℕ) → (to : Option ℕ)
     → (passed : ℕ) → Type 0
 IsNoted before after (Some v) number (Some w) passed =
-    HasEntry before after v number (record { state = w; passed = passed })
+    HasEntryIf (fits_in_entry (record { state = w; passed = passed })) before after v number
+    (record { state = w; passed = passed })
 IsNoted before after _ number _ passed = after ≡ before

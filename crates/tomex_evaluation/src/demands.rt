@@ -21,7 +21,7 @@ pub struct ByBlocks {
 
 /// The demands of a run on a configuration: those of `Run::demands`, in less time if blocks come again.
 ///
-/// At most 32 states are kept at once, of some 1.5 kilobytes each, and an entry of 24 bytes for each of them and each
+/// At most 32 states are kept at once, of some 1.5 kilobytes each, and an entry of 8 bytes for each of them and each
 /// different block.
 pub fn demands_by_blocks<A: Allocator + Clone>(
     alloc: &A,

@@ -11,15 +11,12 @@ use tomex_config::Config;
 use tomex_repeats::Blocks;
 use tomex_timing::{Demands, Run};
 
-/// The number of evaluations before a run is cut into blocks, which takes about as long as an evaluation.
-const PLAIN: u32 = 2;
-
-/// Evaluates a run on one configuration after another: from the third one on by its blocks.
+/// Evaluates a run on one configuration after another, by its blocks if they come again. To cut it takes about as long
+/// as one evaluation step by step.
 #[derive(Drop)]
 pub struct Evaluator<'s, A: Allocator> {
     run: &'s Run<A>,
-    /// The number of evaluations without blocks.
-    plain: u32,
+    /// Its blocks, from the first evaluation on.
     blocks: Option<Blocks<A>>,
 }
 
@@ -41,11 +38,7 @@ impl<'s, A: Allocator> Evaluator<'s, A> {
     pub fn new(run: &'s Run<A>) -> Evaluator<'s, A>
         ensures { result ≡ run.now }
     {
-        Evaluator {
-            run,
-            plain: 0,
-            blocks: None,
-        }
+        Evaluator { run, blocks: None }
     }
 }
 
@@ -55,14 +48,12 @@ fn come_again<A: Allocator>(blocks: &Blocks<A>) -> bool {
 }
 
 impl<'s, A: Allocator + Clone> Evaluator<'s, A> {
-    /// Cuts the run into blocks, unless it is cut already or hasn't been evaluated often enough.
+    /// Cuts the run into blocks, unless it is cut already.
     fn cut(&mut self, alloc: &A) -> Result<(), AllocError>
         requires { length self.old < 2 ^ 28 }
         ensures { self.new ≡ self.old }
     {
-        if self.plain < PLAIN {
-            self.plain += 1;
-        } else if self.blocks.is_none() {
+        if self.blocks.is_none() {
             self.blocks = Some(Blocks::of(alloc.clone()?, self.run.facts())?);
         }
         Ok(())

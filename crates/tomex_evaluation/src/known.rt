@@ -5,7 +5,7 @@ ghost use Rattle.std.specs.Prelude.{slice_index_or};
 ghost use Rattle.tomex_timing.specs.Ahead.{IsSettledBy, held_by};
 ghost use Rattle.tomex_states.specs.Reuse.{LookAlike};
 ghost use Rattle.tomex_evaluation.specs.Kept.{HasForgotten, HasOneMore, IsNoted, IsUsable};
-ghost use Rattle.tomex_evaluation.specs.Kept.{entry_of, entry_place};
+ghost use Rattle.tomex_evaluation.specs.Kept.{entry_of, entry_place, next_of};
 
 use std::alloc::{AllocError, Allocator};
 use tomex_config::Config;
@@ -13,6 +13,9 @@ use tomex_states::State;
 
 /// The most states that are kept at once.
 const MOST: usize = 32;
+
+/// The most different blocks for which there is room for the entries of all states from the start on.
+const FEW: usize = 4096;
 
 /// What follows a kept state and a block.
 #[derive(Clone, Copy)]
@@ -23,12 +26,34 @@ pub(crate) struct Next {
     pub passed: u64,
 }
 
+/// What is known of that, in eight bytes.
+#[derive(Clone, Copy)]
+pub(crate) enum Entry {
+    Unknown,
+    Leads { state: u8, passed: u32 },
+}
+
+impl Entry {
+    #[inline(always)]
+    fn next(self) -> Option<Next>
+        ensures { result ≡ next_of self }
+    {
+        match self {
+            Entry::Unknown => None,
+            Entry::Leads { state, passed } => Some(Next {
+                state: usize::from(state),
+                passed: u64::from(passed),
+            }),
+        }
+    }
+}
+
 /// The states that are kept of a run, and what follows each of them.
 #[derive(Drop)]
 pub(crate) struct Known<A: Allocator> {
     pub states: Vec<State<A>, A>,
-    /// A row of entries for each state, by the numbers of blocks. `None` if it isn't known what follows.
-    pub next: Vec<Option<Next>, A>,
+    /// A row of entries for each state, by the numbers of blocks.
+    pub next: Vec<Entry, A>,
     /// How many different blocks there are.
     pub different: usize,
 }
@@ -40,10 +65,10 @@ impl<A: Allocator> Known<A> {
         requires { entry_place self.now.different state number < length self.now.next.items }
         ensures { result ≡ entry_of self.now state number }
     {
-        self.next[state * self.different + number]
+        self.next[state * self.different + number].next()
     }
 
-    /// Notes what follows a state and a block, if both states have numbers.
+    /// Notes what follows a state and a block, if both states have numbers, and an entry holds it.
     pub(crate) fn note(
         &mut self,
         from: Option<usize>,
@@ -58,7 +83,12 @@ impl<A: Allocator> Known<A> {
         let (Some(from), Some(state)) = (from, to) else {
             return;
         };
-        self.next[from * self.different + number] = Some(Next { state, passed });
+        if state <= u8::MAX as usize && passed <= u32::MAX as u64 {
+            self.next[from * self.different + number] = Entry::Leads {
+                state: state as u8,
+                passed: passed as u32,
+            };
+        }
     }
 
     /// The number of a kept state that looks like this one, if there is one.
@@ -97,9 +127,14 @@ impl<A: Allocator + Clone> Known<A> {
     pub(crate) fn new(alloc: &A, different: usize) -> Result<Known<A>, AllocError>
         ensures { IfOk result (λ k. (k.states.items ≡ []) × (k.next.items ≡ []) × (k.different ≡ different)) }
     {
+        let room = if different <= FEW {
+            MOST * different
+        } else {
+            0
+        };
         Ok(Known {
             states: Vec::new(alloc.clone()?),
-            next: Vec::new(alloc.clone()?),
+            next: Vec::with_capacity(alloc.clone()?, room)?,
             different,
         })
     }
@@ -114,7 +149,7 @@ impl<A: Allocator + Clone> Known<A> {
         copy.copy_from(state)?;
         self.states.push(copy)?;
         let count = self.next.len() + self.different;
-        self.next.resize(count, None)?;
+        self.next.resize(count, Entry::Unknown)?;
         Ok(())
     }
 }

@@ -18,7 +18,7 @@ use Rattle.tomex_timing.specs.Search.{times_in, total_of}
 use Rattle.tomex_plateaus.specs.declared.plateau.Plateau.{Plateau}
 use Rattle.tomex_plateaus.specs.Kept.{Kept, AreKept, LiesAt, kept_with, most_plateaus}
 use Rattle.tomex_plateaus.proofs.Keeping.{kept_few, kept_many}
-use Rattle.tomex_plateaus.specs.Plateaus.{IsPlateauOf, lies_on, total_known}
+use Rattle.tomex_plateaus.specs.Plateaus.{IsPlateauOf, fits, lies_on, numbers_of, total_known}
 
 all_reverse : {X : Type 0} (P : X → Type 0) (xs : List X) → All P xs → All P (reverse xs)
 all_reverse P xs all k d low =
@@ -41,25 +41,24 @@ none_at p xs is = go (nat_lt (position_or_len p xs) (length xs)) refl is
         let before : k < position_or_len p xs = omega (arith, past, low) in
         not_true (p (get_or xs k d)) (prefix_len_passes (λ x. not (p x)) xs k d before)
 
-some_at : (config : Configuration) (xs : List Plateau) (k : ℕ) → position (lies_on config) xs ≡ Some k
-    → LiesAt config xs k
-some_at config [] k is = absurd (cc)
-some_at config (x ∷ xs) k is =
-    let found = position-Some (lies_on config) (x ∷ xs) k x is in
+some_at : (numbers : List ℕ) (xs : List Plateau) (k : ℕ) → position (fits numbers) xs ≡ Some k → LiesAt numbers xs k
+some_at numbers [] k is = absurd (cc)
+some_at numbers (x ∷ xs) k is =
+    let found = position-Some (fits numbers) (x ∷ xs) k x is in
     record {
       plateau = get_or (x ∷ xs) k x;
       at = slice_get-get_or (x ∷ xs) k x found.0;
       on = found.1;
     }
 
-pub found_at : (config : Configuration) (xs : List Plateau) (o : Option ℕ) → o ≡ position (lies_on config) xs
-    → IfSome o (LiesAt config xs)
-found_at config xs None is = tt
-found_at config xs (Some k) is = some_at config xs k (sym is)
+pub found_at : (numbers : List ℕ) (xs : List Plateau) (o : Option ℕ) → o ≡ position (fits numbers) xs
+    → IfSome o (LiesAt numbers xs)
+found_at numbers xs None is = tt
+found_at numbers xs (Some k) is = some_at numbers xs k (sym is)
 
-pub nowhere : (config : Configuration) (xs : List Plateau) (o : Option ℕ) → o ≡ position (lies_on config) xs
-    → o ≡ None → All (λ p. lies_on config p ≡ false) xs
-nowhere config xs o is none = none_at (lies_on config) xs (sym is ∙ none)
+pub nowhere : (numbers : List ℕ) (xs : List Plateau) (o : Option ℕ) → o ≡ position (fits numbers) xs → o ≡ None
+    → All (λ p. fits numbers p ≡ false) xs
+nowhere numbers xs o is none = none_at (fits numbers) xs (sym is ∙ none)
 
 -- the item that is found passes, and is one of them
 found_one : {X : Type 0} (P : X → Type 0) (p : X → Bool) (xs : List X) (x : X) → All P xs → find p xs ≡ Some x → P x
@@ -126,7 +125,7 @@ learnt config k m p good old new on is = ⊎_elim
 
 -- the total at a place on which a configuration lies is known, and is the program's
 pub known_at : (config : Configuration) (k : Kept) (place : ℕ) (p : Plateau) → IsWithinLimits config → AreKept k
-    → LiesAt config k.found place → slice_get k.found place ≡ Some p
+    → LiesAt (numbers_of config) k.found place → slice_get k.found place ≡ Some p
     → (Some p.total ≡ total_known config k.found) × (total_of (times_in config k.steps) ≡ p.total)
 known_at config k place p good kept lies at =
     let same : Some p ≡ Some lies.plateau = sym at ∙ lies.at in

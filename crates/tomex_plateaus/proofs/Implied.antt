@@ -1,5 +1,5 @@
 -- The demands of a run give a plateau: a configuration that lies on it gives the run the same cycles as its own.
-use Rattle.std.proofs.Common.{ℕ, ◌≤◌, ◌≡◌, ◌∙◌, ◌⊎◌, Bool, true, false, ap, arith, refl, sym, inl}
+use Rattle.std.proofs.Common.{ℕ, ◌≤◌, ◌≡◌, ◌∙◌, ◌⊎◌, Bool, true, false, ap, arith, refl, subst, sym, inl}
 use Rattle.std.proofs.Common.{inr, List, [], ◌∷◌}
 use Rattle.std.specs.Prelude.{min, nat_le, ◌==◌, not}
 use Rattle.std.specs.List.{list_all}
@@ -25,6 +25,7 @@ use Rattle.tomex_timing.proofs.Implied.{part_listed, unit_listed}
 use Rattle.tomex_timing.proofs.Limits.{between, buses_high, latency_high, stations_high, units_high}
 use Rattle.tomex_timing.proofs.SameTimes.{serves_runs}
 use Rattle.tomex_timing.proofs.Taken.{peak_within}
+use Rattle.tomex_plateaus.specs.declared.interval.Interval.{Interval}
 use Rattle.tomex_plateaus.specs.Laws.{OwnConfigurationLiesOn, TotalIsThatOfThePlateau}
 use Rattle.tomex_plateaus.specs.Plateaus.{counts_for, counts_of, is_within, latencies_for, latencies_of, latency_for}
 use Rattle.tomex_plateaus.specs.Plateaus.{lies_on, plateau_of}
@@ -107,7 +108,7 @@ latencies_are demands own units.Div = refl
 latencies_are demands own units.Mem = refl
 latencies_are demands own units.Bru = refl
 
-all_from : {X : Type 0} (p : X → Bool) (xs : List X) → ((x : X) → p x ≡ true) → list_all p xs ≡ true
+pub all_from : {X : Type 0} (p : X → Bool) (xs : List X) → ((x : X) → p x ≡ true) → list_all p xs ≡ true
 all_from p [] each = refl
 all_from p (x ∷ xs) each = and_from (p x) (list_all p xs) (each x) (all_from p xs each)
 
@@ -129,7 +130,7 @@ part_serves : (own other : Configuration) (h : List Done) (demands : Demands) (p
     → (count_of other part ≡ count_of own part) ⊎ ((stalls own part h ≡ 0) × (peak part h ≤ count_of other part))
 part_serves own other h demands part good are within =
     elim (count_in (demand_of demands part) (count_of own part) (count_of other part) (count_high other part good)
-    (rw counts_are at within)) [
+    (subst (λ (i : Interval). is_within i (count_of other part) ≡ true) (counts_are demands own part) within)) [
       | inl same ↦ inl same
       | inr two ↦ inr (
         no_stalls (stalls own part h) (sym (ap (λ (d : Demand). d.waits) (demand_is part are)) ∙ two.0),
@@ -143,7 +144,8 @@ latency_serves : (own other : Configuration) (h : List Done) (demands : Demands)
     → ((option_of other unit).latency ≡ (option_of own unit).latency) ⊎ (peak (Units unit) h ≡ 0)
 latency_serves own other h demands unit are within =
     elim (latency_in (demand_of demands (Units unit)) (option_of own unit).latency (option_of other unit).latency
-    (rw latencies_are at within)) [
+    (subst (λ (i : Interval). is_within i (option_of other unit).latency ≡ true) (latencies_are demands own unit)
+    within)) [
       | inl same ↦ inl same
       | inr none ↦ inr (sym (peak_is own h demands (Units unit) are) ∙ none)
     ]
@@ -178,7 +180,10 @@ own_lies_on own steps demands good are =
     and_from (list_all parts all_parts) (list_all kinds all_units)
     (all_from parts all_parts (λ part.
     let most : peak part h ≤ count_of own part = peak_within own h part (are_timed own steps good) in
-    rw counts_are (own_count (demand_of demands part) (count_of own part) (count_high own part good)
+    subst (λ (i : Interval). is_within i (count_of own part) ≡ true) (sym (counts_are demands own part))
+    (own_count (demand_of demands part) (count_of own part) (count_high own part good)
     (rw (peak_is own h demands part are) most))))
-    (all_from kinds all_units (λ unit. rw latencies_are
+    (all_from kinds all_units
+    (λ unit. subst (λ (i : Interval). is_within i (option_of own unit).latency ≡ true)
+    (sym (latencies_are demands own unit))
     (own_latency (demand_of demands (Units unit)) (option_of own unit).latency (latency_high own unit good))))

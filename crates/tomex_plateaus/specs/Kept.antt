@@ -4,7 +4,7 @@ use Rattle.std.specs.Prelude.{All, Some, slice_get, slice_set}
 use Rattle.tomex_rvexec.specs.declared.step.Step.{Step}
 use Rattle.tomex_config.specs.Configuration.{Configuration}
 use Rattle.tomex_plateaus.specs.declared.plateau.Plateau.{Plateau}
-use Rattle.tomex_plateaus.specs.Plateaus.{IsPlateauOf, lies_on}
+use Rattle.tomex_plateaus.specs.Plateaus.{IsPlateauOf, fits, lies_on}
 
 -- the most plateaus that are kept
 abbrev pub most_plateaus : ℕ
@@ -30,11 +30,11 @@ kept_with p k =
     then record { steps = k.steps; found = k.found ++ (p ∷ []); oldest = k.oldest }
     else record { steps = k.steps; found = slice_set k.found k.oldest p; oldest = (k.oldest + 1) % most_plateaus }
 
--- there is a plateau at a place, and the configuration lies on it
-pub record LiesAt (config : Configuration) (found : List Plateau) (place : ℕ) : Type 0 where
+-- there is a plateau at a place, and the configuration with these numbers lies on it
+pub record LiesAt (numbers : List ℕ) (found : List Plateau) (place : ℕ) : Type 0 where
   pub plateau : Plateau
   pub at : slice_get found place ≡ Some plateau
-  pub on : lies_on config plateau ≡ true
+  pub on : fits numbers plateau ≡ true
 
 -- one more plateau is kept, and the configuration lies on it
 pub record HasLearnt (config : Configuration) (old new : Kept) : Type 0 where

@@ -1,9 +1,11 @@
 -- What a worker knows about a study's programs: totals on configurations, from evaluations of their runs.
-use Rattle.std.specs.Prelude.{◌≡◌, ℕ, ◌≤◌, List, [], Option, Some, None, length, map, take, slice_get, slice_index_or}
+use Rattle.std.specs.Prelude.{◌≡◌, ℕ, ◌<◌, ◌≤◌, List, [], Option, Some, None, length, map, take, slice_get, slice_index_or}
 use Rattle.std.specs.Prelude.{All, IfSome}
 use Rattle.tomex_rvexec.specs.Run.{start_of}
 use Rattle.tomex_rvexec.specs.Trace.{steps_from}
 use Rattle.tomex_config.specs.Configuration.{Configuration}
+use Rattle.tomex_config.specs.Parts.{count_of, with_count}
+use Rattle.tomex_config.specs.declared.part.Part.{Part}
 use Rattle.tomex_timing.specs.Run.{total}
 use Rattle.tomex_plateaus.specs.Kept.{Kept, HasLearnt}
 use Rattle.tomex_plateaus.specs.Plateaus.{total_known}
@@ -72,3 +74,8 @@ abbrev pub AreLearntOn : DesignSpace → ℕ → List Kept → List Kept → Typ
 AreLearntOn s row old new = (config : Configuration) → slice_get s.rows row ≡ Some config
     → (known : List (Option ℕ)) × (take (length s.programs) known ≡ known_totals_on old config)
     × AreLearnt config known old new
+
+-- with each number of a part from this one on and below the configuration's own all programs take the same cycles
+abbrev pub AreTotalsFrom : List Workload → Configuration → Part → ℕ → Type 0
+AreTotalsFrom programs config part low = (n : ℕ) → 1 ≤ n → low ≤ n → n < count_of config part
+    → totals_on programs (with_count config part n) ≡ totals_on programs config

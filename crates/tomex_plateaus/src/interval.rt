@@ -1,7 +1,7 @@
 //! Intervals of counts and of latencies.
 
 ghost use Rattle.std.specs.Prelude.{◌≡◌};
-ghost use Rattle.tomex_plateaus.specs.Plateaus.{is_within, counts_for, latencies_for};
+ghost use Rattle.tomex_plateaus.specs.Plateaus.{counts_for, latencies_for};
 
 use tomex_timing::Demand;
 
@@ -46,12 +46,5 @@ impl Interval {
                 most: latency,
             }
         }
-    }
-
-    /// True if a number is one of them.
-    pub fn has(self, number: u64) -> bool
-        ensures { result ≡ is_within self number }
-    {
-        u64::from(self.least) <= number && number <= u64::from(self.most)
     }
 }

@@ -3,14 +3,14 @@
 ghost use Rattle.std.specs.Prelude.{◌≡◌, ◌<◌, ◌≤◌, ℕ, length, take, slice_get, IfOk, OnOk, OnErr, All, Some, None};
 ghost use Rattle.tomex_timing.specs.Run.{total};
 ghost use Rattle.tomex_study.specs.Cycles.{totals_on};
-ghost use Rattle.tomex_plateaus.specs.Knowledge.{AreLearnt, AreTotals, IsLearntAt, IsTotalAt, OnlyAt, known_totals_on};
-ghost use Rattle.tomex_plateaus.specs.Knowledge.{nothing_known};
+ghost use Rattle.tomex_plateaus.specs.Knowledge.{AreLearnt, AreTotals, AreTotalsFrom, IsLearntAt, IsTotalAt};
+ghost use Rattle.tomex_plateaus.specs.Knowledge.{OnlyAt, known_totals_on, nothing_known};
 ghost use Rattle.tomex_study.specs.Program.{IsProgram, Workload};
 
 use crate::plateaus::Plateaus;
 use std::alloc::{AllocError, Allocator};
 use std::marker::Model;
-use tomex_config::Config;
+use tomex_config::{Config, Part};
 use tomex_study::Program;
 
 /// For each of a study's programs, plateaus on which its total is known, each learnt from an
@@ -43,7 +43,8 @@ impl<'s, A: Allocator + Clone> Knowledge<'s, A> {
     {
         let mut lists = Vec::new(alloc.clone()?);
         for program in programs {
-            lists.push(Plateaus::new(alloc.clone()?, program.run()))?;
+            let list = Plateaus::new(alloc.clone()?, program.run())?;
+            lists.push(list)?;
         }
         Ok(Knowledge {
             alloc,
@@ -62,6 +63,18 @@ impl<'s, A: Allocator + Clone> Knowledge<'s, A> {
             known[place] = list.total_on(config);
         }
         known
+    }
+
+    /// A number of a part down to which all programs take the cycles that they take on a configuration, as far as the
+    /// plateaus say that were found last. Ask for the totals on the configuration first.
+    pub fn reach(&self, config: &Config, part: Part) -> u64
+        ensures { AreTotalsFrom self.now.programs config.now part result }
+    {
+        let mut low = 0;
+        for list in self.lists.iter() {
+            low = low.max(list.reach(config, part));
+        }
+        low
     }
 
     /// The totals of all programs on a configuration, in their order, given the known ones: the

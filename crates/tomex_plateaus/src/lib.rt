@@ -4,6 +4,7 @@
 #![tactic(auto)]
 
 mod interval;
+mod keys;
 mod knowledge;
 mod known_row;
 mod laws;
@@ -14,7 +15,7 @@ mod plateaus;
 pub use interval::Interval;
 pub use knowledge::Knowledge;
 pub use known_row::KnownRow;
-pub use laws::demands_give_a_plateau;
+pub use laws::{another_number_lies_on_the_plateau, demands_give_a_plateau};
 pub use look_laws::{limit_changes_no_total, the_last_look_sees_most};
 pub use plateau::Plateau;
 pub use plateaus::Plateaus;

@@ -1,25 +1,48 @@
 //! One plateau.
 
-ghost use Rattle.std.specs.Prelude.{◌≡◌};
-ghost use Rattle.tomex_plateaus.specs.Plateaus.{counts_of, latencies_of, lies_on, plateau_of};
-ghost use Rattle.tomex_plateaus.specs.Plateaus.{stations_for, units_for, latency_for};
+ghost use Rattle.std.specs.Prelude.{◌≡◌, ◌<◌};
+ghost use Rattle.tomex_plateaus.specs.Plateaus.{bounds_of, counts_of, fits, lies_on, numbers_of, plateau_of};
+ghost use Rattle.tomex_plateaus.specs.Plateaus.{latency_for, place_of_count, stations_for, units_for};
 
 use crate::interval::Interval;
 use tomex_config::{Config, Part};
 use tomex_rvdec::{PoolId, UnitId};
 use tomex_timing::Demands;
 
-/// A region of the design space, given by the counts of each part and the latencies of each kind of
-/// unit, and the cycles that a program takes on every configuration of it.
+/// A region of the design space, and the cycles that a program takes on every configuration of it. The region is given
+/// by the least and the most of each of a configuration's numbers, in the order of `numbers_of`.
 #[derive(Clone, Copy, PartialEq, Eq)]
 pub struct Plateau {
-    /// In the order of `PoolId::ALL` and of `UnitId::ALL`.
-    pub stations: [Interval; 6],
-    pub units: [Interval; 5],
-    pub latencies: [Interval; 5],
-    pub buses: Interval,
-    pub width: Interval,
+    pub least: [u8; 18],
+    pub most: [u8; 18],
     pub total: u64,
+}
+
+/// A configuration's numbers: the counts of all parts, in the order of `Part::ALL`, and the latencies of all kinds of
+/// units, in that of `UnitId::ALL`.
+pub(crate) fn numbers_of(config: &Config) -> [u8; 18]
+    ensures { result ≡ numbers_of config.now }
+{
+    [
+        config.stations(PoolId::Alu),
+        config.stations(PoolId::Mul),
+        config.stations(PoolId::Div),
+        config.stations(PoolId::Load),
+        config.stations(PoolId::Store),
+        config.stations(PoolId::Bru),
+        config.units(UnitId::Alu),
+        config.units(UnitId::Mul),
+        config.units(UnitId::Div),
+        config.units(UnitId::Mem),
+        config.units(UnitId::Bru),
+        config.buses(),
+        config.width(),
+        config.latency(UnitId::Alu),
+        config.latency(UnitId::Mul),
+        config.latency(UnitId::Div),
+        config.latency(UnitId::Mem),
+        config.latency(UnitId::Bru),
+    ]
 }
 
 /// The numbers of a pool's stations that give a run the same cycles as its own configuration.
@@ -43,68 +66,88 @@ fn latency_for(demands: &Demands, own: &Config, unit: UnitId) -> Interval
     Interval::of_latencies(demands.demand(Part::Units(unit)), own.latency(unit))
 }
 
+/// The intervals of all numbers, in the order of `numbers_of`.
+fn bounds_of(demands: &Demands, own: &Config) -> [Interval; 18]
+    ensures { result ≡ bounds_of demands.now own.now }
+{
+    [
+        stations_for(demands, own, PoolId::Alu),
+        stations_for(demands, own, PoolId::Mul),
+        stations_for(demands, own, PoolId::Div),
+        stations_for(demands, own, PoolId::Load),
+        stations_for(demands, own, PoolId::Store),
+        stations_for(demands, own, PoolId::Bru),
+        units_for(demands, own, UnitId::Alu),
+        units_for(demands, own, UnitId::Mul),
+        units_for(demands, own, UnitId::Div),
+        units_for(demands, own, UnitId::Mem),
+        units_for(demands, own, UnitId::Bru),
+        Interval::of_counts(demands.buses, own.buses()),
+        Interval::of_counts(demands.width, own.width()),
+        latency_for(demands, own, UnitId::Alu),
+        latency_for(demands, own, UnitId::Mul),
+        latency_for(demands, own, UnitId::Div),
+        latency_for(demands, own, UnitId::Mem),
+        latency_for(demands, own, UnitId::Bru),
+    ]
+}
+
+/// The place of a part's count among the numbers.
+fn place_of(part: Part) -> usize
+    ensures place { result ≡ place_of_count part }
+    ensures range { result < 13 }
+{
+    match part {
+        Part::Stations(pool) => pool.place(),
+        Part::Units(unit) => 6 + unit.place(),
+        Part::Buses => 11,
+        Part::Width => 12,
+    }
+}
+
 impl Plateau {
     /// The plateau that follows from the demands of a run on its own configuration.
     pub fn of(demands: &Demands, own: &Config) -> Plateau
         ensures { result ≡ plateau_of demands.now own.now }
     {
+        let bounds = bounds_of(demands, own);
+        let mut least = [0; 18];
+        let mut most = [0; 18];
+        for (place, interval) in bounds.iter().enumerate() {
+            least[place] = interval.least;
+            most[place] = interval.most;
+        }
         Plateau {
-            stations: [
-                stations_for(demands, own, PoolId::Alu),
-                stations_for(demands, own, PoolId::Mul),
-                stations_for(demands, own, PoolId::Div),
-                stations_for(demands, own, PoolId::Load),
-                stations_for(demands, own, PoolId::Store),
-                stations_for(demands, own, PoolId::Bru),
-            ],
-            units: [
-                units_for(demands, own, UnitId::Alu),
-                units_for(demands, own, UnitId::Mul),
-                units_for(demands, own, UnitId::Div),
-                units_for(demands, own, UnitId::Mem),
-                units_for(demands, own, UnitId::Bru),
-            ],
-            latencies: [
-                latency_for(demands, own, UnitId::Alu),
-                latency_for(demands, own, UnitId::Mul),
-                latency_for(demands, own, UnitId::Div),
-                latency_for(demands, own, UnitId::Mem),
-                latency_for(demands, own, UnitId::Bru),
-            ],
-            buses: Interval::of_counts(demands.buses, own.buses()),
-            width: Interval::of_counts(demands.width, own.width()),
+            least,
+            most,
             total: demands.total,
         }
-    }
-
-    /// The counts of a part on the plateau.
-    fn counts(&self, part: Part) -> Interval
-        ensures { result ≡ counts_of self.now part }
-    {
-        match part {
-            Part::Stations(pool) => self.stations[pool.place()],
-            Part::Units(unit) => self.units[unit.place()],
-            Part::Buses => self.buses,
-            Part::Width => self.width,
-        }
-    }
-
-    /// The latencies of a kind of unit on the plateau.
-    fn latencies(&self, unit: UnitId) -> Interval
-        ensures { result ≡ latencies_of self.now unit }
-    {
-        self.latencies[unit.place()]
     }
 
     /// True if a configuration lies on it.
     pub fn has(&self, config: &Config) -> bool
         ensures { result ≡ lies_on config.now self.now }
     {
-        Part::ALL
-            .iter()
-            .all(|part| self.counts(*part).has(part.count(config)))
-            && UnitId::ALL.iter().all(|unit| self
-                .latencies(*unit)
-                .has(u64::from(config.latency(*unit))))
+        self.has_numbers(&numbers_of(config))
+    }
+
+    /// True if the configuration with these numbers lies on it. All numbers are compared, without a jump, so that the
+    /// compiler compares many at once.
+    pub(crate) fn has_numbers(&self, numbers: &[u8; 18]) -> bool
+        ensures { result ≡ fits numbers.now self.now }
+    {
+        let mut has_all = true;
+        for place in 0..18 {
+            let number = numbers[place];
+            has_all = has_all & (self.least[place] <= number) & (number <= self.most[place]);
+        }
+        has_all
+    }
+
+    /// The least count of a part on it.
+    pub(crate) fn least_count(&self, part: Part) -> u64
+        ensures { result ≡ (counts_of self.now part).least }
+    {
+        u64::from(self.least[place_of(part)])
     }
 }

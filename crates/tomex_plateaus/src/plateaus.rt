@@ -4,13 +4,13 @@ ghost use Rattle.std.specs.Prelude.{◌≡◌, ◌<◌, [], ◌^◌, false, leng
 ghost use Rattle.std.specs.List.{position};
 ghost use Rattle.tomex_timing.specs.Search.{times_in, total_of};
 ghost use Rattle.tomex_plateaus.specs.Kept.{AreKept, HasLearnt, LiesAt, kept_with};
-ghost use Rattle.tomex_plateaus.specs.Plateaus.{IsPlateauOf, lies_on, total_known};
+ghost use Rattle.tomex_plateaus.specs.Plateaus.{AreSameFrom, IsPlateauOf, fits, total_known};
 
-use crate::plateau::Plateau;
+use crate::keys::{Keys, Words};
+use crate::plateau::{Plateau, numbers_of};
 use std::alloc::{AllocError, Allocator};
-use std::cell::Cell;
 use std::marker::Model;
-use tomex_config::Config;
+use tomex_config::{Config, Part};
 use tomex_evaluation::Evaluator;
 use tomex_timing::Run;
 
@@ -25,9 +25,8 @@ pub struct Plateaus<'s, A: Allocator> {
     found: Vec<Plateau, A>,
     /// The place of the oldest, once the list is full.
     oldest: usize,
-    /// Where a search begins: the place of the plateau that was found or kept last. Neighbours often lie on one
-    /// plateau. It changes only how long a search takes.
-    latest: Cell<usize>,
+    /// Where a search looks first. It changes only how long a search takes.
+    keys: Keys<A>,
 }
 
 impl<'s, A: Allocator> Model for Plateaus<'s, A> {
@@ -41,58 +40,100 @@ impl<'s, A: Allocator> Model for Plateaus<'s, A> {
 }
 
 impl<'s, A: Allocator> Plateaus<'s, A> {
-    /// No plateaus yet, for the program of this run. Allocates nothing.
-    pub fn new(alloc: A, run: &'s Run<A>) -> Plateaus<'s, A>
-        requires { length run.now < 2 ^ 28 }
-        ensures { result ≡ record { steps = run.now; found = []; oldest = 0 } }
-    {
-        Plateaus {
-            evaluator: Evaluator::new(run),
-            found: Vec::new(alloc),
-            oldest: 0,
-            latest: Cell::new(0),
-        }
-    }
-
     /// The cycles that the program takes on a configuration, if the configuration lies on one of
-    /// its plateaus. The search begins with the plateau that was found last; every plateau on which
-    /// the configuration lies gives the same total.
+    /// its plateaus. Every plateau on which the configuration lies gives the same total.
     pub fn total_on(&self, config: &Config) -> Option<u64>
         ensures known { result ≡ total_known config.now self.now.found }
         ensures total { IfSome result (λ n. total_of (times_in config.now self.now.steps) ≡ n) }
     {
         config.keeps_limits();
-        let place = self.place_of(config)?;
-        self.latest.set(place);
+        let place = self.place_of(&numbers_of(config))?;
+        self.keys.remember(place);
         Some(self.found[place].total)
     }
 
-    /// The place of a plateau on which a configuration lies, if there is one.
-    fn place_of(&self, config: &Config) -> Option<usize>
-        ensures kept { AreKept self.now }
-        ensures some { IfSome result (LiesAt config.now self.now.found) }
-        ensures none { result ≡ None → All (λ p. lies_on config.now p ≡ false) self.now.found }
+    /// A number of a part down to which the program takes the cycles that it takes on a configuration, as the plateau
+    /// says whose total was given or learnt last. It is the configuration's own number if that isn't on the plateau.
+    pub fn reach(&self, config: &Config, part: Part) -> u64
+        ensures { AreSameFrom self.now.steps config.now part result }
     {
-        let latest = self.latest.get();
-        if self.lies_at(latest, config) {
+        config.keeps_limits();
+        match self.found.get(self.keys.latest()) {
+            Some(plateau) if plateau.has(config) => plateau.least_count(part),
+            _ => part.count(config),
+        }
+    }
+
+    /// The place of a plateau on which the configuration with these numbers lies, if there is one. Neighbours often lie
+    /// on one plateau, so the places that were found before are tried first, then those that the keys propose.
+    fn place_of(&self, numbers: &[u8; 18]) -> Option<usize>
+        ensures kept { AreKept self.now }
+        ensures some { IfSome result (LiesAt numbers.now self.now.found) }
+        ensures none { result ≡ None → All (λ p. fits numbers.now p ≡ false) self.now.found }
+    {
+        let latest = self.keys.latest();
+        if self.lies_at(latest, numbers) {
             return Some(latest);
         }
-        self.first_place(config)
+        let earlier = self.keys.earlier();
+        if self.lies_at(earlier, numbers) {
+            return Some(earlier);
+        }
+        match self.keyed_place(numbers) {
+            Some(place) => Some(place),
+            None => self.first_place(numbers),
+        }
     }
 
-    /// The place of the first plateau on which a configuration lies.
-    fn first_place(&self, config: &Config) -> Option<usize>
-        ensures { result ≡ position (lies_on config.now) self.now.found }
+    /// The place of such a plateau in one of the groups.
+    #[inline(never)]
+    fn keyed_place(&self, numbers: &[u8; 18]) -> Option<usize>
+        ensures { IfSome result (LiesAt numbers.now self.now.found) }
     {
-        self.found.iter().position(|plateau| plateau.has(config))
+        let words = Words::of(numbers);
+        for group in 0..self.keys.groups() {
+            let first = self.keys.first_of(group, words);
+            if let Some(place) = self.chained_place(first, numbers) {
+                self.keys.move_forward(group);
+                return Some(place);
+            }
+        }
+        None
     }
 
-    /// True if there is a plateau at a place, and a configuration lies on it.
-    fn lies_at(&self, place: usize, config: &Config) -> bool
-        ensures { result ≡ true → LiesAt config.now self.now.found place }
+    /// The place of such a plateau in a chain, from its first place on.
+    fn chained_place(&self, first: usize, numbers: &[u8; 18]) -> Option<usize>
+        ensures { IfSome result (LiesAt numbers.now self.now.found) }
+    {
+        let mut place = first;
+        for _ in 0..MOST {
+            if self.lies_at(place, numbers) {
+                return Some(place);
+            }
+            if self.found.len() <= place {
+                return None;
+            }
+            place = self.keys.next_of(place);
+        }
+        None
+    }
+
+    /// The place of the first such plateau.
+    #[inline(never)]
+    fn first_place(&self, numbers: &[u8; 18]) -> Option<usize>
+        ensures { result ≡ position (fits numbers.now) self.now.found }
+    {
+        self.found
+            .iter()
+            .position(|plateau| plateau.has_numbers(numbers))
+    }
+
+    /// True if there is a plateau at a place, and the configuration with these numbers lies on it.
+    fn lies_at(&self, place: usize, numbers: &[u8; 18]) -> bool
+        ensures { result ≡ true → LiesAt numbers.now self.now.found place }
     {
         match self.found.get(place) {
-            Some(plateau) => plateau.has(config),
+            Some(plateau) => plateau.has_numbers(numbers),
             None => false,
         }
     }
@@ -107,23 +148,39 @@ impl<'s, A: Allocator> Plateaus<'s, A> {
     {
         if self.found.len() < MOST {
             let place = self.found.len();
+            self.keys.add(place, &plateau)?;
             self.found.push(plateau)?;
-            self.latest.set(place);
+            self.keys.remember(place);
             return Ok(());
         }
+        self.keys.add(self.oldest, &plateau)?;
         self.found[self.oldest] = plateau;
-        self.latest.set(self.oldest);
+        self.keys.remember(self.oldest);
         self.oldest = (self.oldest + 1) % MOST;
         Ok(())
     }
 }
 
 impl<'s, A: Allocator + Clone> Plateaus<'s, A> {
+    /// No plateaus yet, for the program of this run.
+    pub fn new(alloc: A, run: &'s Run<A>) -> Result<Plateaus<'s, A>, AllocError>
+        requires { length run.now < 2 ^ 28 }
+        ensures { IfOk result (λ p. p ≡ record { steps = run.now; found = []; oldest = 0 }) }
+    {
+        let keys = Keys::new(alloc.clone()?)?;
+        Ok(Plateaus {
+            evaluator: Evaluator::new(run),
+            found: Vec::new(alloc),
+            oldest: 0,
+            keys,
+        })
+    }
+
     /// Evaluates the program's run on a configuration, and keeps the plateau that its demands give.
     /// Returns the run's cycles. If out of memory, no plateau is lost.
     ///
-    /// The work is that of `times`, without its list, for the first two configurations. For later ones it is much less,
-    /// if the program has loops: each block of steps is evaluated once in each state in which the run is before it.
+    /// The work is less than that of `times` if the program has loops: each block of steps is evaluated once in each state
+    /// in which the run is before it.
     pub fn learn(&mut self, alloc: A, config: &Config) -> Result<u64, AllocError>
         ensures steps { self.new.steps ≡ self.old.steps }
         ensures total { IfOk result (λ n. total_of (times_in config.now self.old.steps) ≡ n) }

@@ -51,11 +51,12 @@ impl<J: Plan, A: Allocator> Board<J, A> {
         words.load::<Look<J>>(&mut seat.inner, self.rows + k)
     }
 
-    /// The least word so far, after reading the band `k` if it may judge the row.
+    /// The least word so far, after reading the band `k`, which may judge the row.
     fn least_with(&self, seat: &mut Seat<J>, i: usize, k: usize, least: u64) -> u64
         requires board { seat.old.board ≡ self.now }
         requires row { i < length J.costs }
         requires band { k < length (floors_of J.costs) }
+        requires judges { slice_index (floors_of J.costs) k ≤ slice_index J.costs i }
         requires so_far { IsLeastSoFar J.costs J.cycles (floors_of J.costs) (slice_index J.costs i) k
             seat.old.view least }
         ensures board { seat.new.board ≡ seat.old.board }
@@ -68,16 +69,13 @@ impl<J: Plan, A: Allocator> Board<J, A> {
         ensures so_far { IsLeastSoFar J.costs J.cycles (floors_of J.costs) (slice_index J.costs i) (k + 1)
             seat.new.view result }
     {
-        if self.floors[k] > self.costs[i] {
-            return least;
-        }
         let found = self.look_at(seat, k);
         if found < least { found } else { least }
     }
 
     /// The least bound in the bands that may judge the row: those whose floor is at most its cost.
-    /// Each of them is loaded once, in ascending order. `None` if nothing was published in any of
-    /// them.
+    /// Each of them is loaded once, in ascending order; since floors rise, they are the first ones.
+    /// `None` if nothing was published in any of them.
     pub fn look(&self, seat: &mut Seat<J>, i: usize) -> Option<Bound>
         requires board { seat.old.board ≡ self.now }
         requires row { i < length J.costs }
@@ -95,7 +93,11 @@ impl<J: Plan, A: Allocator> Board<J, A> {
             seat.new.view) }
     {
         let mut least = NOTHING_YET;
+        let cost = self.costs[i];
         for k in 0..self.floors.len() {
+            if self.floors[k] > cost {
+                break;
+            }
             least = self.least_with(seat, i, k, least);
         }
         if least == NOTHING_YET {

@@ -1,6 +1,6 @@
-use Rattle.std.proofs.Common.{◌≡◌, drop}
-use Rattle.tomex_board.specs.Bands.{with_costs, distinct_costs}
+-- The costs so far are gathered.
+use Rattle.tomex_board.proofs.Gathering.{AreGathered}
 use Rattle.tomex_board.proofs.floors.distinct_costs.Given as goal
 
 abbrev pub invariant-loop-cost : goal.invariant-loop-cost
-invariant-loop-cost g l = with_costs l.rising.keys (drop l.cost-index l.costs) ≡ distinct_costs l.costs
+invariant-loop-cost g l = AreGathered l.costs l.cost-index l.rising.keys l.latest

@@ -3,8 +3,8 @@ use Rattle.std.proofs.Common.{arith}
 use Rattle.std.proofs.lemmas.Grind.{common_steps}
 use Rattle.tomex_evaluation.proofs.evaluator.Evaluator.cut.Goals as goal
 
-pub invariant_of-self-in_ok-of : goal.invariant_of-self-in_ok-of
-invariant_of-self-in_ok-of = grind (arith, common_steps)
+pub invariant_of-self : goal.invariant_of-self
+invariant_of-self = grind (arith, common_steps)
 
 pub invariant_of-self-in_ok-of-2 : goal.invariant_of-self-in_ok-of-2
 invariant_of-self-in_ok-of-2 = grind (arith, common_steps)

@@ -1,6 +1,7 @@
 -- A copy is kept, and a row of entries with nothing in them.
-use Rattle.std.proofs.Common.{None, refl, arith}
+use Rattle.std.proofs.Common.{refl, arith}
 use Rattle.std.proofs.lemmas.Grind.{common_steps}
+use Rattle.tomex_evaluation.specs.declared.known.Entry.TheVariants.{Unknown}
 use Rattle.tomex_evaluation.proofs.Keeping.{row_more}
 use Rattle.tomex_evaluation.proofs.known.Known.keep.Goals as goal
 
@@ -11,7 +12,7 @@ returns g c = record {
   shows = c.in_ok-copy_from.ensures.shows;
   states = c.in_ok-push.ensures.items;
   next = row_more c.args.self.now.next.items c.resize.new.self.items c.len.result c.args.self.now.next.len
-      c.args.self.now.different None c.args.self.now.next.ok.0 c.len.ensures c.in_ok-resize.ensures.items;
+      c.args.self.now.different Unknown c.args.self.now.next.ok.0 c.len.ensures c.in_ok-resize.ensures.items;
   different = refl;
 }
 

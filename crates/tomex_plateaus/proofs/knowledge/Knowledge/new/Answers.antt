@@ -5,8 +5,8 @@ use Rattle.tomex_plateaus.proofs.knowledge.Knowledge.new.Goals as goal
 pub loop-program-preserved : goal.loop-program-preserved
 loop-program-preserved g c =
     one_list c.args.programs.now c.loop-program.program-index c.program-item.result c.loop-program.lists.items
-    c.push.new.self.items c.new.result c.run.result.now
-    c.in_ok-push.ensures.items c.loop-program-test.true c.program-item.is c.new.ensures c.run.ensures.steps
+    c.push.new.self.items c.in_ok-list.list c.run.result.now
+    c.in_ok-push.ensures.items c.loop-program-test.true c.program-item.is c.in_ok-list.ensures c.run.ensures.steps
     c.loop-program.invariant
 
 pub invariant_of-result : goal.invariant_of-result
