@@ -1,6 +1,6 @@
 -- An ELF file of 32 bits with one segment, a window's whole memory: System V ABI, "ELF Header" and "Program Header".
 use Rattle.std.specs.Prelude.{ℕ, ◌/◌, ◌%◌, List, [], ◌∷◌, ◌++◌}
-use Rattle.tomex_cut.specs.declared.file.SectionTable.{SectionTable}
+use Rattle.tomex_elf.specs.declared.file.SectionTable.{SectionTable}
 use Rattle.tomex_image.specs.Window.{Span}
 
 -- two and four bytes, the low one first

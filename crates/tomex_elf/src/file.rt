@@ -1,28 +1,28 @@
 //! An ELF file with one segment: a window's whole memory.
 
 ghost use Rattle.std.specs.Prelude.{◌≡◌, ◌+◌, ◌<◌, ◌^◌, ◌++◌, IfOk, OnOk, length};
-ghost use Rattle.tomex_cut.specs.File.{file_header, file_of, halves, headers, program_header, words};
+ghost use Rattle.tomex_elf.specs.File.{file_header, file_of, halves, headers, program_header, words};
 
 use std::alloc::{AllocError, Allocator};
 use tomex_image::Window;
 
 /// The bytes of both headers.
-pub(crate) const HEADERS: usize = 84;
+pub const HEADERS: usize = 84;
 
 /// ELF's magic number, 32 bits, low byte first, version 1.
 const IDENTIFICATION: [u8; 16] = [0x7f, 0x45, 0x4c, 0x46, 1, 1, 1, 0, 0, 0, 0, 0, 0, 0, 0, 0];
 
 /// What the file header says of sections.
 #[derive(Clone, Copy)]
-pub(crate) struct SectionTable {
+pub struct SectionTable {
     /// Where in the file their headers begin: `e_shoff`.
-    pub(crate) offset: u32,
+    pub offset: u32,
     /// The size of a header: `e_shentsize`.
-    pub(crate) header_size: u16,
+    pub header_size: u16,
     /// How many there are: `e_shnum`.
-    pub(crate) count: u16,
+    pub count: u16,
     /// The number of the one that has their names: `e_shstrndx`.
-    pub(crate) names: u16,
+    pub names: u16,
 }
 
 /// There are no sections.
@@ -34,7 +34,7 @@ const NO_SECTIONS: SectionTable = SectionTable {
 };
 
 /// Appends two bytes for each number, the low one first.
-pub(crate) fn push_halves<A: Allocator>(
+pub fn push_halves<A: Allocator>(
     file: &mut Vec<u8, A>,
     values: &[u16],
 ) -> Result<(), AllocError>
@@ -47,7 +47,7 @@ pub(crate) fn push_halves<A: Allocator>(
 }
 
 /// Appends four bytes for each number, the low one first.
-pub(crate) fn push_words<A: Allocator>(
+pub fn push_words<A: Allocator>(
     file: &mut Vec<u8, A>,
     values: &[u32],
 ) -> Result<(), AllocError>
@@ -84,32 +84,35 @@ fn push_file_header<A: Allocator>(
     )
 }
 
-/// Appends the program header of a segment that is the whole window.
+/// Appends the program header of a segment that is a whole window.
 fn push_program_header<A: Allocator>(
     file: &mut Vec<u8, A>,
-    window: Window,
+    base: u32,
+    size: u32,
 ) -> Result<(), AllocError>
-    ensures { OnOk result (file.new.items ≡ file.old.items ++ program_header window) }
+    ensures { OnOk result (file.new.items
+        ≡ file.old.items ++ program_header (record { base = base; size = size })) }
 {
-    let (base, size) = (window.base(), window.size());
     push_words(file, [1, 84, base, base, size, size, 7, 4].as_slice())
 }
 
-/// Appends both headers.
-pub(crate) fn push_headers<A: Allocator>(
+/// Appends both headers of a window.
+pub fn push_headers<A: Allocator>(
     file: &mut Vec<u8, A>,
-    window: Window,
+    base: u32,
+    size: u32,
     entry: u32,
     sections: SectionTable,
 ) -> Result<(), AllocError>
-    ensures { OnOk result (file.new.items ≡ file.old.items ++ headers window entry sections) }
+    ensures { OnOk result (file.new.items
+        ≡ file.old.items ++ headers (record { base = base; size = size }) entry sections) }
 {
     push_file_header(file, entry, sections)?;
-    push_program_header(file, window)
+    push_program_header(file, base, size)
 }
 
 /// The file of a window's memory.
-pub(crate) fn file_of<A: Allocator>(
+pub fn file_of<A: Allocator>(
     alloc: A,
     window: Window,
     entry: u32,
@@ -119,7 +122,7 @@ pub(crate) fn file_of<A: Allocator>(
     ensures { IfOk result (λ file. file.items ≡ file_of window entry memory.now) }
 {
     let mut file = Vec::with_capacity(alloc, HEADERS + memory.len())?;
-    push_headers(&mut file, window, entry, NO_SECTIONS)?;
+    push_headers(&mut file, window.base(), window.size(), entry, NO_SECTIONS)?;
     file.extend_from_slice(memory)?;
     Ok(file)
 }

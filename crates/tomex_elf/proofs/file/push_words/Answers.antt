@@ -1,7 +1,7 @@
 use Rattle.std.proofs.Common.{◌≡◌, get_or, rules}
-use Rattle.tomex_cut.specs.File.{word}
-use Rattle.tomex_cut.proofs.Files.{words_on}
-use Rattle.tomex_cut.proofs.file.push_words.Goals as goal
+use Rattle.tomex_elf.specs.File.{word}
+use Rattle.tomex_elf.proofs.Files.{words_on}
+use Rattle.tomex_elf.proofs.file.push_words.Goals as goal
 
 pub loop-value-preserved : goal.loop-value-preserved
 loop-value-preserved g c =

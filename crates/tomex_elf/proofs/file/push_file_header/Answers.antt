@@ -1,8 +1,8 @@
 use Rattle.std.proofs.Common.{◌≡◌, ◌++◌, [], ◌∷◌, rules}
 use Rattle.std.proofs.lemmas.Result.{on_ok_weaker}
-use Rattle.tomex_cut.specs.File.{halves, identification, words}
-use Rattle.tomex_cut.proofs.Files.{four_joined}
-use Rattle.tomex_cut.proofs.file.push_file_header.Goals as goal
+use Rattle.tomex_elf.specs.File.{halves, identification, words}
+use Rattle.tomex_elf.proofs.Files.{four_joined}
+use Rattle.tomex_elf.proofs.file.push_file_header.Goals as goal
 
 pub returns : goal.returns
 returns g c =
