@@ -4,3 +4,4 @@ pub mod BareBytes
 pub mod Lines
 pub mod Capped
 pub mod Rows
+mod Meant

@@ -2,5 +2,6 @@
 pub mod Characters
 pub mod Bare
 pub mod Tokens
+pub mod Strings
 pub mod Registers
 pub mod Reading

@@ -15,6 +15,7 @@ mod mode;
 mod names;
 mod numeral;
 mod registers;
+mod strings;
 mod token;
 
 pub use bare::without_comments;
@@ -23,5 +24,7 @@ pub use characters::is_blank;
 pub use lexing::read_tokens;
 pub use mode::Mode;
 pub use names::named;
+pub use numeral::{GREATEST, LEAST};
 pub use registers::register_named;
+pub use strings::{push_string, string_length};
 pub use token::{Mark, Sort, Token};

@@ -74,7 +74,7 @@ pub(crate) fn character_at(at: usize, rest: &[u8]) -> Result<Token, Fault>
 }
 
 /// The length of the octal number that the bytes begin with: one to three digits, up to 377. 0 if there is none.
-fn octal_length(bytes: &[u8]) -> usize
+pub(crate) fn octal_length(bytes: &[u8]) -> usize
     ensures value { result ≡ octal_length bytes.now }
     ensures small { result ≤ 3 }
 {
@@ -91,7 +91,7 @@ fn octal_length(bytes: &[u8]) -> usize
 }
 
 /// How many bytes of an escape follow its `\` in a string; 0 if it isn't an escape.
-fn escape_length(bytes: &[u8]) -> usize
+pub(crate) fn escape_length(bytes: &[u8]) -> usize
     ensures value { result ≡ escape_length bytes.now }
     ensures small { result ≤ 3 }
 {

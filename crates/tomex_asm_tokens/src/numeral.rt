@@ -74,7 +74,7 @@ fn is_local(word: &[u8], letter: u8) -> bool
 }
 
 /// What a digit stands for in a base up to 36, and 36 for any other byte.
-fn digit_value(digit: u8) -> u8
+pub(crate) fn digit_value(digit: u8) -> u8
     ensures value { result ≡ digit_value digit }
     ensures small { result ≤ 36 }
 {

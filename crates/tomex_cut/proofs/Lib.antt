@@ -4,7 +4,6 @@ pub mod Taken
 pub mod Rooms
 pub mod Written
 pub mod Prologues
-pub mod Files
 pub mod SymbolFiles
 pub mod Counted
 pub mod SameFunctions

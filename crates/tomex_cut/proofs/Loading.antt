@@ -7,8 +7,8 @@ use Rattle.std.proofs.lemmas.Bool.{and_from, le-leb, le-ltb, lt-ltb}
 use Rattle.std.proofs.lemmas.List.{ext_get_or, get_or-append-add}
 use Rattle.std.proofs.Math.ListN.{get_or-append}
 use Rattle.tomex_cut.specs.Cut.{IsCut, IsCutWithSymbols}
-use Rattle.tomex_cut.specs.declared.file.SectionTable.{SectionTable}
-use Rattle.tomex_cut.specs.File.{headers, no_sections}
+use Rattle.tomex_elf.specs.declared.file.SectionTable.{SectionTable}
+use Rattle.tomex_elf.specs.File.{headers, no_sections}
 use Rattle.tomex_cut.specs.SymbolFile.{four_sections, listing, names_in, start_in}
 use Rattle.tomex_symbols.specs.Sections.{tables_of}
 use Rattle.tomex_symbols.specs.Symbols.{symbols_of}

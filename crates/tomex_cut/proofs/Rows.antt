@@ -6,7 +6,7 @@ use Rattle.std.specs.List.{take_while}
 use Rattle.tomex_cut.specs.declared.error.CutError.{CutError}
 use Rattle.tomex_cut.specs.declared.error.CutError.TheVariants as errors
 use Rattle.tomex_cut.specs.After.{after}
-use Rattle.tomex_cut.specs.File.{file_header, no_sections, program_header, words}
+use Rattle.tomex_elf.specs.File.{file_header, no_sections, program_header, words}
 use Rattle.tomex_cut.specs.Part.{Part, is_overwritten, part_from, part_of, uses}
 use Rattle.tomex_cut.specs.Prologue.{branch, ebreak, jump, low_half, lower, upper}
 use Rattle.tomex_cut.specs.Room.{is_free}

@@ -13,7 +13,7 @@ use Rattle.tomex_symbols.specs.declared.sections.Tables.{Tables}
 use Rattle.tomex_symbols.specs.Sections.{can_be_read, first_symbol_table, has_sections, header_size, is_string_table}
 use Rattle.tomex_symbols.specs.Sections.{lies_in_file, section, section_at, section_count, sections_from, table_offset}
 use Rattle.tomex_symbols.specs.Sections.{tables_of, with_names}
-use Rattle.tomex_cut.specs.File.{headers}
+use Rattle.tomex_elf.specs.File.{headers}
 use Rattle.tomex_cut.specs.SymbolFile.{four_sections, headers_at, names_at, section_headers, symbols_at}
 use Rattle.tomex_cut.proofs.Loading.{elf_is, four_bytes}
 

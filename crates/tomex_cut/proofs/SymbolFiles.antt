@@ -10,7 +10,7 @@ use Rattle.tomex_image.specs.Window.{Span}
 use Rattle.tomex_image.specs.Image.{Loaded}
 use Rattle.tomex_rvexec.specs.Memory.{Bytes}
 use Rattle.tomex_cut.specs.Cut.{IsCutAt, IsCutWithSymbols}
-use Rattle.tomex_cut.specs.File.{file_of, headers}
+use Rattle.tomex_elf.specs.File.{file_of, headers}
 use Rattle.tomex_cut.specs.SymbolFile.{entry_of, four_sections, is_local, listing, names_in, start_in, symbol_file_of}
 use Rattle.tomex_cut.specs.SymbolFile.{symbol_table}
 

@@ -3,7 +3,7 @@ use Rattle.std.specs.Prelude.{◌≡◌, ℕ, List, false, Ok, Err, IsTrue, ⊤}
 use Rattle.tomex_image.specs.Image.{Loaded}
 use Rattle.tomex_cut.specs.declared.error.CutError.{CutError}
 use Rattle.tomex_cut.specs.declared.error.CutError.TheVariants as errors
-use Rattle.tomex_cut.specs.File.{file_of}
+use Rattle.tomex_elf.specs.File.{file_of}
 use Rattle.tomex_cut.specs.Part.{Part, is_overwritten, part_of}
 use Rattle.tomex_cut.specs.Prologue.{HasPrologue}
 use Rattle.tomex_cut.specs.Room.{HasNoRoom, IsHook, IsPlace}

@@ -7,7 +7,6 @@ pub mod Walking
 pub mod Finding
 pub mod Prologue
 pub mod Writing
-pub mod File
 pub mod SymbolFile
 pub mod Cut
 pub mod Laws

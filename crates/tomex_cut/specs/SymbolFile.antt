@@ -3,8 +3,8 @@
 use Rattle.std.specs.Prelude.{ℕ, ◌+◌, ◌-◌, ◌*◌, List, [], ◌∷◌, ◌++◌, length, take, drop, replicate}
 use Rattle.std.specs.Prelude.{Option, Some, None, Bool, nat_eq}
 use Rattle.std.specs.List.{flat_map, take_while}
-use Rattle.tomex_cut.specs.declared.file.SectionTable.{SectionTable}
-use Rattle.tomex_cut.specs.File.{half, headers, words}
+use Rattle.tomex_elf.specs.declared.file.SectionTable.{SectionTable}
+use Rattle.tomex_elf.specs.File.{half, headers, words}
 use Rattle.tomex_image.specs.Window.{Span}
 use Rattle.tomex_symbols.specs.declared.sections.Tables.{Tables}
 use Rattle.tomex_symbols.specs.declared.symbol.Binding.{Binding}

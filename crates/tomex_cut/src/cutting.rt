@@ -11,13 +11,13 @@ ghost use Rattle.tomex_rvexec.specs.Run.{start_of};
 ghost use Rattle.tomex_symbols.specs.Symbols.{has_symbols};
 
 use crate::error::CutError;
-use crate::file::file_of;
 use crate::prologue::write_prologue;
 use crate::symbol_file::symbol_file_of;
 use crate::walking::{find_end, skip};
 use crate::watch::Watch;
 use crate::words::Words;
 use std::alloc::{AllocError, Allocator};
+use tomex_elf::file_of;
 use tomex_image::{Image, Window};
 use tomex_rvexec::{Cpu, Memory};
 

@@ -10,7 +10,6 @@
 mod cutting;
 mod encoding;
 mod error;
-mod file;
 pub mod laws;
 mod prologue;
 mod symbol_file;

@@ -7,8 +7,8 @@ ghost use Rattle.tomex_cut.specs.SymbolFile.{section_headers, start_in, symbol_f
 ghost use Rattle.tomex_cut.specs.Writing.{IsNamedFrom};
 ghost use Rattle.tomex_symbols.specs.Sections.{tables_of};
 
-use crate::file::{HEADERS, SectionTable, push_halves, push_headers, push_words};
 use std::alloc::{AllocError, Allocator};
+use tomex_elf::{HEADERS, SectionTable, push_halves, push_headers, push_words};
 use tomex_image::Window;
 use tomex_symbols::{Binding, Kind, Symbol, find_tables, symbols};
 
@@ -222,7 +222,7 @@ pub(crate) fn symbol_file_of<A: Allocator + Clone>(
         count: 4,
         names: 3,
     };
-    push_headers(&mut file, window, entry, sections)?;
+    push_headers(&mut file, window.base(), window.size(), entry, sections)?;
     file.extend_from_slice(memory)?;
     push_listing(
         &mut file,

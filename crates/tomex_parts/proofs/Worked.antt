@@ -1,7 +1,7 @@
 -- Worked rows.
 use Rattle.std.proofs.Common.{ℕ, ◌≡◌, ◌-◌, ◌++◌, refl, List, [], ◌∷◌, Some, None, length, Ok, Err}
 use Rattle.std.specs.Prelude.{replicate}
-use Rattle.tomex_cut.specs.File.{words}
+use Rattle.tomex_elf.specs.File.{words}
 use Rattle.tomex_image.specs.Image.{Loaded}
 use Rattle.tomex_parts.specs.declared.error.PartsError.TheVariants as errors
 use Rattle.tomex_parts.specs.Groups.{groups_of, next_leaders, sums_of}

@@ -1,7 +1,7 @@
 use Rattle.std.proofs.Common.{◌++◌, ℕ, ap, length, ◌∙◌, arith}
 use Rattle.std.proofs.lemmas.Grind.{common_steps}
 use Rattle.tomex_cut.specs.SymbolFile.{section_headers}
-use Rattle.tomex_cut.proofs.Files.{four_joined}
+use Rattle.tomex_elf.proofs.Files.{four_joined}
 use Rattle.tomex_cut.proofs.symbol_file.push_listing.Goals as goal
 
 pub returns : goal.returns

@@ -1,8 +1,8 @@
 use Rattle.std.proofs.Common.{◌≡◌, ◌+◌, ◌*◌, ◌++◌, [], ◌∷◌, rules}
 use Rattle.std.proofs.lemmas.Result.{on_ok_weaker}
-use Rattle.tomex_cut.specs.File.{words}
+use Rattle.tomex_elf.specs.File.{words}
 use Rattle.tomex_cut.specs.SymbolFile.{names_at, symbols_at}
-use Rattle.tomex_cut.proofs.Files.{four_joined}
+use Rattle.tomex_elf.proofs.Files.{four_joined}
 use Rattle.tomex_cut.proofs.symbol_file.push_section_headers.Goals as goal
 
 pub returns : goal.returns

@@ -1,0 +1,3 @@
+-- Lemmas of the crate.
+pub mod Index
+pub mod Wrapping

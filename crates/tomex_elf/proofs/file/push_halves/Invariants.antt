@@ -1,0 +1,6 @@
+use Rattle.std.proofs.Common.{◌≡◌, ◌++◌, take}
+use Rattle.tomex_elf.specs.File.{halves}
+use Rattle.tomex_elf.proofs.file.push_halves.Given as goal
+
+abbrev pub invariant-loop-value : goal.invariant-loop-value
+invariant-loop-value g l = l.file.items ≡ l.fn.file.items ++ halves (take l.value-index l.values)
