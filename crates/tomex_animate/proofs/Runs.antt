@@ -4,7 +4,7 @@ use Rattle.std.proofs.Common.{Option, Some, None, false, inl, inr, true}
 use Rattle.std.specs.Prelude.{◌==◌, ◌&&◌, slice_index}
 use Rattle.std.proofs.lemmas.Bool.{and_from, and_parts, cases_Bool, eqb-true, false≢true}
 use Rattle.std.proofs.lemmas.List.{length-map, map-append, reverse-append, reverse-reverse}
-use Rattle.tomex_rvdec.specs.Parts.{place_of_pool}
+use Rattle.tomex_rvdec.specs.Places.{place_of_pool}
 use Rattle.tomex_rvdec.specs.declared.pool.PoolId.{PoolId}
 use Rattle.tomex_rvexec.specs.Steps.{is_in, is_number, step_pool}
 use Rattle.tomex_rvexec.specs.declared.step.Step.{Step}

@@ -3,7 +3,7 @@ use Rattle.std.proofs.Common.{◌≡◌, ◌∙◌, ◌<◌, ◌≤◌, ℕ, zer
 use Rattle.std.proofs.Common.{get_or, take, inl, inr}
 use Rattle.std.proofs.lemmas.Bool.{cases_eq}
 use Rattle.std.proofs.lemmas.List.{get_or-set_same}
-use Rattle.tomex_rvdec.specs.Parts.{place_of_pool, place_of_unit}
+use Rattle.tomex_rvdec.specs.Places.{place_of_pool, place_of_unit}
 use Rattle.tomex_rvdec.proofs.Places.{pool_low, unit_low}
 use Rattle.tomex_config.specs.Configuration.{Configuration, IsWithinLimits, option_of, plain_option}
 use Rattle.tomex_config.specs.declared.config.UnitOption.{UnitOption}

@@ -7,7 +7,7 @@ use Rattle.std.proofs.lemmas.Bool.{cases_Bool}
 use Rattle.std.proofs.lemmas.Bool.Decides.{nat_tests}
 use Rattle.std.proofs.lemmas.List.{get_or-set_other, get_or-set_same, set-get_or, set-set}
 use Rattle.tomex_image.specs.Image.{Loaded}
-use Rattle.tomex_rvdec.specs.Parts.{place_of_unit}
+use Rattle.tomex_rvdec.specs.Places.{place_of_unit}
 use Rattle.tomex_rvdec.specs.declared.pool.UnitId.{UnitId}
 use Rattle.tomex_rvdec.specs.declared.pool.UnitId.TheVariants as units
 use Rattle.tomex_config.specs.Configuration.{Configuration, IsWithinLimits, config_of, is_option, most_units, option_of}

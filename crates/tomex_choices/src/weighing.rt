@@ -45,7 +45,7 @@ pub struct WeighedChoices<'s, A: Allocator = Global> {
 
 impl<'s, A: Allocator> Model for WeighedChoices<'s, A> {
     ghost use Rattle.tomex_choices.specs.Reports.{list_reports, report_of};
-ghost use Rattle.tomex_choices.specs.Weighed.{AreWeighed};
+    ghost use Rattle.tomex_choices.specs.Weighed.{AreWeighed};
     ghost use Rattle.tomex_study.specs.Study.{DesignSpace};
 
     ghost Value = { DesignSpace };

@@ -6,11 +6,11 @@ use Rattle.tomex_command.specs.declared.failure.Failure.TheVariants.{Run, NoSuch
 use Rattle.tomex_command.specs.declared.run.RunRefusal.TheVariants as refusals
 use Rattle.tomex_command.specs.ImageLines.{IsImageFailure, IsImageOf}
 use Rattle.tomex_command_line.specs.declared.line.parts.PartsLine.{PartsLine}
-use Rattle.tomex_parts.specs.declared.chosen.Chosen.{Chosen}
-use Rattle.tomex_parts.specs.declared.error.PartsError.{PartsError}
-use Rattle.tomex_parts.specs.declared.error.PartsError.TheVariants as errors
-use Rattle.tomex_parts.specs.Parts.{parts_of}
-use Rattle.tomex_parts.specs.PartsCsv.{parts_csv}
+use Rattle.tomex_samples.specs.declared.chosen.Chosen.{Chosen}
+use Rattle.tomex_samples.specs.declared.error.PartsError.{PartsError}
+use Rattle.tomex_samples.specs.declared.error.PartsError.TheVariants as errors
+use Rattle.tomex_samples.specs.Parts.{parts_of}
+use Rattle.tomex_samples.specs.PartsCsv.{parts_csv}
 use Rattle.tomex_streams.specs.Files.{Known}
 
 -- the text is the table of the parts that stand for the image's run

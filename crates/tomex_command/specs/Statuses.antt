@@ -17,8 +17,8 @@ use Rattle.tomex_front_views.specs.declared.row_name.RowError.{RowError}
 use Rattle.tomex_front_views.specs.declared.row_name.RowError.TheVariants as rows
 use Rattle.tomex_functions.specs.declared.functions_error.FunctionsError.{FunctionsError}
 use Rattle.tomex_functions.specs.declared.functions_error.FunctionsError.TheVariants as functions
-use Rattle.tomex_parts.specs.declared.error.PartsError.{PartsError}
-use Rattle.tomex_parts.specs.declared.error.PartsError.TheVariants as parts
+use Rattle.tomex_samples.specs.declared.error.PartsError.{PartsError}
+use Rattle.tomex_samples.specs.declared.error.PartsError.TheVariants as parts
 use Rattle.tomex_refusals.specs.declared.explaining.ExplainError.{ExplainError}
 use Rattle.tomex_refusals.specs.declared.explaining.ExplainError.TheVariants as explanations
 use Rattle.tomex_run_views.specs.declared.excerpt_error.ExcerptError.{ExcerptError}

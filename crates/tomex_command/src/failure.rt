@@ -14,10 +14,10 @@ use tomex_cut::CutError;
 use tomex_front_views::{FindError, RowError};
 use tomex_functions::FunctionsError;
 use tomex_image::ImageError;
-use tomex_parts::PartsError;
 use tomex_refusals::ExplainError;
 use tomex_report::{AnswerError, StudyError};
 use tomex_run_views::{ExcerptError, PictureError};
+use tomex_samples::PartsError;
 use tomex_sweep::SweepError;
 use tomex_views::ViewError;
 

@@ -11,13 +11,13 @@ mod cutting;
 mod encoding;
 mod error;
 pub mod laws;
+mod progress;
 mod prologue;
 mod symbol_file;
 mod walking;
-mod watch;
 mod words;
 
 pub use cutting::{cut, cut_with_symbols};
 pub use error::CutError;
+pub use progress::{NoProgress, Progress};
 pub use walking::MOST_STEPS;
-pub use watch::{NoWatch, Watch};

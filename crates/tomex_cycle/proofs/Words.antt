@@ -17,7 +17,7 @@ pub use Rattle.std.specs.Prelude.{◌⊎◌, Decides, All, IsTrue}
 pub use Rattle.tomex_rvdec.specs.Instruction.{Instruction}
 pub use Rattle.tomex_rvdec.specs.Meaning.{form_of}
 pub use Rattle.tomex_rvdec.specs.Operands.{dest_of, pool_of, sources_at, sources_of, unit_at, unit_of}
-pub use Rattle.tomex_rvdec.specs.Parts.{place_of_pool, place_of_unit}
+pub use Rattle.tomex_rvdec.specs.Places.{place_of_pool, place_of_unit}
 pub use Rattle.tomex_rvdec.specs.declared.op.Form.{Form}
 pub use Rattle.tomex_rvdec.specs.declared.op.Op.{Op}
 pub use Rattle.tomex_rvdec.specs.declared.pool.PoolId.{PoolId}

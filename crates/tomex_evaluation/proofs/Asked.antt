@@ -1,7 +1,7 @@
 -- The demands of a history are its peaks, and which parts have stalls: nothing else of it.
 use Rattle.std.proofs.Common.{ℕ, zero, suc, ◌<◌, ◌≡◌, ◌==◌, ◌∙◌, arith, refl, ap, List, [], ◌∷◌, get_or, length}
 use Rattle.std.proofs.lemmas.List.{ext_get_or}
-use Rattle.tomex_rvdec.specs.Parts.{place_of_pool, place_of_unit}
+use Rattle.tomex_rvdec.specs.Places.{place_of_pool, place_of_unit}
 use Rattle.tomex_rvdec.specs.declared.pool.PoolId.{PoolId}
 use Rattle.tomex_rvdec.specs.declared.pool.PoolId.TheVariants as pools
 use Rattle.tomex_rvdec.specs.declared.pool.UnitId.{UnitId}

@@ -1,7 +1,7 @@
 -- The code's own words: floors of a run that are known for some latencies.
 use Rattle.std.specs.Prelude.{ℕ, ◌≡◌, ◌<◌, ◌^◌, Bool, false, if◌then◌else◌, List, length, map, All, slice_index_or}
 use Rattle.std.specs.List.{list_any}
-use Rattle.tomex_rvdec.specs.Parts.{place_of_unit}
+use Rattle.tomex_rvdec.specs.Places.{place_of_unit}
 use Rattle.tomex_rvdec.specs.declared.pool.UnitId.{UnitId}
 use Rattle.tomex_rvexec.specs.Steps.{step_unit}
 use Rattle.tomex_rvexec.specs.declared.step.Step.{Step}

@@ -3,7 +3,7 @@ use Rattle.std.specs.Prelude.{ℕ, ◌-◌, ◌*◌, ◌/◌, ◌==◌, nat_le, 
 use Rattle.std.specs.Prelude.{[], ◌∷◌, ◌++◌, codes, length, map, slice_index_or, Option, Some, None}
 use Rattle.std.specs.Fmt.{decimal}
 use Rattle.std.specs.List.{flat_map, list_any}
-use Rattle.tomex_rvdec.specs.Parts.{name_of_pool, name_of_unit}
+use Rattle.tomex_rvdec.specs.Places.{name_of_pool, name_of_unit}
 use Rattle.tomex_rvdec.specs.declared.pool.PoolId.TheVariants as pools
 use Rattle.tomex_rvdec.specs.declared.pool.UnitId.TheVariants as units
 use Rattle.tomex_config.specs.Configuration.{Configuration}

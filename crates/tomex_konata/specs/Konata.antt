@@ -5,7 +5,7 @@ use Rattle.std.specs.Prelude.{◌≡◌, ℕ, zero, suc, ◌+◌, ◌-◌, ◌�
 use Rattle.std.specs.Prelude.{if◌then◌else◌, List, [], ◌∷◌, ◌++◌, codes, count_by, length, Option, Some, None}
 use Rattle.std.specs.List.{flat_map}
 use Rattle.std.specs.Fmt.{decimal}
-use Rattle.tomex_rvdec.specs.Parts.{name_of_pool}
+use Rattle.tomex_rvdec.specs.Places.{name_of_pool}
 use Rattle.tomex_rvdec.specs.Text.{hex8, instr_text}
 use Rattle.tomex_rvdec.specs.declared.pool.PoolId.{PoolId}
 use Rattle.tomex_rvexec.specs.Steps.{is_number, j_of, k_of, step_dest, step_pool}

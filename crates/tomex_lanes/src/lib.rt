@@ -6,18 +6,18 @@
 //! Tests: tomex_tests_sweeps.
 #![tactic(auto)]
 
+mod dealt;
 mod deque;
 mod known;
 mod lane;
 mod lanes;
 pub mod laws;
 mod owner;
-mod part;
 mod rule;
 mod worker;
 
+pub use dealt::{Dealt, settle};
 pub use deque::{RowDeque, Victim};
 pub use lane::Lane;
 pub use lanes::deal;
-pub use part::{Part, settle};
 pub use worker::{Worker, seat_workers};

@@ -21,10 +21,7 @@ fn put_digits(digits: &mut [u8; 20], number: u64) -> usize
 }
 
 /// Adds the digits of a number.
-pub fn push_digits<A: Allocator>(
-    text: &mut Vec<u8, A>,
-    number: u64,
-) -> Result<(), AllocError>
+pub fn push_digits<A: Allocator>(text: &mut Vec<u8, A>, number: u64) -> Result<(), AllocError>
     ensures { OnOk result (text.new.items ≡ text.old.items ++ decimal number) }
 {
     let mut digits = [0; 20];

@@ -10,10 +10,7 @@ use crate::digits::push_digits;
 use std::alloc::{AllocError, Allocator};
 
 /// Adds a number after a comma.
-pub fn push_next_number<A: Allocator>(
-    text: &mut Vec<u8, A>,
-    number: u64,
-) -> Result<(), AllocError>
+pub fn push_next_number<A: Allocator>(text: &mut Vec<u8, A>, number: u64) -> Result<(), AllocError>
     ensures { OnOk result (text.new.items ≡ text.old.items ++ after_comma number) }
 {
     text.push(b',')?;

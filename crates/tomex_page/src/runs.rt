@@ -100,7 +100,15 @@ fn push_run<A: Allocator, B: Allocator + Clone>(
 {
     text.push_str("<div>\n")?;
     let RunPath { times, links } = path_on(alloc.clone()?, program, config)?;
-    push_run_stalls(text, alloc, heap, config, program, floored, links.as_slice())?;
+    push_run_stalls(
+        text,
+        alloc,
+        heap,
+        config,
+        program,
+        floored,
+        links.as_slice(),
+    )?;
     push_chart(text, heap, program, times)?;
     write!(text, "</div>\n")
 }

@@ -3,7 +3,7 @@
 use Rattle.std.specs.Prelude.{ℕ, ◌+◌, ◌-◌, ◌<◌, ◌≤◌, ◌≡◌, Bool, true, false, not, ◌==◌, nat_le, ◌&&◌, ◌||◌}
 use Rattle.std.specs.Prelude.{if◌then◌else◌, is_some, List, [], ◌∷◌, ◌++◌, map, sum_by}
 use Rattle.std.specs.List.{list_all, list_any}
-use Rattle.tomex_rvdec.specs.Parts.{place_of_pool, place_of_unit}
+use Rattle.tomex_rvdec.specs.Places.{place_of_pool, place_of_unit}
 use Rattle.tomex_rvdec.specs.declared.pool.UnitId.{UnitId}
 use Rattle.tomex_rvexec.specs.Steps.{step_dest, step_unit}
 use Rattle.tomex_rvexec.specs.declared.step.Step.{Step}

@@ -4,7 +4,7 @@ ghost use Rattle.std.specs.Prelude.{◌≡◌, ◌≤◌, ◌++◌, ◌∷◌, [
 ghost use Rattle.std.specs.List.{flat_map};
 ghost use Rattle.csv.specs.Records.{fields_of, partial_of};
 ghost use Rattle.tomex_rvexec.specs.Run.{most_steps};
-ghost use Rattle.tomex_rvdec.specs.Parts.{name_of_unit};
+ghost use Rattle.tomex_rvdec.specs.Places.{name_of_unit};
 ghost use Rattle.tomex_config.specs.Cost.{all_units};
 ghost use Rattle.tomex_layout.specs.Csv.{IsReady, record_text};
 ghost use Rattle.tomex_layout.specs.Growth.{Appends, Writes};

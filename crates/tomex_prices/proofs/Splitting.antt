@@ -1,7 +1,7 @@
 -- Costs with one price apart.
 use Rattle.std.proofs.Common.{◌≡◌, ◌∙◌, ℕ, ◌+◌, ◌*◌, inl, inr, arith, ap, sym, refl, true, List, [], ◌∷◌}
 use Rattle.std.proofs.Common.{length, ◌&&◌, ◌==◌}
-use Rattle.tomex_rvdec.specs.Parts.{place_of_pool, place_of_unit}
+use Rattle.tomex_rvdec.specs.Places.{place_of_pool, place_of_unit}
 use Rattle.std.proofs.lemmas.Bool.{and_parts, cases_Bool, eqb-true}
 use Rattle.std.proofs.lemmas.List.{set-get_or}
 use Rattle.std.proofs.Math.Nat.{mul_comm}

@@ -1,7 +1,7 @@
 -- A price: its stated value, how often a configuration pays it, and its name.
 use Rattle.std.specs.Prelude.{ℕ, ◌++◌, codes, if◌then◌else◌, List}
 use Rattle.std.specs.Fmt.{decimal}
-use Rattle.tomex_rvdec.specs.Parts.{name_of_pool, name_of_unit}
+use Rattle.tomex_rvdec.specs.Places.{name_of_pool, name_of_unit}
 use Rattle.tomex_config.specs.Configuration.{Configuration, option_of, same_option, stations_of}
 use Rattle.tomex_config.specs.Cost.{PriceList, price_of}
 use Rattle.tomex_prices.specs.declared.price.Price.{Price}

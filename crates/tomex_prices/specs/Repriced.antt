@@ -2,7 +2,7 @@
 use Rattle.std.specs.Prelude.{◌≡◌, ℕ, ◌+◌, ◌*◌, ◌≤◌, if◌then◌else◌, true, suc, List, [], ◌∷◌, map}
 use Rattle.std.specs.Prelude.{All, slice_set}
 use Rattle.std.specs.List.{Contains}
-use Rattle.tomex_rvdec.specs.Parts.{place_of_pool}
+use Rattle.tomex_rvdec.specs.Places.{place_of_pool}
 use Rattle.tomex_config.specs.Configuration.{Configuration, IsWithinLimits, option_of, with_option}
 use Rattle.tomex_config.specs.Cost.{IsPriceList, PriceList, cost_of}
 use Rattle.tomex_pareto.specs.Front.{front_of, is_on, rows_from}

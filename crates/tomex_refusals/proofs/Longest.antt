@@ -10,7 +10,7 @@ use Rattle.std.specs.Option.{unwrap_or}
 use Rattle.std.specs.Str.{NoCharPasses}
 use Rattle.std.proofs.lemmas.List.{append-nil}
 use Rattle.std.proofs.lemmas.List.Elements.{All-append, All-cons, All-nil, All-push, All-weaker}
-use Rattle.tomex_refusals.specs.Parts.{AreWords, IsCut, IsInALine, IsLongest}
+use Rattle.tomex_refusals.specs.LongestWords.{AreWords, IsCut, IsInALine, IsLongest}
 
 -- the words seen, and what is left of the text
 pub record Seen (text rest : List ℕ) (longest : Option (List ℕ)) : Type 0 where

@@ -3,7 +3,7 @@ use Rattle.std.specs.Prelude.{◌≡◌, ◌⊎◌, ℕ, List, Some, None}
 use Rattle.tomex_refusals.specs.declared.explaining.ExplainError.{ExplainError}
 use Rattle.tomex_refusals.specs.declared.explaining.ExplainError.TheVariants.{NoSuchRefusal, Memory}
 use Rattle.tomex_refusals.specs.declared.refusal.Refusal.{Refusal}
-use Rattle.tomex_refusals.specs.Parts.{IsPart}
+use Rattle.tomex_refusals.specs.LongestWords.{IsPart}
 use Rattle.tomex_refusals.specs.Refusals.{AreWith, IsFirstIn, all_refusals, explanation_of, text_of_found}
 
 -- a text explains the refusal in the words, if there is one; else it is of those whose lines have a part of them

@@ -5,5 +5,5 @@ pub mod Studies
 pub mod Statuses
 pub mod Looking
 pub mod Refusals
-pub mod Parts
+pub mod LongestWords
 pub mod Explanations

@@ -6,7 +6,7 @@ ghost use Rattle.tomex_refusals.specs.Explanations.{IsExplained, IsUnexplained};
 ghost use Rattle.tomex_refusals.specs.Refusals.{IsFirstIn, all_refusals, explanation_of};
 ghost use Rattle.tomex_refusals.specs.Refusals.{line_of, refusal_lines, text_of_found};
 
-use crate::parts::part_of;
+use crate::longest_words::part_of;
 use crate::refusal::{Refusal, refusal_in, refusals_with};
 use std::alloc::{AllocError, Allocator};
 

@@ -1,7 +1,7 @@
 -- The reservation table of the cycles ahead, and the ends of the stations' steps.
 use Rattle.std.specs.Prelude.{ℕ, ◌+◌, ◌*◌, ◌-◌, ◌<◌, ◌≤◌, ◌≡◌, ◌==◌, nat_lt, nat_le, Bool, false, ◌&&◌, IsTrue}
 use Rattle.std.specs.Prelude.{if◌then◌else◌, List, slice_index, slice_index_or, replicate}
-use Rattle.tomex_rvdec.specs.Parts.{place_of_pool}
+use Rattle.tomex_rvdec.specs.Places.{place_of_pool}
 use Rattle.tomex_rvdec.specs.declared.pool.PoolId.{PoolId}
 
 -- t is the first number from `from` on that passes

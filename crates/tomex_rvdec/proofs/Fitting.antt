@@ -31,7 +31,8 @@ has_fields w f7 rs2 rs1 f3 rd code a b c d e f g = record {
   is_f3 = omega arith;
   is_rs1 = omega arith;
   is_rs2 = omega arith;
-  is_f7 = omega arith }
+  is_f7 = omega arith;
+}
 
 extended_12 : (n : ℕ) → IsSigned 12 n → sign_extended 12 (n % 2 ^ 12) ≡ n
 extended_12 n (inl low) = grind arith
@@ -58,27 +59,38 @@ high_of op = funct7 (base_of op)
 -- a word with these fields between the fixed bits of an operation
 by_fields : (op : Op) (f7 rs2 rs1 rd : ℕ) → f7 < 128 → rs2 < 32 → rs1 < 32 → rd < 32
     → (w : ℕ) × HasFields w f7 rs2 rs1 (low_of op) rd (code_of op)
-by_fields op f7 rs2 rs1 rd a b c d =
-    (f7 * 2 ^ 25 + rs2 * 2 ^ 20 + rs1 * 2 ^ 15 + low_of op * 2 ^ 12 + rd * 2 ^ 7 + code_of op,
-        has_fields _ f7 rs2 rs1 (low_of op) rd (code_of op) a b c (omega arith) d (omega arith) refl)
+by_fields op f7 rs2 rs1 rd a b c d = (
+  f7 * 2 ^ 25 + rs2 * 2 ^ 20 + rs1 * 2 ^ 15 + low_of op * 2 ^ 12 + rd * 2 ^ 7 + code_of op,
+  has_fields _ f7 rs2 rs1 (low_of op) rd (code_of op) a b c (omega arith) d (omega arith) refl,
+)
 
 register : (op : Op) (rd rs1 rs2 : ℕ) → form_of op ≡ forms.Register → rd < 32 → rs1 < 32 → rs2 < 32
     → IsMeant (with_operands op rd rs1 rs2 0)
 unfolding IsMeant
 register op rd rs1 rs2 form a b c =
     let f = by_fields op (high_of op) rs2 rs1 rd (omega arith) c b a in
-    let h = f.1 in
-    (f.0, (h.short, selected_as op f.0 h.is_code (λ x. h.is_f3) (λ x. h.is_f7) (λ x. cc),
-        rw (form, h.is_rd, h.is_rs1, h.is_rs2) refl))
+    let h = f.1 in (
+      f.0,
+      (
+        h.short,
+        selected_as op f.0 h.is_code (λ x. h.is_f3) (λ x. h.is_f7) (λ x. cc),
+        rw (form, h.is_rd, h.is_rs1, h.is_rs2) refl,
+      ),
+    )
 
 shift : (op : Op) (rd rs1 n : ℕ) → form_of op ≡ forms.Shift → rd < 32 → rs1 < 32 → n < 32
     → IsMeant (with_operands op rd rs1 0 n)
 unfolding IsMeant
 shift op rd rs1 n form a b c =
     let f = by_fields op (high_of op) n rs1 rd (omega arith) c b a in
-    let h = f.1 in
-    (f.0, (h.short, selected_as op f.0 h.is_code (λ x. h.is_f3) (λ x. h.is_f7) (λ x. cc),
-        rw (form, h.is_rd, h.is_rs1, h.is_rs2) refl))
+    let h = f.1 in (
+      f.0,
+      (
+        h.short,
+        selected_as op f.0 h.is_code (λ x. h.is_f3) (λ x. h.is_f7) (λ x. cc),
+        rw (form, h.is_rd, h.is_rs1, h.is_rs2) refl,
+      ),
+    )
 
 -- the fields of a word whose upper 12 bits are the low 12 of n
 upper_12 : (w n : ℕ) → funct7 w ≡ n / 2 ^ 5 % 2 ^ 7 → rs2_field w ≡ n % 2 ^ 5 → field w 31 20 ≡ n % 2 ^ 12
@@ -90,9 +102,14 @@ unfolding IsMeant
 immediate op rd rs1 n form a b c =
     let f = by_fields op (n / 2 ^ 5 % 2 ^ 7) (n % 2 ^ 5) rs1 rd (omega arith) (omega arith) b a in
     let h = f.1 in
-    let e : imm_i f.0 ≡ n = ap (sign_extended 12) (upper_12 f.0 n h.is_f7 h.is_rs2) ∙ extended_12 n c in
-    (f.0, (h.short, selected_as op f.0 h.is_code (λ x. h.is_f3) (λ x. cc) (λ x. cc),
-        rw (form, h.is_rd, h.is_rs1, e) refl))
+    let e : imm_i f.0 ≡ n = ap (sign_extended 12) (upper_12 f.0 n h.is_f7 h.is_rs2) ∙ extended_12 n c in (
+      f.0,
+      (
+        h.short,
+        selected_as op f.0 h.is_code (λ x. h.is_f3) (λ x. cc) (λ x. cc),
+        rw (form, h.is_rd, h.is_rs1, e) refl,
+      ),
+    )
 
 offset : (op : Op) (rd rs1 n : ℕ) → form_of op ≡ forms.Offset → rd < 32 → rs1 < 32 → IsSigned 12 n
     → IsMeant (with_operands op rd rs1 0 n)
@@ -100,9 +117,14 @@ unfolding IsMeant
 offset op rd rs1 n form a b c =
     let f = by_fields op (n / 2 ^ 5 % 2 ^ 7) (n % 2 ^ 5) rs1 rd (omega arith) (omega arith) b a in
     let h = f.1 in
-    let e : imm_i f.0 ≡ n = ap (sign_extended 12) (upper_12 f.0 n h.is_f7 h.is_rs2) ∙ extended_12 n c in
-    (f.0, (h.short, selected_as op f.0 h.is_code (λ x. h.is_f3) (λ x. cc) (λ x. cc),
-        rw (form, h.is_rd, h.is_rs1, e) refl))
+    let e : imm_i f.0 ≡ n = ap (sign_extended 12) (upper_12 f.0 n h.is_f7 h.is_rs2) ∙ extended_12 n c in (
+      f.0,
+      (
+        h.short,
+        selected_as op f.0 h.is_code (λ x. h.is_f3) (λ x. cc) (λ x. cc),
+        rw (form, h.is_rd, h.is_rs1, e) refl,
+      ),
+    )
 
 fence : (op : Op) (rd rs1 n : ℕ) → form_of op ≡ forms.Fence → rd < 32 → rs1 < 32 → n < 2 ^ 12
     → IsMeant (with_operands op rd rs1 0 n)
@@ -110,9 +132,14 @@ unfolding IsMeant
 fence op rd rs1 n form a b c =
     let f = by_fields op (n / 2 ^ 5 % 2 ^ 7) (n % 2 ^ 5) rs1 rd (omega arith) (omega arith) b a in
     let h = f.1 in
-    let e : field f.0 31 20 ≡ n = upper_12 f.0 n h.is_f7 h.is_rs2 ∙ omega arith in
-    (f.0, (h.short, selected_as op f.0 h.is_code (λ x. h.is_f3) (λ x. cc) (λ x. cc),
-        rw (form, h.is_rd, h.is_rs1, e) refl))
+    let e : field f.0 31 20 ≡ n = upper_12 f.0 n h.is_f7 h.is_rs2 ∙ omega arith in (
+      f.0,
+      (
+        h.short,
+        selected_as op f.0 h.is_code (λ x. h.is_f3) (λ x. cc) (λ x. cc),
+        rw (form, h.is_rd, h.is_rs1, e) refl,
+      ),
+    )
 
 split_12 : (w n : ℕ) → funct7 w ≡ n / 2 ^ 5 % 2 ^ 7 → rd_field w ≡ n % 2 ^ 5
     → field w 31 25 * 2 ^ 5 + field w 11 7 ≡ n % 2 ^ 12
@@ -124,9 +151,14 @@ unfolding IsMeant
 store op rs1 rs2 n form a b c =
     let f = by_fields op (n / 2 ^ 5 % 2 ^ 7) rs2 rs1 (n % 2 ^ 5) (omega arith) b a (omega arith) in
     let h = f.1 in
-    let e : imm_s f.0 ≡ n = ap (sign_extended 12) (split_12 f.0 n h.is_f7 h.is_rd) ∙ extended_12 n c in
-    (f.0, (h.short, selected_as op f.0 h.is_code (λ x. h.is_f3) (λ x. cc) (λ x. cc),
-        rw (form, h.is_rs1, h.is_rs2, e) refl))
+    let e : imm_s f.0 ≡ n = ap (sign_extended 12) (split_12 f.0 n h.is_f7 h.is_rd) ∙ extended_12 n c in (
+      f.0,
+      (
+        h.short,
+        selected_as op f.0 h.is_code (λ x. h.is_f3) (λ x. cc) (λ x. cc),
+        rw (form, h.is_rs1, h.is_rs2, e) refl,
+      ),
+    )
 
 scrambled_13 : (w n : ℕ) → funct7 w ≡ n / 2 ^ 12 % 2 * 2 ^ 6 + n / 2 ^ 5 % 2 ^ 6
     → rd_field w ≡ n / 2 % 2 ^ 4 * 2 + n / 2 ^ 11 % 2 → n ≡ n / 2 * 2
@@ -138,12 +170,17 @@ branch : (op : Op) (rs1 rs2 n : ℕ) → form_of op ≡ forms.Branch → rs1 < 3
 unfolding IsMeant
 branch op rs1 rs2 n form a b c even =
     let f = by_fields op (n / 2 ^ 12 % 2 * 2 ^ 6 + n / 2 ^ 5 % 2 ^ 6) rs2 rs1 (n / 2 % 2 ^ 4 * 2 + n / 2 ^ 11 % 2)
-        (omega arith) b a (omega arith) in
+    (omega arith) b a (omega arith) in
     let h = f.1 in
     let e : imm_b f.0 ≡ n =
-        ap (sign_extended 13) (scrambled_13 f.0 n h.is_f7 h.is_rd even) ∙ extended_13 n c in
-    (f.0, (h.short, selected_as op f.0 h.is_code (λ x. h.is_f3) (λ x. cc) (λ x. cc),
-        rw (form, h.is_rs1, h.is_rs2, e) refl))
+    ap (sign_extended 13) (scrambled_13 f.0 n h.is_f7 h.is_rd even) ∙ extended_13 n c in (
+      f.0,
+      (
+        h.short,
+        selected_as op f.0 h.is_code (λ x. h.is_f3) (λ x. cc) (λ x. cc),
+        rw (form, h.is_rs1, h.is_rs2, e) refl,
+      ),
+    )
 
 -- a word whose upper 20 bits are one field
 record HasUpper (w n rd code : ℕ) : Type 0 where
@@ -158,7 +195,8 @@ has_upper w n rd code a b c e = record {
   short = omega arith;
   is_code = omega arith;
   is_rd = omega arith;
-  is_upper = omega arith }
+  is_upper = omega arith;
+}
 
 by_upper : (op : Op) (n rd : ℕ) → n < 2 ^ 20 → rd < 32 → (w : ℕ) × HasUpper w n rd (code_of op)
 by_upper op n rd a b =
@@ -184,17 +222,23 @@ jump : (op : Op) (rd n : ℕ) → form_of op ≡ forms.Jump → rd < 32 → IsSi
 unfolding IsMeant
 jump op rd n form a c even =
     let f = by_upper op
-        (n / 2 ^ 20 % 2 * 2 ^ 19 + n / 2 % 2 ^ 10 * 2 ^ 9 + n / 2 ^ 11 % 2 * 2 ^ 8 + n / 2 ^ 12 % 2 ^ 8) rd
-        (omega arith) a in
+    (n / 2 ^ 20 % 2 * 2 ^ 19 + n / 2 % 2 ^ 10 * 2 ^ 9 + n / 2 ^ 11 % 2 * 2 ^ 8 + n / 2 ^ 12 % 2 ^ 8) rd
+    (omega arith) a in
     let h = f.1 in
     let e : imm_j f.0 ≡ n = ap (sign_extended 21) (scrambled_21 f.0 n h.is_upper even) ∙ extended_21 n c in
     (f.0, (h.short, selected_as op f.0 h.is_code (λ x. cc) (λ x. cc) (λ x. cc), rw (form, h.is_rd, e) refl))
 
 whole : (op : Op) → form_of op ≡ forms.Whole → IsMeant (with_operands op 0 0 0 0)
 unfolding IsMeant
-whole op form =
-    (base_of op % 2 ^ 32, (omega arith, selected_as op (base_of op % 2 ^ 32) (omega arith) (λ x. omega arith)
-        (λ x. omega arith) (λ x. refl), rw form refl))
+whole op form = (
+  base_of op % 2 ^ 32,
+  (
+    omega arith,
+    selected_as op (base_of op % 2 ^ 32) (omega arith) (λ x. omega arith)
+        (λ x. omega arith) (λ x. refl),
+    rw form refl,
+  ),
+)
 
 fitting_form : (f : Form) (op : Op) (rd rs1 rs2 n : ℕ) → form_of op ≡ f → Fits f (with_operands op rd rs1 rs2 n)
     → IsMeant (with_operands op rd rs1 rs2 n)

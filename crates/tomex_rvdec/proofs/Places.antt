@@ -1,6 +1,6 @@
 -- Pools and kinds of units have places below their number.
 use Rattle.std.proofs.Common.{◌<◌, arith}
-use Rattle.tomex_rvdec.specs.Parts.{place_of_pool, place_of_unit}
+use Rattle.tomex_rvdec.specs.Places.{place_of_pool, place_of_unit}
 use Rattle.tomex_rvdec.specs.declared.pool.PoolId.{PoolId}
 use Rattle.tomex_rvdec.specs.declared.pool.PoolId.TheVariants as pools
 use Rattle.tomex_rvdec.specs.declared.pool.UnitId.{UnitId}

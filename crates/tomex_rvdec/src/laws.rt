@@ -3,7 +3,7 @@
 ghost use Rattle.std.specs.Prelude.{◌≡◌, ℕ, ◌<◌, ◌^◌, Some, slice_get, length};
 ghost use Rattle.tomex_rvdec.specs.declared.pool.PoolId.{PoolId};
 ghost use Rattle.tomex_rvdec.specs.declared.pool.UnitId.{UnitId};
-ghost use Rattle.tomex_rvdec.specs.Parts.{place_of_pool, place_of_unit};
+ghost use Rattle.tomex_rvdec.specs.Places.{place_of_pool, place_of_unit};
 ghost use Rattle.tomex_rvdec.specs.Instruction.{Instruction};
 ghost use Rattle.tomex_rvdec.specs.Fits.{Fits};
 ghost use Rattle.tomex_rvdec.specs.Meaning.{IsMeant, Means, form_of, meaning};

@@ -19,7 +19,9 @@ mod pool_table;
 pub use decoding::decode;
 pub use encoding::encode;
 pub use instr::{Instr, Sources};
-pub use laws::{instruction_has_one_word, meaning_is_the_table, what_fits_is_an_instruction};
-pub use laws::word_means_one_instruction;
+pub use laws::{
+    instruction_has_one_word, meaning_is_the_table, what_fits_is_an_instruction,
+    word_means_one_instruction,
+};
 pub use op::{Form, Op};
 pub use pool::{PoolId, UnitId};

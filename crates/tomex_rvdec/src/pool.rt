@@ -2,7 +2,7 @@
 //! reservation stations in which it waits, and the functional unit that runs it.
 
 ghost use Rattle.std.specs.Prelude.{◌≡◌, ◌<◌, Some};
-ghost use Rattle.tomex_rvdec.specs.Parts.{place_of_pool, place_of_unit, name_of_pool, name_of_unit};
+ghost use Rattle.tomex_rvdec.specs.Places.{place_of_pool, place_of_unit, name_of_pool, name_of_unit};
 
 use std::fmt;
 

@@ -2,7 +2,7 @@
 use Rattle.std.specs.Prelude.{ℕ, ◌+◌, nat_le, Bool, ◌&&◌, List, [], ◌∷◌, ◌++◌, map, reverse, is_some, Option}
 use Rattle.std.specs.Prelude.{Some, None}
 use Rattle.std.specs.Fmt.{decimal}
-use Rattle.tomex_rvdec.specs.Parts.{name_of_pool}
+use Rattle.tomex_rvdec.specs.Places.{name_of_pool}
 use Rattle.tomex_rvexec.specs.Steps.{step_unit}
 use Rattle.tomex_rvexec.specs.declared.step.Step.{Step}
 use Rattle.tomex_config.specs.Configuration.{Configuration}

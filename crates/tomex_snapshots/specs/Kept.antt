@@ -2,7 +2,7 @@
 use Rattle.std.specs.Prelude.{◌≡◌, ℕ, ◌+◌, ◌-◌, ◌*◌, nat_le, nat_lt, if◌then◌else◌, List}
 use Rattle.std.specs.Prelude.{Option, Some, None, map, slice_index_or, slice_set}
 use Rattle.std.specs.List.{range_with_len}
-use Rattle.tomex_rvdec.specs.Parts.{place_of_pool}
+use Rattle.tomex_rvdec.specs.Places.{place_of_pool}
 use Rattle.tomex_rvexec.specs.Steps.{j_of, k_of, step_dest}
 use Rattle.tomex_rvexec.specs.declared.step.Operand.{Operand}
 use Rattle.tomex_timing.specs.Tables.{a_of, all_tags, field_from, is_under_way, producer, qi_of, unsent_tag}

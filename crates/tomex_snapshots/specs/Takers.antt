@@ -3,7 +3,7 @@ use Rattle.std.specs.Prelude.{ℕ, ◌-◌, ◌==◌, Bool, true, false, ◌&&�
 use Rattle.std.specs.Prelude.{Option, Some, None}
 use Rattle.std.specs.List.{flat_map}
 use Rattle.std.specs.Fmt.{decimal}
-use Rattle.tomex_rvdec.specs.Parts.{place_of_pool}
+use Rattle.tomex_rvdec.specs.Places.{place_of_pool}
 use Rattle.tomex_rvexec.specs.Steps.{is_in, is_number, step_dest, step_pool}
 use Rattle.tomex_timing.specs.Tables.{all_tags, busy_of, is_under_way, qi_of}
 use Rattle.tomex_timing.specs.declared.tables.Busy.{Busy}

@@ -46,7 +46,11 @@ impl Model for ListReport {
     ghost Value = { ListFindings };
 
     ghost view = { λ l. record {
-        part = l.part; front = l.front.items; unused = l.unused.items; additions = l.additions.items;
-        saving = l.saving; enough = l.enough
+      part = l.part;
+      front = l.front.items;
+      unused = l.unused.items;
+      additions = l.additions.items;
+      saving = l.saving;
+      enough = l.enough;
     } };
 }

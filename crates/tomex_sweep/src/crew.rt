@@ -12,23 +12,23 @@ use std::sync::Wait;
 use std::thread;
 use std::thread::{Promise, PromisedHandle, Scope, Threads};
 use tomex_board::{Board, Plan};
-use tomex_lanes::{Part, Worker};
+use tomex_lanes::{Dealt, Worker};
 use tomex_study::{Gate, Study};
 use tomex_workers::work;
 
 /// A thread's contract: it returns a part with the worker's rows, and a seat of its board with its
 /// numbers.
 #[derive(Drop)]
-pub(crate) struct PartOf<J: Plan, A: Allocator>(Snapshot<Worker<J, A>>);
+pub(crate) struct DealtOf<J: Plan, A: Allocator>(Snapshot<Worker<J, A>>);
 
-impl<J: Plan, A: Allocator> Promise<Result<Part<J, A>, AllocError>> for PartOf<J, A> {
+impl<J: Plan, A: Allocator> Promise<Result<Dealt<J, A>, AllocError>> for DealtOf<J, A> {
     ghost use Rattle.std.specs.Prelude.{◌≡◌, IfOk};
     ghost use Rattle.tomex_sweep.specs.Crews.{given_by, owed_by};
 
     ghost kept_by = { λ p r. IfOk r (λ part. given_by part ≡ owed_by p.0.value) };
 }
 
-type Running<J, A> = PromisedHandle<Result<Part<J, A>, AllocError>, PartOf<J, A>>;
+type Running<J, A> = PromisedHandle<Result<Dealt<J, A>, AllocError>, DealtOf<J, A>>;
 
 /// The things that all workers share: the study, the board, the gate to which they report their
 /// runs, and the sizes of their threads' stacks.
@@ -60,7 +60,7 @@ fn start<
 {
     let (study, board, gate) = (shop.study, shop.board, shop.gate);
     let alloc = alloc.clone()?;
-    let promise = PartOf(Snapshot::of(&worker));
+    let promise = DealtOf(Snapshot::of(&worker));
     let Worker { lane, seat } = worker;
     let stack = shop.stacks.stack_of(lane.worker());
     match stack.spawn_scoped_with(
@@ -124,8 +124,8 @@ fn start_all<
 fn join_all<R: Threads, J: Plan, A: Allocator>(
     rt: &R,
     handles: Vec<Running<J, A>, A>,
-    mut parts: Vec<Part<J, A>, A>,
-) -> Result<Vec<Part<J, A>, A>, SweepError>
+    mut parts: Vec<Dealt<J, A>, A>,
+) -> Result<Vec<Dealt<J, A>, A>, SweepError>
     requires { parts.items ≡ [] }
     ensures { IfOk result (λ v. map given_by v.items ≡ map (λ h. owed_by h.promise.0.value) handles.items) }
 {
@@ -160,7 +160,7 @@ fn run_in<
     alloc: A,
     shop: &Workshop<'s, J, A, G, S>,
     workers: Vec<Worker<J, A>, A>,
-) -> Result<Vec<Part<J, A>, A>, SweepError>
+) -> Result<Vec<Dealt<J, A>, A>, SweepError>
     requires { CanRun shop.now.study.now J.costs J.cycles shop.now.board.now workers.items }
     ensures { IfOk result (λ v. map given_by v.items ≡ map owed_by workers.items) }
 {
@@ -183,14 +183,14 @@ pub(crate) fn run_workers<
     workers: Vec<Worker<J, A>, A>,
     gate: &G,
     stacks: &S,
-) -> Result<Vec<Part<J, A>, A>, SweepError>
+) -> Result<Vec<Dealt<J, A>, A>, SweepError>
     requires { CanRun study.now J.costs J.cycles board.now workers.items }
     ensures { IfOk result (λ v. map given_by v.items ≡ map owed_by workers.items) }
 {
     thread::scope(
         thread::scope_env(),
         rt,
-        |scope| -> Result<Vec<Part<J, A>, A>, SweepError>
+        |scope| -> Result<Vec<Dealt<J, A>, A>, SweepError>
             requires { CanRun study.now J.costs J.cycles board.now workers.items }
             ensures { IfOk result (λ v. map given_by v.items ≡ map owed_by workers.items) }
         {

@@ -4,7 +4,7 @@ use Rattle.std.specs.Prelude.{Some, None, is_none, is_some, length, option_map}
 use Rattle.std.specs.List.{flat_map}
 use Rattle.tomex_bus.specs.Sets.{has}
 use Rattle.tomex_rvdec.specs.Operands.{pool_of}
-use Rattle.tomex_rvdec.specs.Parts.{place_of_pool}
+use Rattle.tomex_rvdec.specs.Places.{place_of_pool}
 use Rattle.tomex_rvdec.specs.declared.pool.PoolId.{PoolId}
 use Rattle.tomex_tags.specs.declared.station.Station.{Station}
 use Rattle.tomex_tags.specs.Contents.{with_change, hears, slot}

@@ -2,7 +2,7 @@
 use Rattle.std.specs.Prelude.{ℕ, ◌+◌, List, [], ◌∷◌, ◌++◌, codes, Option, Some, None}
 use Rattle.std.specs.List.{flat_map}
 use Rattle.std.specs.Fmt.{decimal}
-use Rattle.tomex_rvdec.specs.Parts.{name_of_pool}
+use Rattle.tomex_rvdec.specs.Places.{name_of_pool}
 use Rattle.tomex_rvdec.specs.Text.{hex8, name_of}
 use Rattle.tomex_timing.specs.Tables.{Tables}
 use Rattle.tomex_timing.specs.declared.tables.Busy.{Busy}

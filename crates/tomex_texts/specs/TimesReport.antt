@@ -1,7 +1,7 @@
 -- The times report of a run: a record for each step, and one for the total.
 use Rattle.std.specs.Prelude.{ℕ, ◌+◌, List, [], ◌∷◌, ◌++◌, codes, Option, Some, None}
 use Rattle.std.specs.Fmt.{decimal}
-use Rattle.tomex_rvdec.specs.Parts.{name_of_pool}
+use Rattle.tomex_rvdec.specs.Places.{name_of_pool}
 use Rattle.tomex_rvdec.specs.Text.{hex8, instr_text}
 use Rattle.tomex_rvdec.specs.declared.pool.PoolId.{PoolId}
 use Rattle.tomex_rvexec.specs.Steps.{step_pool}

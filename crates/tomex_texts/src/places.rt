@@ -53,12 +53,7 @@ fn is_same(a: Instr, b: Instr) -> bool
 }
 
 /// The text of an instruction after its address, if it is kept in this slot.
-fn kept_text(
-    places: &[Option<Place>],
-    slot: usize,
-    pc: u32,
-    instr: Instr,
-) -> Option<&[u8]>
+fn kept_text(places: &[Option<Place>], slot: usize, pc: u32, instr: Instr) -> Option<&[u8]>
     requires kept { AreKept places.now }
     requires slot { slot < 1024 }
     ensures { IfSome result (λ text. text.now ≡ place_text pc instr) }

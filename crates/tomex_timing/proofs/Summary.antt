@@ -25,7 +25,7 @@ use Rattle.tomex_timing.proofs.AfterEnd.{AllBy, IsDoneBy, all_pass, starts_none,
 use Rattle.tomex_timing.proofs.AfterEnd.{last_issue_by, writer_end_by, writer_of_zero}
 use Rattle.tomex_timing.proofs.Width.{issue_from, none_later}
 use Rattle.std.proofs.lemmas.List.Elements.{All-nil}
-use Rattle.tomex_rvdec.specs.Parts.{place_of_unit}
+use Rattle.tomex_rvdec.specs.Places.{place_of_unit}
 use Rattle.tomex_rvdec.specs.declared.pool.PoolId.{PoolId}
 use Rattle.tomex_reservations.specs.Reservations.{end_at, station_place, taken_at}
 use Rattle.tomex_timing.specs.Station.{is_held, is_free}

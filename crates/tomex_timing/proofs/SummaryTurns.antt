@@ -9,7 +9,7 @@ use Rattle.std.proofs.lemmas.List.Elements.{All-filter, All-push, All-weaker}
 use Rattle.std.proofs.lemmas.List.Folds.{list_all-append}
 use Rattle.std.proofs.lemmas.List.Sums.{sum_by-cons}
 use Rattle.std.proofs.lemmas.Bool.Decides.{nat_tests}
-use Rattle.tomex_rvdec.specs.Parts.{place_of_pool}
+use Rattle.tomex_rvdec.specs.Places.{place_of_pool}
 use Rattle.tomex_rvdec.specs.declared.pool.PoolId.{PoolId}
 use Rattle.tomex_rvexec.specs.Steps.{step_pool, step_unit, step_dest, bytes_of, is_in, is_number, is_store}
 use Rattle.tomex_rvexec.specs.declared.step.ByteRange.{ByteRange}

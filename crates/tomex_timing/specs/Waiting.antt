@@ -1,7 +1,7 @@
 -- The needs of a run as they are counted: a step's waits are differences of cycles that the evaluator keeps.
 use Rattle.std.specs.Prelude.{ℕ, ◌+◌, ◌-◌, ◌≤◌, ◌==◌, if◌then◌else◌, List, Option, Some}
 use Rattle.std.specs.Prelude.{None, max, replicate, slice_index_or, slice_set}
-use Rattle.tomex_rvdec.specs.Parts.{place_of_pool, place_of_unit}
+use Rattle.tomex_rvdec.specs.Places.{place_of_pool, place_of_unit}
 use Rattle.tomex_rvdec.specs.declared.pool.PoolId.{PoolId}
 use Rattle.tomex_rvdec.specs.declared.pool.UnitId.{UnitId}
 use Rattle.tomex_timing.specs.declared.needs.Needs.{Needs}

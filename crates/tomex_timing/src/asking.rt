@@ -4,7 +4,7 @@ ghost use Rattle.std.specs.Prelude.{◌≡◌, ℕ, ◌+◌, ◌-◌, ◌^◌, �
 ghost use Rattle.std.specs.Prelude.{if◌then◌else◌};
 ghost use Rattle.tomex_config.specs.Configuration.{option_of};
 ghost use Rattle.tomex_reservations.specs.Reservations.{IsFirst, bus_line, is_left, taken_at};
-ghost use Rattle.tomex_rvdec.specs.Parts.{place_of_unit};
+ghost use Rattle.tomex_rvdec.specs.Places.{place_of_unit};
 ghost use Rattle.tomex_timing.specs.Ahead.{IsHeldAfter, IsNextBy, IsReady, IsSettledBy, IsTableAfter, TakesBus};
 ghost use Rattle.tomex_timing.specs.Ahead.{RunsOn, end_in, ends_after, held_by, one, with_own};
 ghost use Rattle.tomex_timing.specs.Demands.{demand_after, demands_after, stations_asked, units_asked};

@@ -2,7 +2,7 @@
 //! each of them.
 
 ghost use Rattle.std.specs.Prelude.{◌≡◌, ◌+◌, ◌-◌, ◌^◌, ◌<◌, ◌≤◌, slice_index_or};
-ghost use Rattle.tomex_rvdec.specs.Parts.{place_of_pool, place_of_unit};
+ghost use Rattle.tomex_rvdec.specs.Places.{place_of_pool, place_of_unit};
 ghost use Rattle.tomex_rvdec.specs.declared.pool.PoolId.{PoolId};
 ghost use Rattle.tomex_rvdec.specs.declared.pool.UnitId.{UnitId};
 ghost use Rattle.tomex_timing.specs.Needs.{no_need, need_of, allows, suffice};

@@ -6,7 +6,7 @@ ghost use Rattle.tomex_workers.specs.Plans.{IsPlanOf};
 use crate::desk::Desk;
 use std::alloc::{AllocError, Allocator};
 use tomex_board::{Board, Plan, Seat};
-use tomex_lanes::{Lane, Part};
+use tomex_lanes::{Dealt, Lane};
 use tomex_study::{Gate, Study};
 
 /// Does a worker's whole work: takes rows until there are none, its own first, then stolen ones,
@@ -19,7 +19,7 @@ pub fn work<J: Plan, A: Allocator + Clone, G: Gate>(
     mut seat: Seat<J>,
     mut lane: Lane<A>,
     gate: &G,
-) -> Result<Part<J, A>, AllocError>
+) -> Result<Dealt<J, A>, AllocError>
     requires board { seat.board ≡ board.now }
     requires plan { IsPlanOf study.now J.costs J.cycles }
     requires rows { lane.count ≡ length J.costs }
@@ -36,5 +36,5 @@ pub fn work<J: Plan, A: Allocator + Clone, G: Gate>(
         worker,
     };
     desk.try_all(alloc, &mut seat, &mut lane)?;
-    Ok(Part::new(seat, lane.into_rows()))
+    Ok(Dealt::new(seat, lane.into_rows()))
 }

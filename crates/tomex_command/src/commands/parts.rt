@@ -7,7 +7,7 @@ use crate::failure::Failure;
 use crate::stepping::Stepping;
 use std::alloc::{Allocator, Global};
 use tomex_command_line::PartsLine;
-use tomex_parts::{parts, parts_csv};
+use tomex_samples::{parts, parts_csv};
 use tomex_streams::{Counted, Files, Meter};
 
 /// The text that `parts` prints. The meter shows how far the run is.

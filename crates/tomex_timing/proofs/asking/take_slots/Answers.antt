@@ -5,7 +5,7 @@ use Rattle.std.proofs.Common.{None, ◌==◌, ◌&&◌, if◌then◌else◌}
 use Rattle.std.proofs.lemmas.Bool.{ne_eqb}
 use Rattle.std.proofs.lemmas.Bool.Decides.{nat_tests}
 use Rattle.tomex_rvdec.specs.declared.pool.UnitId.{UnitId}
-use Rattle.tomex_rvdec.specs.Parts.{place_of_unit}
+use Rattle.tomex_rvdec.specs.Places.{place_of_unit}
 use Rattle.tomex_config.specs.Configuration.{Configuration}
 use Rattle.tomex_reservations.specs.Reservations.{Reserved, bus_line, is_left, taken_at, taken_with}
 use Rattle.tomex_timing.specs.Ahead.{TakesBus, one}

@@ -18,8 +18,8 @@ pub not_found : (c : goal.After-from_residual)
     → IsMeant (with_operands c.args.op c.args.rd c.args.rs1 c.args.rs2 c.args.imm) → ⊥
 not_found c =
     finds_none (with_operands c.args.op c.args.rd c.args.rs1 c.args.rs2 c.args.imm) c.word_of-word.result
-        c.decode.result (λ w m. c.word_of-word.ensures w (rw (c.from.ensures, c.from-2.ensures, c.from-3.ensures) m))
-        c.decode.ensures.none c.in_err-instr.was
+    c.decode.result (λ w m. c.word_of-word.ensures w (rw (c.from.ensures, c.from-2.ensures, c.from-3.ensures) m))
+    c.decode.ensures.none c.in_err-instr.was
 
 pub returns-in_err-instr-clause-none : goal.returns-in_err-instr-clause-none
 returns-in_err-instr-clause-none c = rw c.from_residual.ensures (not_found c)
@@ -31,9 +31,9 @@ another : (c : goal.Else-has_parts)
     → IsMeant (with_operands c.args.op c.args.rd c.args.rs1 c.args.rs2 c.args.imm) → ⊥
 another c meant =
     c.has_parts.ensures.other c.if-has_parts.false
-        (is_the_meant (with_operands c.args.op c.args.rd c.args.rs1 c.args.rs2 c.args.imm) _ c.word_of-word.result
-            (λ w m. c.word_of-word.ensures w (rw (c.from.ensures, c.from-2.ensures, c.from-3.ensures) m))
-            c.in_ok-instr.ensures.some meant)
+    (is_the_meant (with_operands c.args.op c.args.rd c.args.rs1 c.args.rs2 c.args.imm) _ c.word_of-word.result
+    (λ w m. c.word_of-word.ensures w (rw (c.from.ensures, c.from-2.ensures, c.from-3.ensures) m))
+    c.in_ok-instr.ensures.some meant)
 
 pub returns-else-has_parts-clause-none : goal.returns-else-has_parts-clause-none
 returns-else-has_parts-clause-none c = another c

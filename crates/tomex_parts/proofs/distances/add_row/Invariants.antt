@@ -1,9 +1,0 @@
-use Rattle.std.proofs.Common.{◌≡◌, ℕ, List, drop, length}
-use Rattle.tomex_parts.specs.Counts.{IsSparse}
-use Rattle.tomex_parts.proofs.Overlap.{IsAdding}
-use Rattle.tomex_parts.proofs.distances.add_row.Given as goal
-
-abbrev pub invariant-loop-entry : goal.invariant-loop-entry
-invariant-loop-entry l =
-    (counts : List ℕ) → IsSparse l.row counts → length counts ≡ length l.initial.sums
-    → IsAdding (drop l.entry-index l.row) counts l.initial.sums l.sums

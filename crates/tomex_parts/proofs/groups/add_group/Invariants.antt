@@ -1,7 +1,0 @@
-use Rattle.tomex_parts.specs.Near.{AreGroupSums}
-use Rattle.tomex_parts.specs.Stretches.{Run}
-use Rattle.tomex_parts.specs.Tallied.{AreOf}
-use Rattle.tomex_parts.proofs.groups.add_group.Given as goal
-
-abbrev pub invariant-loop-k : goal.invariant-loop-k
-invariant-loop-k g l = (run : Run) → AreOf run l.stretches → AreGroupSums run l.near l.leader l.k l.sums

@@ -1,5 +1,0 @@
-use Rattle.tomex_parts.proofs.Approached.{AreApproached}
-use Rattle.tomex_parts.proofs.nearness.approach.Given as goal
-
-abbrev pub invariant-loop-k : goal.invariant-loop-k
-invariant-loop-k g l = AreApproached l.k l.counts.items l.stretches l.leader l.fn.near.items l.near.items
