@@ -15,8 +15,8 @@ import functools, glob, os, re, sys, textwrap
 
 os.chdir(os.path.join(os.path.dirname(os.path.abspath(__file__)), ".."))
 
-BOUNDS = {"crates of the product": 64, "above tomex_cycle": 4}
-PATHS = {"tomex_command": 7100, "tomex_page": 2600}
+BOUNDS = {"crates of the product": 68, "above tomex_cycle": 4}
+PATHS = {"tomex_command": 4200, "tomex_page": 610}
 MOST_FUNCTIONS = 100
 # What a worker does with what it shares: no lock, so nothing that may wait.
 WAIT_FOR_NOBODY = ["tomex_board", "tomex_lanes", "tomex_plateaus", "tomex_workers"]
