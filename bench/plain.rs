@@ -2023,10 +2023,84 @@ impl Plateau {
     }
 }
 
+/// Plateaus on which the same fields have one value each, found by these values in a table of their places.
+struct Group {
+    /// All bits of a field that has one value, none of the others.
+    mask: [u8; FIELDS],
+    slots: Vec<u32>,
+    count: usize,
+}
+
+/// No place.
+const EMPTY: u32 = u32::MAX;
+
+impl Group {
+    fn new(mask: [u8; FIELDS]) -> Group {
+        Group {
+            mask,
+            slots: vec![EMPTY; 16],
+            count: 0,
+        }
+    }
+
+    /// The slot at which the search for a configuration begins.
+    fn first_slot(&self, fields: &[u8; FIELDS]) -> usize {
+        let mut words = [0u64; 3];
+        for (place, (field, mask)) in fields.iter().zip(&self.mask).enumerate() {
+            words[place / 8] |= u64::from(field & mask) << (8 * (place % 8));
+        }
+        let sum = words[0].wrapping_mul(0x9e37_79b9_7f4a_7c15)
+            ^ words[1].wrapping_mul(0xc2b2_ae3d_27d4_eb4f).rotate_left(32)
+            ^ words[2].wrapping_mul(0x1656_67b1_9e37_79f9);
+        (sum.wrapping_mul(0x9e37_79b9_7f4a_7c15) >> 40) as usize & (self.slots.len() - 1)
+    }
+
+    fn find(&self, plateaus: &[Plateau], config: &Configuration) -> Option<usize> {
+        let mut slot = self.first_slot(&config.fields);
+        while self.slots[slot] != EMPTY {
+            let place = self.slots[slot] as usize;
+            if plateaus[place].has(config) {
+                return Some(place);
+            }
+            slot = (slot + 1) & (self.slots.len() - 1);
+        }
+        None
+    }
+
+    fn add(&mut self, plateaus: &[Plateau], place: usize) {
+        self.count += 1;
+        if 2 * self.count > self.slots.len() {
+            let twice = vec![EMPTY; 2 * self.slots.len()];
+            for place in std::mem::replace(&mut self.slots, twice) {
+                if place != EMPTY {
+                    self.put(plateaus, place as usize);
+                }
+            }
+        }
+        self.put(plateaus, place);
+    }
+
+    fn put(&mut self, plateaus: &[Plateau], place: usize) {
+        let mut slot = self.first_slot(&plateaus[place].least);
+        while self.slots[slot] != EMPTY {
+            slot = (slot + 1) & (self.slots.len() - 1);
+        }
+        self.slots[slot] = place as u32;
+    }
+}
+
+/// The answers to so many rows before are tried first: in a grid the one so far back often has most choices of the next
+/// row.
+const HINTS: usize = 64;
+
 /// What a worker knows of a program.
 struct Knowledge<'a> {
     evaluator: Evaluator<'a>,
     plateaus: Vec<Plateau>,
+    groups: Vec<Group>,
+    /// The places of the last answers.
+    hints: [usize; HINTS],
+    asked: usize,
 }
 
 impl<'a> Knowledge<'a> {
@@ -2034,18 +2108,52 @@ impl<'a> Knowledge<'a> {
         Knowledge {
             evaluator: Evaluator::new(run),
             plateaus: vec![],
+            groups: vec![],
+            hints: [0; HINTS],
+            asked: 0,
         }
     }
 
-    fn cycles(&mut self, config: &Configuration) -> u64 {
-        // Rows that are next to each other are often on one plateau, so the newest come first.
-        let mut newest_first = self.plateaus.iter().rev();
-        if let Some(known) = newest_first.find(|plateau| plateau.has(config)) {
-            return known.cycles;
+    /// The place of a plateau on which a configuration lies. Groups that have one move forward.
+    fn find(&mut self, config: &Configuration) -> Option<usize> {
+        let now = self.asked % HINTS;
+        for hint in [self.hints[(now + HINTS - 1) % HINTS], self.hints[now]] {
+            if self.plateaus.get(hint).is_some_and(|it| it.has(config)) {
+                return Some(hint);
+            }
         }
+        for group in 0..self.groups.len() {
+            if let Some(place) = self.groups[group].find(&self.plateaus, config) {
+                self.groups.swap(group, group / 2);
+                return Some(place);
+            }
+        }
+        None
+    }
+
+    fn learn(&mut self, config: &Configuration) -> usize {
         let (cycles, demands) = self.evaluator.evaluate(config);
-        self.plateaus.push(Plateau::of(config, cycles, &demands));
-        cycles
+        let plateau = Plateau::of(config, cycles, &demands);
+        let mask = plateau.spans.map(|span| if span == 0 { u8::MAX } else { 0 });
+        let place = self.plateaus.len();
+        self.plateaus.push(plateau);
+        let group = self.groups.iter().position(|group| group.mask == mask);
+        let group = group.unwrap_or_else(|| {
+            self.groups.push(Group::new(mask));
+            self.groups.len() - 1
+        });
+        self.groups[group].add(&self.plateaus, place);
+        place
+    }
+
+    fn cycles(&mut self, config: &Configuration) -> u64 {
+        let place = match self.find(config) {
+            Some(place) => place,
+            None => self.learn(config),
+        };
+        self.hints[self.asked % HINTS] = place;
+        self.asked += 1;
+        self.plateaus[place].cycles
     }
 }
 
@@ -2056,16 +2164,20 @@ struct Survey(Vec<u64>);
 
 /// Fills a survey by workers, each of which takes the next few rows that nobody has. `new_worker`
 /// makes what finds the cycles of a program, by its number, on a configuration.
-fn survey<F>(study: &Study, workers: usize, new_worker: impl Fn() -> F + Sync) -> Survey
+fn survey<F>(
+    rows: &[Configuration],
+    programs: usize,
+    workers: usize,
+    new_worker: impl Fn() -> F + Sync,
+) -> Survey
 where
     F: FnMut(usize, &Configuration) -> u64,
 {
     const ROWS_AT_ONCE: usize = 4;
-    let programs = study.programs.len();
-    let mut totals = vec![0; study.rows.len() * programs];
+    let mut totals = vec![0; rows.len() * programs];
     let stretches = totals
         .chunks_mut(ROWS_AT_ONCE * programs)
-        .zip(study.rows.chunks(ROWS_AT_ONCE));
+        .zip(rows.chunks(ROWS_AT_ONCE));
     let stretches = Mutex::new(stretches);
     let work = || {
         let mut cycles_of = new_worker();
@@ -2090,9 +2202,9 @@ where
     Survey(totals)
 }
 
-/// By the machine that goes cycle by cycle.
-fn survey_by_machine(study: &Study, workers: usize) -> Survey {
-    survey(study, workers, || {
+/// Of these rows, by the machine that goes cycle by cycle.
+fn survey_by_machine(study: &Study, rows: &[Configuration], workers: usize) -> Survey {
+    survey(rows, study.programs.len(), workers, || {
         let images = study.programs.iter().map(|program| &program.image);
         let mut memories: Vec<(&Image, Memory)> =
             images.map(|image| (image, image.memory.clone())).collect();
@@ -2105,7 +2217,7 @@ fn survey_by_machine(study: &Study, workers: usize) -> Survey {
 
 /// By the recurrence, shared between rows.
 fn survey_by_recurrence(study: &Study, runs: &[Run], workers: usize) -> Survey {
-    survey(study, workers, || {
+    survey(&study.rows, runs.len(), workers, || {
         let mut knowledge: Vec<Knowledge> = runs.iter().map(Knowledge::new).collect();
         move |program, config| knowledge[program].cycles(config)
     })
@@ -2172,6 +2284,106 @@ fn hull(front: &[usize], rows: &[Configuration], cycles: &[u64]) -> Vec<(u64, u6
 
 // ---------------------------------------------------------------------------- Reports
 
+/// A record that is made without growing: each field ends with a comma, which the end of a record replaces.
+struct Line {
+    bytes: [u8; Line::MOST],
+    length: usize,
+}
+
+impl Line {
+    /// More than the numbers of a row, or a step, take. Lengths are cut to it, so that no bound needs a test.
+    const MOST: usize = 512;
+
+    fn new() -> Line {
+        Line {
+            bytes: [0; Line::MOST],
+            length: 0,
+        }
+    }
+
+    #[inline(always)]
+    fn push(&mut self, byte: u8) {
+        self.bytes[self.length % Line::MOST] = byte;
+        self.length += 1;
+    }
+
+    fn text(&mut self, text: &[u8]) {
+        self.bytes[self.length..self.length + text.len()].copy_from_slice(text);
+        self.length += text.len();
+    }
+
+    /// A number below 100.
+    #[inline(always)]
+    fn small(&mut self, number: u8) {
+        if number >= 10 {
+            self.push(b'0' + number / 10);
+        }
+        self.push(b'0' + number % 10);
+        self.push(b',');
+    }
+
+    #[inline(always)]
+    fn number(&mut self, number: u64) {
+        let mut digits = 1;
+        let mut rest = number;
+        while rest >= 10 {
+            rest /= 10;
+            digits += 1;
+        }
+        let mut place = self.length + digits;
+        self.length = place;
+        rest = number;
+        for _ in 0..digits {
+            place -= 1;
+            self.bytes[place % Line::MOST] = b'0' + (rest % 10) as u8;
+            rest /= 10;
+        }
+        self.push(b',');
+    }
+
+    fn row(&mut self, study: &Study, row: usize, cycles: u64) {
+        let config = &study.rows[row];
+        self.number(row as u64);
+        self.number(config.cost);
+        self.number(cycles);
+        for stations in &config.fields[..UNIT_PARTS] {
+            self.small(*stations);
+        }
+        for unit in 0..5 {
+            self.small(config.fields[UNIT_PARTS + unit]);
+            self.small(config.fields[PARTS + unit]);
+        }
+        self.number(config.buses() as u64);
+        if study.is_wide {
+            self.number(config.width() as u64);
+        }
+    }
+
+    fn times(&mut self, times: &Times) {
+        self.number(times.issue);
+        match times.address {
+            Some(address) => self.number(address),
+            None => self.text(b"-,"),
+        }
+        self.number(times.start);
+        self.number(times.finish);
+        self.number(times.end);
+        match times.station {
+            Some((pool, number)) => {
+                self.text(POOL_NAMES[pool as usize].as_bytes());
+                self.number(number as u64);
+            }
+            None => self.text(b"-,"),
+        }
+    }
+
+    /// The record.
+    fn ended(&mut self) -> &[u8] {
+        self.bytes[self.length - 1] = b'\n';
+        &self.bytes[..self.length]
+    }
+}
+
 /// A text of CSV: each field ends with a comma, which the end of a record replaces.
 struct Report(Vec<u8>);
 
@@ -2226,40 +2438,9 @@ impl Report {
     }
 
     fn row(&mut self, study: &Study, row: usize, cycles: u64) {
-        let config = &study.rows[row];
-        self.number(row as u64);
-        self.number(config.cost);
-        self.number(cycles);
-        for stations in &config.fields[..UNIT_PARTS] {
-            self.number(*stations as u64);
-        }
-        for unit in 0..5 {
-            self.number(config.units(unit) as u64);
-            self.number(config.latency(unit));
-        }
-        self.number(config.buses() as u64);
-        if study.is_wide {
-            self.number(config.width() as u64);
-        }
-    }
-
-    fn times(&mut self, times: &Times) {
-        self.number(times.issue);
-        match times.address {
-            Some(address) => self.number(address),
-            None => self.text("-"),
-        }
-        self.number(times.start);
-        self.number(times.finish);
-        self.number(times.end);
-        match times.station {
-            Some((pool, number)) => {
-                self.0
-                    .extend_from_slice(POOL_NAMES[pool as usize].as_bytes());
-                self.number(number as u64);
-            }
-            None => self.text("-"),
-        }
+        let mut line = Line::new();
+        line.row(study, row, cycles);
+        self.0.extend_from_slice(&line.bytes[..line.length]);
     }
 
     fn end_of_program(&mut self, program: &Program, end: &End) {
@@ -2293,8 +2474,17 @@ fn end_name(end: &End) -> &'static str {
     }
 }
 
-fn front_report(study: &Study, ends: &[End], survey: &Survey) -> Vec<u8> {
+/// A report of the front. `again` makes the survey of its rows, in their order.
+fn front_report(
+    study: &Study,
+    ends: &[End],
+    survey: &Survey,
+    again: impl Fn(&[Configuration]) -> Option<Survey>,
+) -> Vec<u8> {
     let cycles = survey.cycles(study);
+    let front = front(&study.rows, &cycles);
+    let rows: Vec<Configuration> = front.iter().map(|row| study.rows[*row]).collect();
+    let again = again(&rows);
     let mut report = Report::of_rows(study);
     report.text("program");
     if study.is_wide {
@@ -2302,15 +2492,19 @@ fn front_report(study: &Study, ends: &[End], survey: &Survey) -> Vec<u8> {
     }
     report.texts(&["steps", "program_cycles", "end", "regs", "watch"]);
     report.end_record();
-    for row in front(&study.rows, &cycles) {
+    for (place, row) in front.into_iter().enumerate() {
         for (index, program) in study.programs.iter().enumerate() {
+            let total = match &again {
+                Some(again) => again.0[place * study.programs.len() + index],
+                None => survey.0[row * study.programs.len() + index],
+            };
             report.row(study, row, cycles[row]);
             report.text(&program.name);
             if study.is_wide {
                 report.number(program.weight);
             }
             report.number(ends[index].steps as u64);
-            report.number(survey.0[row * study.programs.len() + index]);
+            report.number(total);
             report.end_of_program(program, &ends[index]);
             report.end_record();
         }
@@ -2327,7 +2521,9 @@ fn rows_report(study: &Study, survey: &Survey) -> Vec<u8> {
     for row in front {
         let point = (study.rows[row].cost, cycles[row]);
         is_on_front[row] = true;
-        is_on_hull[row] = hull.binary_search_by_key(&point.0, |on| on.0).is_ok_and(|at| hull[at] == point);
+        is_on_hull[row] = hull
+            .binary_search_by_key(&point.0, |on| on.0)
+            .is_ok_and(|at| hull[at] == point);
     }
     let mut report = Report::of_rows(study);
     for program in &study.programs {
@@ -2336,14 +2532,16 @@ fn rows_report(study: &Study, survey: &Survey) -> Vec<u8> {
     report.text("front");
     report.text("hull");
     report.end_record();
+    report.0.reserve(study.rows.len() * 80);
     for (row, totals) in survey.0.chunks(study.programs.len()).enumerate() {
-        report.row(study, row, cycles[row]);
+        let mut line = Line::new();
+        line.row(study, row, cycles[row]);
         for total in totals {
-            report.number(*total);
+            line.number(*total);
         }
-        report.number(is_on_front[row] as u64);
-        report.number(is_on_hull[row] as u64);
-        report.end_record();
+        line.small(is_on_front[row] as u8);
+        line.small(is_on_hull[row] as u8);
+        report.0.extend_from_slice(line.ended());
     }
     report.0
 }
@@ -2375,19 +2573,23 @@ fn times_text(study: &Study, row: &str, program: &str) -> Result<Vec<u8>, Refusa
         places.push((pc - image.memory.base) as usize / 4);
     })?;
     // A step's text is that of its place in the program, so each is made once.
-    let mut texts = vec![None; image.code.len()];
+    let mut texts: Vec<Option<Vec<u8>>> = vec![None; image.code.len()];
     let (mut state, mut demands) = (State::new(), Demands::default());
     let mut report = Report(b"step,pc,instr,issue,addr,start,finish,end,station\n".to_vec());
+    report.0.reserve(64 * trace.steps.len());
     for (index, (step, place)) in trace.steps.iter().zip(places).enumerate() {
-        let pc = image.memory.base + 4 * place as u32;
-        let (pc, text) =
-            texts[place].get_or_insert_with(|| (format!("{pc:08x}"), image.code[place].text()));
+        let text = texts[place].get_or_insert_with(|| {
+            let mut text = Report(vec![]);
+            text.text(&format!("{:08x}", image.memory.base + 4 * place as u32));
+            text.text(&image.code[place].text());
+            text.0
+        });
         let times = state.step(step, &trace.accesses, config, &mut demands);
-        report.number(index as u64 + 1);
-        report.text(pc);
-        report.text(text);
-        report.times(&times);
-        report.end_record();
+        let mut line = Line::new();
+        line.number(index as u64 + 1);
+        line.text(text);
+        line.times(&times);
+        report.0.extend_from_slice(line.ended());
     }
     report.0.extend_from_slice(b"total,-,-,-,-,-,-,");
     report.number(state.last_end);
@@ -2399,15 +2601,18 @@ fn times_text(study: &Study, row: &str, program: &str) -> Result<Vec<u8>, Refusa
 fn all_text(study: &Study, workers: usize) -> Result<Vec<u8>, Refusal> {
     let ends = study.programs.iter().map(Program::end);
     let ends: Vec<End> = ends.collect::<Result<_, _>>()?;
-    let survey = survey_by_machine(study, workers);
-    Ok(front_report(study, &ends, &survey))
+    let survey = survey_by_machine(study, &study.rows, workers);
+    Ok(front_report(study, &ends, &survey, |_| None))
 }
 
+/// As tomex does, the machine runs the front again.
 fn explore_text(study: &Study, workers: usize) -> Result<Vec<u8>, Refusal> {
     let runs = Run::all(study)?;
     let survey = survey_by_recurrence(study, &runs, workers);
     let ends: Vec<End> = runs.into_iter().map(|run| run.end).collect();
-    Ok(front_report(study, &ends, &survey))
+    Ok(front_report(study, &ends, &survey, |rows| {
+        Some(survey_by_machine(study, rows, workers))
+    }))
 }
 
 fn rows_text(study: &Study, workers: usize) -> Result<Vec<u8>, Refusal> {
