@@ -14,7 +14,7 @@
 //! `all` runs each configuration on the machine that goes cycle by cycle. `explore` and `rows`
 //! evaluate the recurrence instead: one evaluation serves all configurations that differ only in
 //! what the program never waited for, and in it a block of the program that comes back in a known
-//! state isn't evaluated again. `check` compares the machine, the recurrence and the recurrence by
+//! state isn't evaluated again. `explore` then runs the front on the machine too. `check` compares the machine, the recurrence and the recurrence by
 //! blocks on each configuration. The rules of the machine are in docs/MACHINE.md.
 //!
 //! Inputs are trusted to be right: what tomex refuses may be taken here. Of TOML it reads as much
