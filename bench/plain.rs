@@ -2134,7 +2134,9 @@ impl<'a> Knowledge<'a> {
     fn learn(&mut self, config: &Configuration) -> usize {
         let (cycles, demands) = self.evaluator.evaluate(config);
         let plateau = Plateau::of(config, cycles, &demands);
-        let mask = plateau.spans.map(|span| if span == 0 { u8::MAX } else { 0 });
+        let mask = plateau
+            .spans
+            .map(|span| if span == 0 { u8::MAX } else { 0 });
         let place = self.plateaus.len();
         self.plateaus.push(plateau);
         let group = self.groups.iter().position(|group| group.mask == mask);
