@@ -4,8 +4,9 @@
 use std::alloc::{AllocError, Global};
 use std::sync::Wait;
 use std::thread::Threads;
+use tomex_document::read_study;
 use tomex_image::{Image, Window, load};
-use tomex_report::{answer, answer_all, read_study};
+use tomex_report::{answer, answer_all};
 use tomex_sweep::{
     Gate, Mark, OpenGate, Stacks, Study, SweepError, UsualStacks, explore_on, run_all,
 };

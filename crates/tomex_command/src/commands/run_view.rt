@@ -14,8 +14,8 @@ use crate::failure::Failure;
 use std::alloc::{Allocator, Global};
 use tomex_command_line::{AnimateLine, OneRun, PathLine, PipelineLine, StallsLine, TablesLine};
 use tomex_loop_views::loops_report;
-use tomex_report::times_report;
 use tomex_streams::Files;
+use tomex_texts::times_report;
 
 /// A view of a run: the run, and what of it is asked for.
 #[derive(Clone, Copy)]

@@ -5,7 +5,7 @@ ghost use Rattle.tomex_command.specs.StudyFiles.{AreSources, IsStudyIn, IsStudyF
 use super::reading::{read, read_all};
 use crate::failure::Failure;
 use std::alloc::{Allocator, Global};
-use tomex_report::{file_names, read_study};
+use tomex_document::{file_names, read_study};
 use tomex_streams::Files;
 use tomex_study::Study;
 
@@ -44,8 +44,8 @@ pub fn sources_in<F: Files, A: Allocator + Clone>(
     })
 }
 
-/// The study of a file, and of the files that it names.
-pub fn study_in<F: Files, A: Allocator + Clone>(
+/// The study of the file of this name, and of the files that it names.
+pub fn study_named<F: Files, A: Allocator + Clone>(
     alloc: A,
     heap: Global,
     files: &F,

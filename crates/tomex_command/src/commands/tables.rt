@@ -9,7 +9,7 @@ use crate::failure::Failure;
 use std::alloc::Allocator;
 use tomex_command_line::TablesLine;
 use tomex_cycle::Machine;
-use tomex_report::tables_text;
+use tomex_texts::tables_text;
 
 /// The text of the tables after a cycle of a program's run on a configuration. The machine stops at the end of the run,
 /// so a cycle that it doesn't reach is past the end.

@@ -3,10 +3,11 @@
 use crate::answers::{granted, study_in};
 use std::alloc::{AllocError, Global};
 use std::test::Fail;
-use tomex_report::{file_names, times_report};
+use tomex_document::file_names;
 use tomex_tests_fixtures::programs::PRODUCT;
 use tomex_tests_fixtures::studies::PRODUCT_STUDY;
 use tomex_tests_fixtures::{Heap, ample, refusals_of};
+use tomex_texts::times_report;
 
 /// The file of the product.
 static PRODUCT_ALONE: [&[u8]; 1] = [PRODUCT];

@@ -6,10 +6,10 @@ use std::test::Fail;
 use tomex_config::Config;
 use tomex_cycle::Machine;
 use tomex_image::Image;
-use tomex_report::tables_text;
 use tomex_tests_fixtures::machines::one_unit_each;
 use tomex_tests_fixtures::programs::PRODUCT;
 use tomex_tests_fixtures::{Heap, ample, refusals_of};
+use tomex_texts::tables_text;
 
 /// True if there is memory for a machine, and for the text of its tables after 3 cycles.
 fn is_shown(heap: Heap, image: &Image<Heap>, config: &Config) -> Result<bool, AllocError> {
