@@ -1,8 +1,8 @@
 -- The failure if no configuration of a study has the choices.
 use Rattle.std.proofs.Common.{◌≡◌, ℕ, List, subst, sym}
-use Rattle.tomex_front_views.specs.Find.{IsNotFound}
-use Rattle.tomex_front_views.specs.declared.finding.FindError.{FindError}
-use Rattle.tomex_front_views.specs.declared.finding.FindError.TheVariants.{NoSuchChoice, NoSuchRow, Memory}
+use Rattle.tomex_find.specs.Find.{IsNotFound}
+use Rattle.tomex_find.specs.declared.finding.FindError.{FindError}
+use Rattle.tomex_find.specs.declared.finding.FindError.TheVariants.{NoSuchChoice, NoSuchRow, Memory}
 use Rattle.tomex_study.specs.Study.{DesignSpace}
 use Rattle.tomex_command.specs.FindLines.{IsFindFailure, words_of}
 use Rattle.tomex_command.specs.Statuses.{failure_of_search}

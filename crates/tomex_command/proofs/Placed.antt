@@ -8,9 +8,9 @@ use Rattle.tomex_study.specs.Program.{Workload}
 use Rattle.tomex_study.specs.Study.{DesignSpace}
 use Rattle.tomex_document.specs.Study.{AreProgramsOf}
 use Rattle.tomex_document.specs.Program.{ProgramEntry}
-use Rattle.tomex_front_views.specs.RowName.{IsNoRow, row_named}
-use Rattle.tomex_front_views.specs.declared.row_name.RowError.{RowError}
-use Rattle.tomex_front_views.specs.declared.row_name.RowError.TheVariants as rows
+use Rattle.tomex_find.specs.RowName.{IsNoRow, row_named}
+use Rattle.tomex_find.specs.declared.row_name.RowError.{RowError}
+use Rattle.tomex_find.specs.declared.row_name.RowError.TheVariants as rows
 use Rattle.tomex_views.proofs.Placed.{none_found}
 use Rattle.tomex_streams.specs.Files.{Known}
 use Rattle.tomex_command_line.specs.declared.line.one_run.OneRun.{OneRun}

@@ -8,10 +8,10 @@ use Rattle.tomex_rvexec.specs.declared.step.Step.{Step}
 use Rattle.tomex_config.specs.Configuration.{Configuration}
 use Rattle.tomex_study.specs.Program.{Workload}
 use Rattle.tomex_study.specs.Study.{DesignSpace, program_named}
-use Rattle.tomex_front_views.specs.RowName.{IsNoRow, row_named}
-use Rattle.tomex_front_views.specs.declared.row_name.RowError.TheVariants as rows
-use Rattle.tomex_front_views.specs.declared.row_name.RowName.{RowName}
-use Rattle.tomex_front_views.specs.declared.row_name.RowName.TheVariants as names
+use Rattle.tomex_find.specs.RowName.{IsNoRow, row_named}
+use Rattle.tomex_find.specs.declared.row_name.RowError.TheVariants as rows
+use Rattle.tomex_find.specs.declared.row_name.RowName.{RowName}
+use Rattle.tomex_find.specs.declared.row_name.RowName.TheVariants as names
 use Rattle.tomex_command.specs.declared.commands.chosen.ChosenRun.{ChosenRun}
 use Rattle.tomex_command.specs.declared.failure.Failure.{Failure}
 use Rattle.tomex_command.specs.declared.failure.Failure.TheVariants.{NoSuchChoice, NoSuchRow, SeveralRows}

@@ -1,6 +1,6 @@
 -- The result of a line that asks for the configurations with some choices.
 use Rattle.std.specs.Prelude.{◌≡◌, ℕ, List, Some, map, string_bytes}
-use Rattle.tomex_front_views.specs.Find.{IsFound, IsWithoutRow, first_unhad}
+use Rattle.tomex_find.specs.Find.{IsFound, IsWithoutRow, first_unhad}
 use Rattle.tomex_study.specs.Study.{DesignSpace}
 use Rattle.tomex_command.specs.declared.failure.Failure.{Failure}
 use Rattle.tomex_command.specs.declared.failure.Failure.TheVariants.{NoSuchChoice, NoSuchRow}

@@ -11,10 +11,10 @@ use Rattle.tomex_cut.specs.declared.error.CutError.{CutError}
 use Rattle.tomex_cut.specs.declared.error.CutError.TheVariants as cuts
 use Rattle.tomex_image.specs.declared.error.ImageError.{ImageError}
 use Rattle.tomex_image.specs.declared.error.ImageError.TheVariants as images
-use Rattle.tomex_front_views.specs.declared.finding.FindError.{FindError}
-use Rattle.tomex_front_views.specs.declared.finding.FindError.TheVariants as searches
-use Rattle.tomex_front_views.specs.declared.row_name.RowError.{RowError}
-use Rattle.tomex_front_views.specs.declared.row_name.RowError.TheVariants as rows
+use Rattle.tomex_find.specs.declared.finding.FindError.{FindError}
+use Rattle.tomex_find.specs.declared.finding.FindError.TheVariants as searches
+use Rattle.tomex_find.specs.declared.row_name.RowError.{RowError}
+use Rattle.tomex_find.specs.declared.row_name.RowError.TheVariants as rows
 use Rattle.tomex_functions.specs.declared.functions_error.FunctionsError.{FunctionsError}
 use Rattle.tomex_functions.specs.declared.functions_error.FunctionsError.TheVariants as functions
 use Rattle.tomex_samples.specs.declared.error.PartsError.{PartsError}

@@ -12,7 +12,7 @@ use std::alloc::{AllocError, AllocFailed};
 use tomex_animate::AnimationError;
 use tomex_cut::CutError;
 use tomex_document::StudyError;
-use tomex_front_views::{FindError, RowError};
+use tomex_find::{FindError, RowError};
 use tomex_functions::FunctionsError;
 use tomex_image::ImageError;
 use tomex_refusals::ExplainError;

@@ -5,5 +5,3 @@ mod Rows
 mod Strokes
 mod Dotted
 mod Hulls
-mod FoundColumns
-mod FoundLoops

@@ -4,5 +4,3 @@ pub mod FrontTable
 pub mod Dots
 pub mod RowsPlot
 pub mod LinkedPlot
-pub mod Find
-pub mod RowName

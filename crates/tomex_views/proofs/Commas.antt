@@ -15,8 +15,8 @@ use Rattle.tomex_config.specs.declared.setting.Setting.{Setting}
 use Rattle.tomex_config.specs.declared.setting.Setting.TheVariants.{Count, Latency}
 use Rattle.tomex_layout.specs.Lists.{name_of_setting}
 use Rattle.tomex_study.specs.Study.{DesignSpace, config_at}
-use Rattle.tomex_front_views.specs.Find.{has_all, has_choice}
-use Rattle.tomex_front_views.specs.RowName.{choices_in}
+use Rattle.tomex_find.specs.Find.{has_all, has_choice}
+use Rattle.tomex_find.specs.RowName.{choices_in}
 use Rattle.tomex_views.proofs.Numbers.{decimal_digits, is_digit}
 
 abbrev Lacks : List ℕ → Type 0

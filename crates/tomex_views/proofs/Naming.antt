@@ -19,9 +19,9 @@ use Rattle.tomex_layout.specs.Lists.{name_of_setting}
 use Rattle.tomex_layout.specs.Table.{TableColumn}
 use Rattle.tomex_layout.proofs.Each.{all_flat_map, all_if}
 use Rattle.tomex_study.specs.Study.{DesignSpace, IsStudy, config_at}
-use Rattle.tomex_front_views.specs.Find.{column_of, columns_of, found_in, has_all, has_choice, row_numbers}
-use Rattle.tomex_front_views.specs.Find.{setting_columns}
-use Rattle.tomex_front_views.specs.RowName.{choices_in, only_one}
+use Rattle.tomex_find.specs.Find.{column_of, columns_of, found_in, has_all, has_choice, row_numbers}
+use Rattle.tomex_find.specs.Find.{setting_columns}
+use Rattle.tomex_find.specs.RowName.{choices_in, only_one}
 use Rattle.tomex_views.specs.FindLaws.{Name, choice_in, choices_of_line, number_choice}
 use Rattle.tomex_views.proofs.Commas.{choices_back}
 use Rattle.tomex_views.proofs.Members.{all_fails, all_same, any_has, below, only_in}

@@ -5,9 +5,9 @@ use Rattle.std.specs.Fmt.{decimal}
 use Rattle.std.specs.List.{join_with_byte}
 use Rattle.tomex_study.specs.Study.{DesignSpace}
 use Rattle.tomex_layout.specs.Table.{TableColumn}
-use Rattle.tomex_front_views.specs.Find.{columns_of}
-use Rattle.tomex_front_views.specs.RowName.{row_named}
-use Rattle.tomex_front_views.specs.declared.row_name.RowName.TheVariants.{Choices}
+use Rattle.tomex_find.specs.Find.{columns_of}
+use Rattle.tomex_find.specs.RowName.{row_named}
+use Rattle.tomex_find.specs.declared.row_name.RowName.TheVariants.{Choices}
 
 -- these choices, joined by commas, are a name of the row k, and so of no other
 abbrev pub Name : DesignSpace → List (List ℕ) → ℕ → Type 0

@@ -7,10 +7,10 @@ use Rattle.tomex_study.specs.Study.{DesignSpace}
 use Rattle.tomex_document.specs.Study.{IsStudyOf, IsStudyRefusal}
 use Rattle.tomex_front_views.specs.FrontTable.{front_table_of, hull_table_of}
 use Rattle.tomex_front_views.specs.Plot.{front_picture_of}
-use Rattle.tomex_front_views.specs.RowName.{IsNoRow, row_named}
+use Rattle.tomex_find.specs.RowName.{IsNoRow, row_named}
 use Rattle.tomex_front_views.specs.RowsPlot.{rows_picture_of}
-use Rattle.tomex_front_views.specs.declared.row_name.RowError.{RowError}
-use Rattle.tomex_front_views.specs.declared.row_name.RowError.TheVariants as rows
+use Rattle.tomex_find.specs.declared.row_name.RowError.{RowError}
+use Rattle.tomex_find.specs.declared.row_name.RowError.TheVariants as rows
 use Rattle.tomex_texts.specs.RowsReport.{rows_text_of}
 use Rattle.tomex_worth.specs.Worth.{worth_table_of}
 use Rattle.tomex_worth.specs.WorthCsv.{worth_csv_of}

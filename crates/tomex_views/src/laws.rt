@@ -4,7 +4,7 @@
 
 ghost use Rattle.std.specs.Prelude.{◌≡◌, ◌<◌, ℕ, List, All, Contains, length, slice_index, true};
 ghost use Rattle.tomex_study.specs.Study.{DesignSpace, IsStudy};
-ghost use Rattle.tomex_front_views.specs.Find.{found_in, has_all};
+ghost use Rattle.tomex_find.specs.Find.{found_in, has_all};
 ghost use Rattle.tomex_views.specs.FindLaws.{Name, choices_of_line, number_choice};
 ghost use Rattle.tomex_views.specs.PricesLaws.{CsvIsTheTables};
 

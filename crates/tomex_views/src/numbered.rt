@@ -7,7 +7,7 @@ ghost use Rattle.tomex_views.specs.declared.view_error.ViewError.{ViewError};
 use crate::study_view::SurveyView;
 use crate::view_error::ViewError;
 use std::alloc::{Allocator, Global};
-use tomex_front_views::{RowName, row_named};
+use tomex_find::{RowName, row_named};
 use tomex_study::Study;
 
 /// The view with its row by number. A row's choices are looked for once, before any row is evaluated.

@@ -1,6 +1,6 @@
 //! The views of a study.
 
-use tomex_front_views::RowName;
+use tomex_find::RowName;
 
 /// How a table is printed.
 #[derive(Clone, Copy)]

@@ -6,7 +6,7 @@ ghost use Rattle.tomex_views.specs.declared.view_error.ViewError.TheVariants.{Me
 
 use std::alloc::AllocError;
 use tomex_document::StudyError;
-use tomex_front_views::RowError;
+use tomex_find::RowError;
 use tomex_prices::PricesError;
 
 /// Why a study has no text in a view. It has no text of its own: whoever reports it writes that.

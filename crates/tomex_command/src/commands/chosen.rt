@@ -9,7 +9,7 @@ use crate::failure::Failure;
 use std::alloc::{Allocator, Global};
 use tomex_command_line::{ConfigName, OneRun};
 use tomex_config::Config;
-use tomex_front_views::{RowName, row_named};
+use tomex_find::{RowName, row_named};
 use tomex_study::{Program, Study};
 
 /// A configuration of a study with its number, a program that runs on it, and the bytes of the program's file.

@@ -6,7 +6,7 @@ use super::study::study_named;
 use crate::failure::Failure;
 use std::alloc::{Allocator, Global};
 use tomex_command_line::FindLine;
-use tomex_front_views::find_table;
+use tomex_find::find_table;
 use tomex_streams::Files;
 
 /// The text that `find` prints.

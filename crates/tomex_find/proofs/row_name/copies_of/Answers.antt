@@ -1,0 +1,7 @@
+-- Closed at once: searching by rules first takes long.
+use Rattle.std.proofs.Common.{arith}
+use Rattle.std.proofs.lemmas.Grind.{common_steps}
+use Rattle.tomex_find.proofs.row_name.copies_of.Goals as goal
+
+pub loop-word-preserved : goal.loop-word-preserved
+loop-word-preserved = grind (arith, common_steps)

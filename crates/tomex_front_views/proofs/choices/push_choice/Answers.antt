@@ -1,7 +1,0 @@
--- Closed at once: searching by rules first takes long.
-use Rattle.std.proofs.Common.{arith}
-use Rattle.std.proofs.lemmas.Grind.{common_steps}
-use Rattle.tomex_front_views.proofs.choices.push_choice.Goals as goal
-
-pub returns : goal.returns
-returns = grind (arith, common_steps)
