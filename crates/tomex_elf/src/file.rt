@@ -34,10 +34,7 @@ const NO_SECTIONS: SectionTable = SectionTable {
 };
 
 /// Appends two bytes for each number, the low one first.
-pub fn push_halves<A: Allocator>(
-    file: &mut Vec<u8, A>,
-    values: &[u16],
-) -> Result<(), AllocError>
+pub fn push_halves<A: Allocator>(file: &mut Vec<u8, A>, values: &[u16]) -> Result<(), AllocError>
     ensures { OnOk result (file.new.items ≡ file.old.items ++ halves values.now) }
 {
     for value in values {
@@ -47,10 +44,7 @@ pub fn push_halves<A: Allocator>(
 }
 
 /// Appends four bytes for each number, the low one first.
-pub fn push_words<A: Allocator>(
-    file: &mut Vec<u8, A>,
-    values: &[u32],
-) -> Result<(), AllocError>
+pub fn push_words<A: Allocator>(file: &mut Vec<u8, A>, values: &[u32]) -> Result<(), AllocError>
     ensures { OnOk result (file.new.items ≡ file.old.items ++ words values.now) }
 {
     for value in values {
