@@ -51,11 +51,19 @@ all_below p numbers place (suc count) =
     ∙ ap (fits_below p numbers) e
 
 -- the first 13 numbers are counts, the other 5 latencies
-pub all_fit : (p : Plateau) (numbers : List ℕ) → fits numbers p ≡ fits_below p numbers 18
+all_eighteen : (p : Plateau) (numbers : List ℕ) → fits numbers p ≡ fits_below p numbers 18
 unfolding fits_below places_from
-all_fit p numbers =
+all_eighteen p numbers =
     ap (λ (b : Bool). b && list_all (fits_at p numbers) (places_from 13 5)) (all_below p numbers 0 13)
     ∙ all_below p numbers 13 5
+
+-- the first sixteen and the last two
+pub all_fit : (p : Plateau) (numbers : List ℕ)
+    → (fits_below p numbers 16 && (fits_at p numbers 16 && fits_at p numbers 17)) ≡ fits numbers p
+unfolding fits_below
+all_fit p numbers =
+    sym (and_assoc (fits_below p numbers 16) (fits_at p numbers 16) (fits_at p numbers 17))
+    ∙ sym (all_eighteen p numbers)
 
 -- the ends of the intervals before a place were set
 pub record AreSplit (bounds : List Interval) (place : ℕ) (least most : List ℕ) : Type 0 where

@@ -1,8 +1,8 @@
 //! One plateau.
 
-ghost use Rattle.std.specs.Prelude.{◌≡◌, ◌<◌};
-ghost use Rattle.tomex_plateaus.specs.Plateaus.{bounds_of, counts_of, fits, lies_on, numbers_of, plateau_of};
-ghost use Rattle.tomex_plateaus.specs.Plateaus.{latency_for, place_of_count, stations_for, units_for};
+ghost use Rattle.std.specs.Prelude.{◌≡◌, ◌<◌, slice_index};
+ghost use Rattle.tomex_plateaus.specs.Plateaus.{bounds_of, counts_of, fits, interval_at, is_within, lies_on, numbers_of};
+ghost use Rattle.tomex_plateaus.specs.Plateaus.{latency_for, place_of_count, plateau_of, stations_for, units_for};
 
 use crate::interval::Interval;
 use tomex_config::{Config, Part};
@@ -131,17 +131,29 @@ impl Plateau {
         self.has_numbers(&numbers_of(config))
     }
 
-    /// True if the configuration with these numbers lies on it. All numbers are compared, without a jump, so that the
-    /// compiler compares many at once.
+    /// True if a number is in the plateau's interval at this place.
+    fn has_number(&self, numbers: &[u8; 18], place: usize) -> bool
+        requires { place < 18 }
+        ensures { result ≡ is_within (interval_at self.now place) (slice_index numbers.now place) }
+    {
+        let number = numbers[place];
+        (self.least[place] <= number) & (number <= self.most[place])
+    }
+
+    /// True if the configuration with these numbers lies on it. The first sixteen are compared without a jump, so that
+    /// the compiler compares all of them at once; few plateaus are left then.
+    #[inline(always)]
     pub(crate) fn has_numbers(&self, numbers: &[u8; 18]) -> bool
         ensures { result ≡ fits numbers.now self.now }
     {
         let mut has_all = true;
-        for place in 0..18 {
-            let number = numbers[place];
-            has_all = has_all & (self.least[place] <= number) & (number <= self.most[place]);
+        for place in 0..16 {
+            has_all = has_all & self.has_number(numbers, place);
         }
-        has_all
+        if !has_all {
+            return false;
+        }
+        self.has_number(numbers, 16) & self.has_number(numbers, 17)
     }
 
     /// The least count of a part on it.
