@@ -1,0 +1,9 @@
+//! An assembler: from a program in assembly to an ELF executable with symbols.
+#![tactic(auto)]
+
+mod first;
+mod refusal;
+mod second;
+
+pub use refusal::{AsmError, Refusal};
+pub use second::Second;
