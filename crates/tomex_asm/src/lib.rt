@@ -2,8 +2,10 @@
 #![tactic(auto)]
 
 mod first;
+mod program;
 mod refusal;
 mod second;
 
+pub use program::Program;
 pub use refusal::{AsmError, Refusal};
 pub use second::Second;
