@@ -1,0 +1,3 @@
+-- Definitions that contracts cite, in the order in which to read them.
+pub mod Assembled
+pub mod Found
