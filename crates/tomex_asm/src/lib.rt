@@ -1,11 +1,18 @@
 //! An assembler: from a program in assembly to an ELF executable with symbols.
 #![tactic(auto)]
 
+mod assembling;
+mod attributes;
+mod file;
 mod first;
 mod program;
 mod refusal;
 mod second;
+mod symbols;
 
+pub use assembling::assemble;
+pub use attributes::Attributes;
 pub use program::Program;
 pub use refusal::{AsmError, Refusal};
 pub use second::Second;
+pub use symbols::Symbol;

@@ -38,7 +38,7 @@ fn count_lines(text: &[u8]) -> usize
 }
 
 /// Where the sections are, once all lines are placed.
-fn frame_of(base: u32, position: Position) -> Frame
+pub(crate) fn frame_of(base: u32, position: Position) -> Frame
     requires { AreFew position }
     ensures { result ≡ frame_of base position }
 {
@@ -57,7 +57,8 @@ fn written_program<'a, A: Allocator + Clone>(
     placed: Placed<'a, A>,
 ) -> Result<Program<'a, A>, AsmError>
     requires { IsPlaced placed }
-    ensures { Gives (λ p. program_of p) result (written_program base text.now (state_of placed.entry)) }
+    ensures answer { Gives (λ p. program_of p) result (written_program base text.now (state_of placed.entry)) }
+    ensures placed { IfOk result (λ p. IsPlaced p.placed) }
 {
     if placed.position.text_size == 0 {
         return Err(AsmError::Refused(Refusal {
@@ -81,8 +82,9 @@ pub(crate) fn program_of<'a, A: Allocator + Clone>(
     base: u32,
     text: &'a [u8],
 ) -> Result<Program<'a, A>, AsmError>
-    ensures { Gives (λ p. program_of p) result
+    ensures answer { Gives (λ p. program_of p) result
         (after_places base text.now (place_lines base 1 (lines_from [] text.now) beginning)) }
+    ensures placed { IfOk result (λ p. IsPlaced p.placed) }
 {
     let placed = first_pass(alloc.clone()?, base, text)?;
     written_program(alloc, base, text, placed)

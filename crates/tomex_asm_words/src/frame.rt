@@ -33,7 +33,7 @@ impl Frame {
     }
 
     /// A number as memory has it, modulo 2^32.
-    pub(crate) fn word(self, number: Number) -> u32
+    pub fn word(self, number: Number) -> u32
         ensures { result ≡ word_in self number.section number.offset }
     {
         let word = wrapped(number.offset);
