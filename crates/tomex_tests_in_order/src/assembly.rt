@@ -1,6 +1,7 @@
 //! Texts in assembly: what is left without comments, the tokens, what lines say, and the first refusal. What they are
 //! compared with was worked out by hand, or is from golden cases that another assembler made.
 
+mod files;
 mod greatest;
 mod lines;
 mod refusals;
