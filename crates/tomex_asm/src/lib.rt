@@ -5,6 +5,7 @@ mod assembling;
 mod attributes;
 mod file;
 mod first;
+mod laws;
 mod program;
 mod refusal;
 mod second;
@@ -12,6 +13,7 @@ mod symbols;
 
 pub use assembling::assemble;
 pub use attributes::Attributes;
+pub use laws::halves_make_the_number;
 pub use program::Program;
 pub use refusal::{AsmError, Refusal};
 pub use second::Second;
