@@ -1,11 +1,11 @@
 -- One number of a part is asked, and all of them.
-use Rattle.std.proofs.Common.{◌≡◌, ℕ, suc, ◌+◌, ◌≤◌, ◌==◌, arith, ap, sym, refl, subst, ◌∙◌, List, []}
+use Rattle.std.proofs.Common.{◌≡◌, ℕ, suc, ◌+◌, ◌==◌, arith, ap, sym, refl, subst, ◌∙◌, List, []}
 use Rattle.std.proofs.Common.{◌∷◌}
 use Rattle.std.proofs.Common.{Bool, true, false, inl, inr, ◌⊎◌, cond, length, Option, Some, None}
-use Rattle.std.specs.Prelude.{max, min, nat_lt, take}
+use Rattle.std.specs.Prelude.{max, nat_lt}
 use Rattle.std.specs.List.{filter, flat_map, list_any, range_with_len}
 use Rattle.std.proofs.lemmas.Bool.{cases_Bool}
-use Rattle.std.proofs.lemmas.List.{length-map, length-take}
+use Rattle.std.proofs.lemmas.List.{length-map}
 use Rattle.tomex_config.specs.Configuration.{Configuration, IsWithinLimits, option_of, with_option}
 use Rattle.tomex_config.specs.Configuration.{latency_of}
 use Rattle.tomex_study.specs.Cycles.{totals_on}
