@@ -1,4 +1,7 @@
 //! An assembler: from a program in assembly to an ELF executable with symbols.
+//!
+//! Source: System V Application Binary Interface, "Sections" and "Symbol Table".
+//! Tests: tomex_tests_in_order.
 #![tactic(auto)]
 
 mod assembling;

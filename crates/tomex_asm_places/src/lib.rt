@@ -1,4 +1,5 @@
 //! Where a program's bytes and labels are: the first pass of the assembler.
+//! Tests: tomex_tests_in_order.
 #![tactic(auto)]
 
 mod placing;
