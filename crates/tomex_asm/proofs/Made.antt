@@ -30,7 +30,8 @@ made p f size entry locals symbols code contents none h m l fe se ee le ye ce oe
     three none h m l _ _ _ ne he me lf
     ∙ ap (λ (x : ℕ). parts p f size x locals symbols code contents) ee
     ∙ ap (λ (x : ℕ). parts p f size (entry_from f p.defined) x symbols code contents) le
-    ∙ ap (λ (x : List Symbol). parts p f size (entry_from f p.defined) (length (locals_of f p) % 2 ^ 32) x code contents)
+    ∙ ap (λ (x : List Symbol).
+    parts p f size (entry_from f p.defined) (length (locals_of f p) % 2 ^ 32) x code contents)
     ye
     ∙ ap (λ (x : List ℕ). parts p f size (entry_from f p.defined) (length (locals_of f p) % 2 ^ 32) (symbols_of f p) x
     contents) ce

@@ -1,6 +1,7 @@
 -- The file of a program: an ELF executable of 32 bits with its memory, five sections and its symbols (System V ABI,
 -- "Sections", "Symbol Table" and "String Table"). Numbers are of 32 bits, modulo 2 ^ 32.
-use Rattle.std.specs.Prelude.{ℕ, ◌+◌, ◌-◌, ◌*◌, ◌%◌, ◌^◌, List, [], ◌∷◌, ◌++◌, length, replicate, slice_index, take, codes}
+use Rattle.std.specs.Prelude.{ℕ, ◌+◌, ◌-◌, ◌*◌, ◌%◌, ◌^◌, List, [], ◌∷◌, ◌++◌, length, replicate, slice_index, take}
+use Rattle.std.specs.Prelude.{codes}
 use Rattle.std.specs.Prelude.{Bool, true, false, is_some, not, ◌&&◌, Option, Some, None, if◌then◌else◌}
 use Rattle.std.specs.Char.{is_ascii_digit}
 use Rattle.std.specs.Str.{bytes_eq}
@@ -75,7 +76,8 @@ is_local a = not (is_some a.binding)
 -- local symbols if the flag is set, else the others, in the order of the text
 abbrev pub is_chosen : Bool → List Remark → Definition → Bool
 is_chosen locals remarks d =
-    is_symbol d && (if locals then is_local (attributes_of d.word remarks) else not (is_local (attributes_of d.word remarks)))
+    is_symbol d
+    && (if locals then is_local (attributes_of d.word remarks) else not (is_local (attributes_of d.word remarks)))
 
 abbrev pub chosen : Bool → Frame → List Remark → List Definition → List Symbol
 chosen locals f remarks [] = []
@@ -118,7 +120,8 @@ names_end name (s ∷ ss) = names_end (after_name name s) ss
 -- `.text`, `.data`, `.symtab` and `.strtab`, each with a zero
 abbrev pub section_names : List ℕ
 section_names =
-    0x2e ∷ 0x74 ∷ 0x65 ∷ 0x78 ∷ 0x74 ∷ 0 ∷ 0x2e ∷ 0x64 ∷ 0x61 ∷ 0x74 ∷ 0x61 ∷ 0 ∷ 0x2e ∷ 0x73 ∷ 0x79 ∷ 0x6d ∷ 0x74 ∷ 0x61
+    0x2e ∷ 0x74 ∷ 0x65 ∷ 0x78 ∷ 0x74 ∷ 0 ∷ 0x2e ∷ 0x64 ∷ 0x61 ∷ 0x74 ∷ 0x61 ∷ 0 ∷ 0x2e ∷ 0x73 ∷ 0x79 ∷ 0x6d ∷ 0x74
+    ∷ 0x61
     ∷ 0x62 ∷ 0 ∷ 0x2e ∷ 0x73 ∷ 0x74 ∷ 0x72 ∷ 0x74 ∷ 0x61 ∷ 0x62 ∷ 0 ∷ []
 
 -- the memory: the text, the data, and zeros after each
@@ -170,7 +173,8 @@ listing f text contents start locals symbols =
 abbrev pub entry_from : Frame → List Definition → ℕ
 entry_from f [] = f.base
 entry_from f (d ∷ ds) =
-    if d.is_label && bytes_eq d.word (codes "_start") then word_in f d.number.section d.number.offset else entry_from f ds
+    if d.is_label && bytes_eq d.word (codes "_start") then word_in f d.number.section d.number.offset
+    else entry_from f ds
 
 abbrev pub sections : ℕ → SectionTable
 sections size = record { offset = (size + 84) % 2 ^ 32; header_size = 40; count = 5; names = 4 }

@@ -4,7 +4,8 @@ ghost use Rattle.std.specs.Prelude.{◌≡◌, ◌++◌, ◌≤◌, ◌∷◌, O
 ghost use Rattle.tomex_asm_numbers.specs.Indexed.{definition_of};
 ghost use Rattle.tomex_asm_places.specs.Positions.{AreFew};
 ghost use Rattle.tomex_asm.specs.File.{data_header, entries, file_of, listing, memory, names, names_end};
-ghost use Rattle.tomex_asm.specs.File.{names_header, section_headers, section_names, symbols_header, table_size, text_header};
+ghost use Rattle.tomex_asm.specs.File.{names_header, section_headers, section_names, symbols_header, table_size};
+ghost use Rattle.tomex_asm.specs.File.{text_header};
 ghost use Rattle.tomex_asm.specs.Found.{program_of};
 ghost use Rattle.tomex_asm.specs.Named.{symbol_of};
 

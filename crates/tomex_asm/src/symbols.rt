@@ -80,7 +80,8 @@ pub(crate) fn push_symbols<'a, A: Allocator + Clone>(
     index: &BTreeMap<&'a [u8], Attributes, A>,
     definitions: &[Definition<'a>],
 ) -> Result<(), AllocError>
-    ensures { OnOk result ((remarks : List Remark) → ((w : List ℕ) → attributes_at index.now w ≡ attributes_of w remarks)
+    ensures { OnOk result ((remarks : List Remark)
+        → ((w : List ℕ) → attributes_at index.now w ≡ attributes_of w remarks)
         → map symbol_of symbols.new.items
         ≡ map symbol_of symbols.old.items ++ chosen locals frame remarks (map definition_of definitions.now)) }
 {

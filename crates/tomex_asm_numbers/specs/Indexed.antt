@@ -34,5 +34,9 @@ module _ {A : Type 0} where
 
   -- a scope, as the definition sees it
   abbrev pub scope_of : coded_scope.Scope A → Scope
-  scope_of s =
-      record { above = definitions_in s.above.now; whole = definitions_in s.whole.now; here = s.here; missing = s.missing }
+  scope_of s = record {
+    above = definitions_in s.above.now;
+    whole = definitions_in s.whole.now;
+    here = s.here;
+    missing = s.missing;
+  }

@@ -1,5 +1,6 @@
 -- The distinct costs gathered, past those that are known to be among them.
-use Rattle.std.proofs.Common.{◌≡◌, ℕ, zero, suc, ◌+◌, ◌<◌, ◌≤◌, ◌∙◌, List, [], ◌∷◌, length, drop, get_or, Option, Some, None, ap}
+use Rattle.std.proofs.Common.{◌≡◌, ℕ, zero, suc, ◌+◌, ◌<◌, ◌≤◌, ◌∙◌, List, [], ◌∷◌, length, drop, get_or, Option}
+use Rattle.std.proofs.Common.{Some, None, ap}
 use Rattle.std.proofs.Common.{arith, refl, subst, sym}
 use Rattle.std.proofs.Common.{false, true, inl, inr}
 use Rattle.std.specs.Prelude.{◌==◌, not}

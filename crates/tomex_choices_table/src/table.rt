@@ -105,7 +105,8 @@ fn push_floors<A: Allocator>(text: &mut String<A>, floors: Floors) -> Result<(),
     text.push_str("\n")
 }
 
-/// The table of what was found out of lists, with a line for each, and then the line of the fewest cycles and the floors.
+/// The table of what was found out of lists, with a line for each, and then the line of the fewest cycles and the
+/// floors.
 ///
 /// Everything except the text is allocated in `heap`.
 #[tactic(auto, unfolding(crate::specs::ChoicesTable::choices_table_of))]

@@ -107,7 +107,8 @@ module _ {A : Type 0} (config : Configuration) (steps : List Step) (run : Blocks
   }
 
   module _ (i : ℕ) (places : List ℕ) (state : State A) (before after : Known A) (more : HasOneMore state before after)
-      (room : length before.states.items < 32) (can : CanBeKept config state) (shows : ShowsState config (history_to config steps i) state)
+      (room : length before.states.items < 32) (can : CanBeKept config state)
+      (shows : ShowsState config (history_to config steps i) state)
       (so : AreKnown config steps run i places before) where
     there : (v : ℕ) → v < length (places ++ (i ∷ [])) → (v < length places ⊎ (v ≡ length places))
     there v l =

@@ -1,5 +1,5 @@
-//! The configurations of a study that have some choices, each a name and a number: as a table, or the number of the only
-//! one, which the choices name.
+//! The configurations of a study that have some choices, each a name and a number: as a table, or the number of the
+//! only one, which the choices name.
 //! Tests: tomex_cases.
 #![tactic(auto)]
 

@@ -118,8 +118,8 @@ impl<'r, A: Allocator + Clone> Floored<'r, A> {
         }
     }
 
-    /// The run's floors, in cycles, for a configuration's latencies and the widths from 1 to 4. The first time that such
-    /// latencies are asked for, it is one walk over the run.
+    /// The run's floors, in cycles, for a configuration's latencies and the widths from 1 to 4. The first time that
+    /// such latencies are asked for, it is one walk over the run.
     pub fn floors_for(&mut self, alloc: &A, config: &Config) -> Result<[u64; 4], AllocError>
         ensures run { self.new ≡ self.old }
         ensures floors { IfOk result (λ f. f ≡ floors_by_width (latency_of config.now) self.old) }

@@ -22,6 +22,7 @@ choices_are_added lists floors name s =
       after = commands_help ++ page_end;
       page = ap (λ (z : List ℕ). page_start_of name s floors (length front) hull shown ++ z)
           (sym (append_assoc (views_text s hull shown) page_help (commands_help ++ page_end)));
-      with_choices = ap (λ (z : List ℕ). page_start_of name s floors (length front) hull shown ++ (choices_table s.prices lists ++ z))
+      with_choices = ap (λ (z : List ℕ).
+          page_start_of name s floors (length front) hull shown ++ (choices_table s.prices lists ++ z))
           (sym (append_assoc (views_text s hull shown) page_help (choices_help ++ (commands_help ++ page_end))));
     }

@@ -150,14 +150,14 @@ fn push_page<A: Allocator + Clone>(
 /// A study's report as a page: the picture of all rows, the programs and the lists of parts, the front, and a view for
 /// each row of the front, or for 64 of them if it has more.
 ///
-/// Beside the picture: how far the fastest row is from the floors, and which choices no row of the front has. In a row's
-/// view: its differences from the row before, its parts, the gains from changing one part, the prices with which it stays
-/// on the front, and for each program its floor, its stalls with those on its path, and the chart of its first
-/// instructions. With `choices`, also what choices that the lists lack would bring.
+/// Beside the picture: how far the fastest row is from the floors, and which choices no row of the front has. In a
+/// row's view: its differences from the row before, its parts, the gains from changing one part, the prices with which
+/// it stays on the front, and for each program its floor, its stalls with those on its path, and the chart of its
+/// first instructions. With `choices`, also what choices that the lists lack would bring.
 ///
 /// `name` is the study's, and may have any characters. `floored` are the runs of its programs. The work is that of two
-/// evaluations of each program on each row that is shown, and of two for each set of latencies that `floored` hasn't met.
-/// Small temporary data is allocated from `heap`.
+/// evaluations of each program on each row that is shown, and of two for each set of latencies that `floored` hasn't
+/// met. Small temporary data is allocated from `heap`.
 pub fn study_page<A: Allocator + Clone>(
     alloc: A,
     heap: Global,

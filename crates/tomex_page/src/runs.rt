@@ -113,8 +113,8 @@ fn push_run<A: Allocator, B: Allocator + Clone>(
     write!(text, "</div>\n")
 }
 
-/// Adds the runs of some programs on a configuration. `floored` are their runs: a floor is computed once for each set of
-/// latencies.
+/// Adds the runs of some programs on a configuration. `floored` are their runs: a floor is computed once for each set
+/// of latencies.
 pub fn push_runs<A: Allocator, B: Allocator + Clone>(
     text: &mut String<A>,
     alloc: &B,

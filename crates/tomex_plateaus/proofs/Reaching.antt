@@ -10,7 +10,8 @@ use Rattle.tomex_rvdec.specs.declared.pool.UnitId.{UnitId}
 use Rattle.tomex_rvdec.specs.declared.pool.UnitId.TheVariants as units
 use Rattle.tomex_rvdec.proofs.Places.{pool_low, unit_low}
 use Rattle.tomex_rvexec.specs.declared.step.Step.{Step}
-use Rattle.tomex_config.specs.Configuration.{Configuration, IsWithinLimits, is_between, most_units, option_of, plain_option}
+use Rattle.tomex_config.specs.Configuration.{Configuration, IsWithinLimits, is_between, most_units, option_of}
+use Rattle.tomex_config.specs.Configuration.{plain_option}
 use Rattle.tomex_config.specs.Cost.{all_units}
 use Rattle.tomex_config.specs.Parts.{all_parts, count_of, most_of, with_count}
 use Rattle.tomex_config.specs.declared.config.UnitOption.{UnitOption}
@@ -140,7 +141,8 @@ below_most : (config : Configuration) (part : Part) (n : ℕ) → IsWithinLimits
     → n < count_of config part → is_between 1 (most_of part) n ≡ true
 below_most config part n good some low =
     let high = at_most config part good in
-    and_from (nat_le 1 n) (nat_le n (most_of part)) (le-leb 1 n some) (le-leb n (most_of part) (omega (arith, low, high)))
+    and_from (nat_le 1 n) (nat_le n (most_of part)) (le-leb 1 n some)
+    (le-leb n (most_of part) (omega (arith, low, high)))
 
 -- so the run takes the same cycles down to the plateau's least
 pub same_from : (steps : List Step) (config : Configuration) (p : Plateau) (part : Part) → IsWithinLimits config
@@ -190,7 +192,8 @@ one_before programs lists config part low reach new place l up high is here same
           let good : IsProgram p = subst IsProgram (get_or_from_slice_get programs place p p it)
           (is.ends place p (slice_get_within programs place p it)) in
           total_within p (with_count config part n) good
-          ∙ subst (λ (xs : List Step). total_of (times_in (with_count config part n) xs) ≡ total_of (times_in config xs))
+          ∙ subst (λ (xs : List Step).
+          total_of (times_in (with_count config part n) xs) ≡ total_of (times_in config xs))
           steps (same n some (omega arith) within)
           ∙ sym (total_within p config good)
       | inr (inl less) ↦ before n some (omega arith) within k p less at

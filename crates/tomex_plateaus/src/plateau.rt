@@ -1,7 +1,8 @@
 //! One plateau.
 
 ghost use Rattle.std.specs.Prelude.{◌≡◌, ◌<◌, slice_index};
-ghost use Rattle.tomex_plateaus.specs.Plateaus.{bounds_of, counts_of, fits, interval_at, is_within, lies_on, numbers_of};
+ghost use Rattle.tomex_plateaus.specs.Plateaus.{bounds_of, counts_of, fits, interval_at, is_within, lies_on};
+ghost use Rattle.tomex_plateaus.specs.Plateaus.{numbers_of};
 ghost use Rattle.tomex_plateaus.specs.Plateaus.{latency_for, place_of_count, plateau_of, stations_for, units_for};
 
 use crate::interval::Interval;

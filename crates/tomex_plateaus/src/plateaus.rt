@@ -179,8 +179,8 @@ impl<'s, A: Allocator + Clone> Plateaus<'s, A> {
     /// Evaluates the program's run on a configuration, and keeps the plateau that its demands give.
     /// Returns the run's cycles. If out of memory, no plateau is lost.
     ///
-    /// The work is less than that of `times` if the program has loops: each block of steps is evaluated once in each state
-    /// in which the run is before it.
+    /// The work is less than that of `times` if the program has loops: each block of steps is evaluated once in each
+    /// state in which the run is before it.
     pub fn learn(&mut self, alloc: A, config: &Config) -> Result<u64, AllocError>
         ensures steps { self.new.steps ≡ self.old.steps }
         ensures total { IfOk result (λ n. total_of (times_in config.now self.old.steps) ≡ n) }

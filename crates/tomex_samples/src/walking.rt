@@ -76,8 +76,8 @@ fn take_step<'a, A: Allocator + Clone>(
     Ok(matches!(stepped, Stepped::Ended(_)))
 }
 
-/// Carries out the whole run from its start on, and tallies its stretches. `progress` hears of every million steps, and of
-/// how many there are at most.
+/// Carries out the whole run from its start on, and tallies its stretches. `progress` hears of every million steps,
+/// and of how many there are at most.
 fn tally_run<'a, A: Allocator + Clone, P: Progress>(
     alloc: &A,
     image: &Image<A>,

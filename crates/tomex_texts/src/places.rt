@@ -1,5 +1,5 @@
-//! Instructions at their addresses, as fields of the records of steps. The text of one is made once, as long as no other
-//! one takes its place in the table.
+//! Instructions at their addresses, as fields of the records of steps. The text of one is made once, as long as no
+//! other one takes its place in the table.
 
 ghost use Rattle.std.specs.Prelude.{◌≡◌, ◌++◌, ◌<◌, true, IfOk, IfSome, OnOk};
 ghost use Rattle.tomex_texts.specs.Places.{AreKept, place_text};

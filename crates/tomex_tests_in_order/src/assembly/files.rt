@@ -151,7 +151,8 @@ fn programs_without_memory(rt: HostRuntime) -> Result<(), Fail> {
     Ok(())
 }
 
-/// A text, the place of its first byte, a line and a column, both from 1, and what the program prints of a refusal there.
+/// A text, the place of its first byte, a line and a column, both from 1, and what the program prints of a refusal
+/// there.
 type Refused = (&'static [u8], u32, usize, usize, &'static str);
 
 static REFUSED: [Refused; 30] = [

@@ -36,8 +36,8 @@ fn shown_of_a_jump(other: Global, latency: u8, cycle: u64) -> Result<Vec<u8, Hea
     Ok(tables_text(ample(other)?, &machine.tables())?)
 }
 
-/// Latencies, cycles, and the texts of the tables after them: after a million, and after more than any run that ends may
-/// take, most of which are skipped.
+/// Latencies, cycles, and the texts of the tables after them: after a million, and after more than any run that ends
+/// may take, most of which are skipped.
 static AFTER: [(u8, u64, &str); 2] = [
     (
         1,

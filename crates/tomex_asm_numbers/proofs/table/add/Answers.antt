@@ -18,4 +18,5 @@ returns g c = λ q.
     (btree_map_updates_str w c.remove.new.self c.insert.new.self _ c.in_ok-insert.ensures.updates q)
     (λ (e : bytes_eq w q ≡ true).
     let same : w ≡ q = (bytes_eq-Decides w q).0 e in
-    ap (λ (x : List ℕ). get_by (λ k. slice_cmp nat_cmp x k.now) c.args.index.now) (sym same) ∙ sym c.remove.ensures.value)
+    ap (λ (x : List ℕ). get_by (λ k. slice_cmp nat_cmp x k.now) c.args.index.now) (sym same)
+    ∙ sym c.remove.ensures.value)

@@ -18,8 +18,8 @@ loop-place-preserved c =
     elim c.if-byte-eq92.branch [
       | then-byte-eq92 w ↦
           let next = w.next-is in
-          let same = ap length (meant_escape c.loop-place.next c.if-byte-eq92.next c.loop-place.place _ _ _ c.args.inner.now
-          _ c.loop-place-test.true c.if-place-next.false refl w.if-byte-eq92.true
+          let same = ap length (meant_escape c.loop-place.next c.if-byte-eq92.next c.loop-place.place _ _ _
+          c.args.inner.now _ c.loop-place-test.true c.if-place-next.false refl w.if-byte-eq92.true
           (take_rest c.args.inner.now (c.loop-place.place + 1)) w.escape_length.ensures.value refl next) in
           record { few = omega arith; all = omega arith }
       | else-byte-eq92 w ↦

@@ -11,8 +11,8 @@ invariant-loop-place g l =
       order : l.start ≤ l.place;
       few : l.before ≤ 255 * l.place;
       all :
-          joined l.bytes.items (values_on l.whole.frame l.position (scope_of l.whole.scope) l.line l.size l.before l.start
-          l.place l.values)
+          joined l.bytes.items (values_on l.whole.frame l.position (scope_of l.whole.scope) l.line l.size l.before
+          l.start l.place l.values)
           ≡ joined l.fn.bytes.items (values_from l.whole.frame l.position (scope_of l.whole.scope) l.line l.size 0 []
           l.values);
     }

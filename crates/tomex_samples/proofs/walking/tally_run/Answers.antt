@@ -5,7 +5,8 @@ use Rattle.std.specs.Prelude.{◌/◌, replicate}
 use Rattle.tomex_samples.specs.Stretches.{most_stretches, run_length}
 use Rattle.tomex_samples.specs.Tally.{lists}
 use Rattle.tomex_samples.proofs.Advance.{advance, found_none, passed}
-use Rattle.tomex_samples.proofs.Limits.{few_counts, few_stretches, limits_of, one_step_more, tallied_still, window_walked}
+use Rattle.tomex_samples.proofs.Limits.{few_counts, few_stretches, limits_of, one_step_more, tallied_still}
+use Rattle.tomex_samples.proofs.Limits.{window_walked}
 use Rattle.tomex_samples.proofs.Limits.{none_to_go, none_under_way, word_counted, words_walked}
 use Rattle.tomex_samples.proofs.Tallying.{tallied_none}
 use Rattle.tomex_samples.proofs.Walked.{length_fails, plus, walked_more, walked_start}
