@@ -1,6 +1,6 @@
-//! A watch that reports the steps of a long run to a meter.
+//! A follower that reports the steps of a long run to a meter.
 
-use tomex_cut::Progress;
+use tomex_cut::Follower;
 use tomex_streams::{Counted, Meter, Progress};
 
 /// Passes on how many steps of a run are taken.
@@ -10,7 +10,7 @@ pub struct Stepping<'a, M: Meter> {
     pub counted: Counted,
 }
 
-impl<'a, M: Meter> Progress for Stepping<'a, M> {
+impl<'a, M: Meter> Follower for Stepping<'a, M> {
     fn passed(&self, steps: u64, of: u64) {
         self.meter.show(Progress {
             done: steps,

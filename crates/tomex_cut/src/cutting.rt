@@ -11,7 +11,7 @@ ghost use Rattle.tomex_rvexec.specs.Run.{start_of};
 ghost use Rattle.tomex_symbols.specs.Symbols.{has_symbols};
 
 use crate::error::CutError;
-use crate::progress::Progress;
+use crate::follower::Follower;
 use crate::prologue::write_prologue;
 use crate::symbol_file::symbol_file_of;
 use crate::walking::{find_end, skip};
@@ -48,11 +48,11 @@ fn copy_memory<A: Allocator>(
 }
 
 /// The machine before step `from` of the run.
-fn reach<'a, A: Allocator, P: Progress>(
+fn reach<'a, A: Allocator, F: Follower>(
     alloc: A,
     image: &'a Image<A>,
     from: u64,
-    progress: &P,
+    follower: &F,
 ) -> Result<Cpu<'a, A>, CutError>
     ensures reached { IfOk result (λ s. after (start_of image.now) (from - 1) ≡ Ok s) }
     ensures state { IfOk result (λ s. IsState s) }
@@ -61,17 +61,17 @@ fn reach<'a, A: Allocator, P: Progress>(
 {
     image.fills_its_window();
     let mut cpu = Cpu::new(alloc, image)?;
-    skip(&mut cpu, from.saturating_sub(1), progress)?;
+    skip(&mut cpu, from.saturating_sub(1), follower)?;
     Ok(cpu)
 }
 
 /// Finds the part that begins with step `from` and has at least `least` steps.
-fn find_part<A: Allocator + Clone, P: Progress>(
+fn find_part<A: Allocator + Clone, F: Follower>(
     alloc: A,
     image: &Image<A>,
     from: u64,
     least: u32,
-    progress: &P,
+    follower: &F,
 ) -> Result<Part<A>, CutError>
     requires { (1 ≤ least) × (least ≤ most_part) }
     ensures ok { IfOk result (λ p. IsPartFound image.now from least p.pc p.registers p.memory p.end p.is_overwritten
@@ -80,7 +80,7 @@ fn find_part<A: Allocator + Clone, P: Progress>(
 {
     let window = image.window();
     window.keeps_limits();
-    let mut cpu = reach(alloc.clone()?, image, from, progress)?;
+    let mut cpu = reach(alloc.clone()?, image, from, follower)?;
     let (pc, registers) = (cpu.pc(), cpu.registers());
     let memory = copy_memory(alloc.clone()?, window, cpu.memory())?;
     let mut words = Words::new(alloc, window)?;
@@ -104,19 +104,19 @@ struct Entered<A: Allocator> {
 }
 
 /// Carries out the run up to the part and the part, and writes the prologue.
-fn enter_part<A: Allocator + Clone, P: Progress>(
+fn enter_part<A: Allocator + Clone, F: Follower>(
     alloc: A,
     image: &Image<A>,
     from: u64,
     least: u32,
-    progress: &P,
+    follower: &F,
 ) -> Result<Entered<A>, CutError>
     requires { (1 ≤ least) × (least ≤ most_part) }
     ensures ok { IfOk result (λ e. IsCutAt image.now from least e.entry e.memory) }
     ensures size { IfOk result (λ e. length e.memory.bytes ≤ 2 ^ 20) }
     ensures err { IfErr result (λ e. IsRefused image.now from least e) }
 {
-    let mut part = find_part(alloc, image, from, least, progress)?;
+    let mut part = find_part(alloc, image, from, least, follower)?;
     if part.is_overwritten {
         return Err(CutError::Overwritten);
     }
@@ -143,20 +143,20 @@ fn enter_part<A: Allocator + Clone, P: Progress>(
 /// The ELF file of the part of an image's run that begins with step `from`, the first being 1, and has at least `least`
 /// steps; fewer only if the run ends.
 ///
-/// The whole run before the part is carried out, and `progress` hears of every million of its steps. Allocates the
+/// The whole run before the part is carried out, and `follower` is called after every million of its steps. Allocates the
 /// memory's size twice, a quarter of it, and the file.
-pub fn cut<A: Allocator + Clone, P: Progress>(
+pub fn cut<A: Allocator + Clone, F: Follower>(
     alloc: A,
     image: &Image<A>,
     from: u64,
     least: u32,
-    progress: &P,
+    follower: &F,
 ) -> Result<Vec<u8, A>, CutError>
     requires { (1 ≤ least) × (least ≤ most_part) }
     ensures ok { IfOk result (λ file. IsCut image.now from least file.items) }
     ensures err { IfErr result (λ e. IsRefused image.now from least e) }
 {
-    let part = enter_part(alloc.clone()?, image, from, least, progress)?;
+    let part = enter_part(alloc.clone()?, image, from, least, follower)?;
     Ok(file_of(alloc, image.window(), part.entry, part.memory.bytes())?)
 }
 
@@ -164,13 +164,13 @@ pub fn cut<A: Allocator + Clone, P: Progress>(
 /// debuggers read them. There must be one, so a caller tests that before any step is carried out.
 ///
 /// Allocates the list of the symbols too.
-pub fn cut_with_symbols<A: Allocator + Clone, P: Progress>(
+pub fn cut_with_symbols<A: Allocator + Clone, F: Follower>(
     alloc: A,
     image: &Image<A>,
     bytes: &[u8],
     from: u64,
     least: u32,
-    progress: &P,
+    follower: &F,
 ) -> Result<Vec<u8, A>, CutError>
     requires least { (1 ≤ least) × (least ≤ most_part) }
     requires symbols { has_symbols bytes.now ≡ true }
@@ -178,7 +178,7 @@ pub fn cut_with_symbols<A: Allocator + Clone, P: Progress>(
     ensures ok { IfOk result (λ file. IsCutWithSymbols image.now bytes.now from least file.items) }
     ensures err { IfErr result (λ e. IsRefused image.now from least e) }
 {
-    let part = enter_part(alloc.clone()?, image, from, least, progress)?;
+    let part = enter_part(alloc.clone()?, image, from, least, follower)?;
     let memory = part.memory.bytes();
     Ok(symbol_file_of(alloc, image.window(), part.entry, memory, bytes)?)
 }

@@ -10,8 +10,8 @@
 mod cutting;
 mod encoding;
 mod error;
+mod follower;
 pub mod laws;
-mod progress;
 mod prologue;
 mod symbol_file;
 mod walking;
@@ -19,5 +19,5 @@ mod words;
 
 pub use cutting::{cut, cut_with_symbols};
 pub use error::CutError;
-pub use progress::{NoProgress, Progress};
+pub use follower::{Follower, NoFollower};
 pub use walking::MOST_STEPS;

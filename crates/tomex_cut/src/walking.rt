@@ -13,7 +13,7 @@ ghost use Rattle.tomex_rvexec.specs.Machine.{step_of};
 ghost use Rattle.tomex_rvexec.specs.Memory.{word_read};
 
 use crate::error::CutError;
-use crate::progress::Progress;
+use crate::follower::Follower;
 use crate::words::Words;
 use std::alloc::Allocator;
 use tomex_image::{Image, read_word};
@@ -26,17 +26,17 @@ pub const MOST_STEPS: u32 = 262_079;
 const PACE: u64 = 1_048_576;
 
 /// Carries out this number of steps, of a run that goes on after each of them.
-pub(crate) fn skip<'a, A: Allocator, P: Progress>(
+pub(crate) fn skip<'a, A: Allocator, F: Follower>(
     cpu: &mut Cpu<'a, A>,
     steps: u64,
-    progress: &P,
+    follower: &F,
 ) -> Result<(), CutError>
     ensures ok { OnOk result (after cpu.old steps ≡ Ok cpu.new) }
     ensures err { IfErr result (λ e. after cpu.old steps ≡ Err e) }
 {
     for done in 0..steps {
         if done % PACE == 0 {
-            progress.passed(done, steps);
+            follower.passed(done, steps);
         }
         match cpu.step() {
             Ok(Stepped::Next) => {}

@@ -15,7 +15,7 @@ use crate::error::PartsError;
 use crate::stretches::Stretches;
 use crate::walking::walk;
 use std::alloc::{AllocError, Allocator};
-use tomex_cut::Progress;
+use tomex_cut::Follower;
 use tomex_image::Image;
 
 /// The parts that stand for a run, by its first stretch that can.
@@ -38,19 +38,19 @@ fn parts_from<A: Allocator + Clone>(
 /// The parts that stand for the run of an image, by stretches of a number of steps: at most eight, in the order of the
 /// run.
 ///
-/// The whole run is carried out, and `progress` hears of every million of its steps, and of how many there are at most.
-/// Allocates the memory's size three times, and for each stretch as much as it has different pcs.
-pub fn parts<A: Allocator + Clone, P: Progress>(
+/// The whole run is carried out, and `follower` is called after every million of its steps, with how many there are at
+/// most. Allocates the memory's size three times, and for each stretch as much as it has different pcs.
+pub fn parts<A: Allocator + Clone, F: Follower>(
     alloc: A,
     image: &Image<A>,
     steps: u32,
-    progress: &P,
+    follower: &F,
 ) -> Result<Vec<Chosen, A>, PartsError>
     requires { (1 ≤ steps) × (steps ≤ most_part) }
     ensures ok { IfOk result (λ v. parts_of image.now steps ≡ Ok v.items) }
     ensures err { IfErr result (λ e. e ≢ PartsError.Memory → parts_of image.now steps ≡ Err e) }
 {
-    let stretches = walk(alloc.clone()?, image, steps, progress)?;
+    let stretches = walk(alloc.clone()?, image, steps, follower)?;
     if stretches.parts.is_empty() {
         return Err(PartsError::NoSuchStep);
     }

@@ -20,7 +20,7 @@ use crate::stretches::Stretches;
 use crate::tally::Tally;
 use crate::uses::LastUses;
 use std::alloc::Allocator;
-use tomex_cut::Progress;
+use tomex_cut::Follower;
 use tomex_image::Image;
 use tomex_rvexec::{Cpu, Fault, FaultKind, Stepped};
 
@@ -76,13 +76,13 @@ fn take_step<'a, A: Allocator + Clone>(
     Ok(matches!(stepped, Stepped::Ended(_)))
 }
 
-/// Carries out the whole run from its start on, and tallies its stretches. `progress` hears of every million steps,
-/// and of how many there are at most.
-fn tally_run<'a, A: Allocator + Clone, P: Progress>(
+/// Carries out the whole run from its start on, and tallies its stretches. `follower` is called after every million
+/// steps, with how many there are at most.
+fn tally_run<'a, A: Allocator + Clone, F: Follower>(
     alloc: &A,
     image: &Image<A>,
     steps: u32,
-    progress: &P,
+    follower: &F,
     cpu: &mut Cpu<'a, A>,
     uses: &mut LastUses<A>,
     tally: &mut Tally<A>,
@@ -107,7 +107,7 @@ fn tally_run<'a, A: Allocator + Clone, P: Progress>(
     let most = MOST_STRETCHES * steps;
     for done in 0..most {
         if done % PACE == 0 {
-            progress.passed(u64::from(done), u64::from(most));
+            follower.passed(u64::from(done), u64::from(most));
         }
         let word = next_word(cpu, uses)?;
         tally.end_since(steps, done, uses.last_use(word));
@@ -122,11 +122,11 @@ fn tally_run<'a, A: Allocator + Clone, P: Progress>(
 }
 
 /// The stretches of the whole run, by a machine before its first step.
-fn walk_with<'a, A: Allocator + Clone, P: Progress>(
+fn walk_with<'a, A: Allocator + Clone, F: Follower>(
     alloc: &A,
     image: &Image<A>,
     steps: u32,
-    progress: &P,
+    follower: &F,
     cpu: &mut Cpu<'a, A>,
 ) -> Result<Stretches<A>, PartsError>
     requires steps { (1 ≤ steps) × (steps ≤ most_part) }
@@ -138,19 +138,19 @@ fn walk_with<'a, A: Allocator + Clone, P: Progress>(
     let window = image.window();
     let mut uses = LastUses::new(alloc, window)?;
     let mut tally = Tally::new(alloc, window)?;
-    tally_run(alloc, image, steps, progress, cpu, &mut uses, &mut tally)?;
+    tally_run(alloc, image, steps, follower, cpu, &mut uses, &mut tally)?;
     Ok(tally.into_stretches(steps))
 }
 
-/// Carries out the whole run, and counts the steps of its stretches. `progress` hears of every million of them, and of
-/// how many there are at most.
+/// Carries out the whole run, and counts the steps of its stretches. `follower` is called after every million of them,
+/// with how many there are at most.
 ///
 /// Allocates the memory's size three times, and for each stretch as much as it has different pcs.
-pub(crate) fn walk<A: Allocator + Clone, P: Progress>(
+pub(crate) fn walk<A: Allocator + Clone, F: Follower>(
     alloc: A,
     image: &Image<A>,
     steps: u32,
-    progress: &P,
+    follower: &F,
 ) -> Result<Stretches<A>, PartsError>
     requires { (1 ≤ steps) × (steps ≤ most_part) }
     ensures ok { IfOk result (λ r. IsPass image.now steps r) }
@@ -158,5 +158,5 @@ pub(crate) fn walk<A: Allocator + Clone, P: Progress>(
         → run_length (most_stretches * steps) (start_of image.now) ≡ Err e) }
 {
     let mut cpu = Cpu::new(alloc.clone()?, image)?;
-    walk_with(&alloc, image, steps, progress, &mut cpu)
+    walk_with(&alloc, image, steps, follower, &mut cpu)
 }

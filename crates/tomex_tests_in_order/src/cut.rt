@@ -7,7 +7,7 @@ mod symbols;
 use std::alloc::Global;
 use std::sync::atomic::{AtomicU64, Ordering};
 use std::test::Fail;
-use tomex_cut::{CutError, NoProgress, Progress, cut};
+use tomex_cut::{CutError, Follower, NoFollower, cut};
 use tomex_image::{Image, Window, load};
 use tomex_rvexec::run;
 use tomex_tests_fixtures::image_of;
@@ -34,7 +34,7 @@ const MOST_STEPS: u32 = 262_144;
 /// The image of the part of that long run from step 37,924 on. Its end is before the EBREAK, which is step 300,003.
 fn greatest(alloc: Global) -> Result<Image, Fail> {
     let image = image_of(alloc, 0, MOST_BYTES, &LONG)?;
-    let file = cut(alloc, &image, 37_924, 5, &NoProgress)?;
+    let file = cut(alloc, &image, 37_924, 5, &NoFollower)?;
     let window = Window::new(0, MOST_BYTES).ok_or("no window")?;
     Ok(load(alloc, file.as_slice(), window)?)
 }
@@ -74,7 +74,7 @@ impl Reports {
     }
 }
 
-impl Progress for Reports {
+impl Follower for Reports {
     fn passed(&self, steps: u64, of: u64) {
         self.times.fetch_add(1, Ordering::SeqCst);
         self.steps.store(steps, Ordering::SeqCst);

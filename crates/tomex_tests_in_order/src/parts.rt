@@ -3,7 +3,7 @@
 use crate::cut::{EVER, Reports, TURNS_BYTES};
 use std::alloc::AllocError;
 use std::test::Fail;
-use tomex_cut::NoProgress;
+use tomex_cut::NoFollower;
 use tomex_image::{ImageError, Window, load};
 use tomex_samples::{PartsError, parts};
 use tomex_tests_fixtures::{Attempt, Heap, Try, image_of, refusals};
@@ -21,7 +21,7 @@ impl Attempt for Parts {
             Err(ImageError::Memory) => return Ok(Try::Refused),
             Err(_) => return Ok(Try::Wrong),
         };
-        match parts(heap, &image, 3, &NoProgress) {
+        match parts(heap, &image, 3, &NoFollower) {
             Ok(found) => Ok(Try::right_if(found.len() == 2)),
             Err(PartsError::Memory) => Ok(Try::Refused),
             Err(_) => Ok(Try::Wrong),

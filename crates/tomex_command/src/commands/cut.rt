@@ -9,7 +9,7 @@ use crate::failure::Failure;
 use crate::stepping::Stepping;
 use std::alloc::{Allocator, Global};
 use tomex_command_line::CutLine;
-use tomex_cut::{CutError, Progress, cut, cut_with_symbols};
+use tomex_cut::{CutError, Follower, cut, cut_with_symbols};
 use tomex_streams::{Counted, Files, Meter};
 use tomex_symbols::has_symbols;
 
@@ -17,7 +17,7 @@ use tomex_symbols::has_symbols;
 const MOST_BYTES: usize = 268_435_456;
 
 /// The file of the part that a line asks for.
-fn part_file<A: Allocator + Clone, W: Progress>(
+fn part_file<A: Allocator + Clone, W: Follower>(
     alloc: A,
     file: &ImageFile<A>,
     line: CutLine<'_>,

@@ -3,7 +3,7 @@
 use super::TURNS_BYTES;
 use std::alloc::AllocError;
 use std::test::Fail;
-use tomex_cut::{CutError, NoProgress, cut};
+use tomex_cut::{CutError, NoFollower, cut};
 use tomex_image::{ImageError, Window, load};
 use tomex_tests_fixtures::{Attempt, Heap, Try, refusals};
 
@@ -20,7 +20,7 @@ impl Attempt for Cut {
             Err(ImageError::Memory) => return Ok(Try::Refused),
             Err(_) => return Ok(Try::Wrong),
         };
-        match cut(heap, &image, 5, 3, &NoProgress) {
+        match cut(heap, &image, 5, 3, &NoFollower) {
             Ok(file) => Ok(Try::right_if(file.len() == 404)),
             Err(CutError::Memory) => Ok(Try::Refused),
             Err(_) => Ok(Try::Wrong),

@@ -2,7 +2,7 @@
 
 use std::alloc::AllocError;
 use std::test::Fail;
-use tomex_cut::{CutError, NoProgress, cut_with_symbols};
+use tomex_cut::{CutError, NoFollower, cut_with_symbols};
 use tomex_image::{ImageError, Window, load};
 use tomex_symbols::has_symbols;
 use tomex_tests_fixtures::programs::CALLS;
@@ -25,7 +25,7 @@ impl Attempt for CutWithSymbols {
             Err(ImageError::Memory) => return Ok(Try::Refused),
             Err(_) => return Ok(Try::Wrong),
         };
-        match cut_with_symbols(heap, &image, bytes, 2, 3, &NoProgress) {
+        match cut_with_symbols(heap, &image, bytes, 2, 3, &NoFollower) {
             Ok(file) => Ok(Try::right_if(file.len() == 1373)),
             Err(CutError::Memory) => Ok(Try::Refused),
             Err(_) => Ok(Try::Wrong),

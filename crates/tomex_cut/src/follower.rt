@@ -1,15 +1,15 @@
 //! Who follows how far a long run has come.
 
-/// Hears how many steps a run has taken on its way to a part. It changes nothing of the result.
-pub trait Progress {
+/// Is given how many steps a run has taken on its way to a part. It changes nothing of the result.
+pub trait Follower {
     /// The run has taken this number of steps, of the number before the part.
     fn passed(&self, steps: u64, of: u64);
 }
 
 /// Nobody.
 #[derive(Clone, Copy)]
-pub struct NoProgress;
+pub struct NoFollower;
 
-impl Progress for NoProgress {
+impl Follower for NoFollower {
     fn passed(&self, _steps: u64, _of: u64) {}
 }
