@@ -49,8 +49,8 @@ fn blocks_of_page<R: AllocGlobal + Threads + Wait + Sync>(
 fn floors_are_computed_once_for_the_same_latencies(rt: HostRuntime) -> Result<(), Fail> {
     let same = blocks_of_page(&rt, SAME)?;
     let different = blocks_of_page(&rt, DIFFERENT)?;
-    // Floors are computed for the overview, and once more for the rows that are shown: in each for one set of latencies
-    // or for four. So there are six more, each with a map that grows at least nine times.
-    assert!(rt; same.saturating_add(54) <= different, "{same} {different}");
+    // Floors are computed once, for the overview and the rows that are shown: for one set of latencies or for four. So
+    // there are three more, each with a map that grows at least nine times.
+    assert!(rt; same.saturating_add(27) <= different, "{same} {different}");
     Ok(())
 }
